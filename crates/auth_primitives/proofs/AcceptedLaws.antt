@@ -8,7 +8,7 @@ use Rattle.base64.specs.declared.decode.DecodeError.{DecodeError}
 use Rattle.auth_primitives.proofs.DecodedRuns.{decoded_are_bytes}
 use Rattle.auth_primitives.proofs.GroupRuns.{IsWhole, encoded_whole, whole_encoded}
 use Rattle.auth_primitives.specs.Canonical.{IsBase64, is_base64}
-use Rattle.auth_primitives.specs.Reading.{base64_behind, base64_goes_on, base64_may_end, is_accepted, is_at_end}
+use Rattle.auth_primitives.specs.Reading.{base64_after, base64_goes_on, base64_may_end, is_accepted, is_at_end}
 use Rattle.auth_primitives.specs.declared.text.Base64Text.{Base64Text}
 use Rattle.auth_primitives.specs.declared.text.Base64Text.TheVariants.{Whole}
 use Rattle.base_lemmas.proofs.Options.{option_cases}
@@ -19,7 +19,7 @@ at_end (Some t) h = (t, refl, h)
 
 accepted_whole : (text : List ℕ) → is_accepted text ≡ true → IsBase64 text
 accepted_whole text h =
-    let end = at_end (base64_behind Whole text) h in
+    let end = at_end (base64_after Whole text) h in
     whole_encoded text end.0 end.1 end.2
 
 whole_accepted : (text : List ℕ) → IsWhole text → is_accepted text ≡ true
@@ -52,10 +52,10 @@ pub accepted_is_decoded : (text : List ℕ) → IsBytes text → is_accepted tex
 accepted_is_decoded text fits =
     both_or_neither (is_accepted text) (is_base64 text) (λ h. decoded_so text (accepted_whole text h)) (λ h. encoded_accepted text (decoded_encoded text fits h))
 
-pub behind_append : (state : Base64Text) (front rest : List ℕ) → base64_behind state (front ++ rest) ≡ option_and_then (λ s. base64_behind s rest) (base64_behind state front)
-behind_append state [] rest = refl
-behind_append state (b ∷ front) rest =
+pub after_append : (state : Base64Text) (front rest : List ℕ) → base64_after state (front ++ rest) ≡ option_and_then (λ s. base64_after s rest) (base64_after state front)
+after_append state [] rest = refl
+after_append state (b ∷ front) rest =
     elim (option_cases (base64_goes_on state b)) [
       | inl none ↦ rw none refl
-      | inr some ↦ rw some.1 (behind_append some.0 front rest)
+      | inr some ↦ rw some.1 (after_append some.0 front rest)
     ]

@@ -10,6 +10,6 @@ IsBytes-cons x bytes lt fits zero = lt
 IsBytes-cons x bytes lt fits (suc i) = fits i
 
 pub IsBytes-append : (a b : List ℕ) → IsBytes a → IsBytes b → IsBytes (a ++ b)
-IsBytes-append [] b front behind i = behind i
-IsBytes-append (x ∷ a) b front behind zero = front 0
-IsBytes-append (x ∷ a) b front behind (suc i) = IsBytes-append a b (λ k. front (suc k)) behind i
+IsBytes-append [] b front following i = following i
+IsBytes-append (x ∷ a) b front following zero = front 0
+IsBytes-append (x ∷ a) b front following (suc i) = IsBytes-append a b (λ k. front (suc k)) following i

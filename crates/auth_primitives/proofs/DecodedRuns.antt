@@ -86,6 +86,6 @@ decoded_are_bytes e s b bytes is =
     let q = groups_before_last (length s) in
     let table = IsDecodeTable_from e.encode_table dec (are_tables_inverse e.encode_table dec e.padding.value e.tables) in
     let none : decode_error dec e.padding.value e.config.decode_allow_trailing_bits e.config.decode_padding_mode s ≡ None = outcome_none _ (decoded_bytes_of e s) b is in
-    let behind = no_error (lone_error dec e.padding.value s) _ none in
-    let groups = no_error (groups_error dec s q) (suffix_error dec e.padding.value e.config.decode_allow_trailing_bits e.config.decode_padding_mode (4 * q) s) behind.1 in
+    let following = no_error (lone_error dec e.padding.value s) _ none in
+    let groups = no_error (groups_error dec s q) (suffix_error dec e.padding.value e.config.decode_allow_trailing_bits e.config.decode_padding_mode (4 * q) s) following.1 in
     decode_of_bytes e s b (IsBytes-append (groups_bytes dec s q) (suffix_bytes dec e.padding.value (4 * q) s) (groups_fit dec s q table bytes groups.0) (suffix_fits dec e.padding.value (4 * q) s table bytes)) is

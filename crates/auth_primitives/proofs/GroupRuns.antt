@@ -8,7 +8,7 @@ use Rattle.base64.specs.Rfc4648.{encode_symbols}
 use Rattle.base64.proofs.EngineFacts.{encode_of-append, encode_of-nil}
 use Rattle.auth_primitives.proofs.ByteSteps.{IsBytes-cons, IsBytes-nil}
 use Rattle.auth_primitives.specs.Canonical.{IsBase64}
-use Rattle.auth_primitives.specs.Reading.{base64_behind, base64_goes_on, base64_may_end, is_within, sextet}
+use Rattle.auth_primitives.specs.Reading.{base64_after, base64_goes_on, base64_may_end, is_within, sextet}
 use Rattle.auth_primitives.specs.declared.text.Base64Text.{Base64Text}
 use Rattle.auth_primitives.specs.declared.text.Base64Text.TheVariants.{Whole, One, Two, Three, Padding, Padded}
 use Rattle.base_lemmas.proofs.Conditions.{chosen, guard_tells}
@@ -117,11 +117,11 @@ two_on z v lt = rw (symbol-no_padding v lt, and_false z, sextet-symbol v lt) ref
 three_on : (z : Bool) (v : ℕ) → v < 64 → base64_goes_on (Three z) (symbol v) ≡ Some Whole
 three_on z v lt = rw (symbol-no_padding v lt, and_false z, sextet-symbol v lt) refl
 
-step : (s t : Base64Text) (b : ℕ) (bs : List ℕ) → base64_goes_on s b ≡ Some t → base64_behind s (b ∷ bs) ≡ base64_behind t bs
+step : (s t : Base64Text) (b : ℕ) (bs : List ℕ) → base64_goes_on s b ≡ Some t → base64_after s (b ∷ bs) ≡ base64_after t bs
 step s t b bs h = rw h refl
 
-behind_first : (s t : Base64Text) (b : ℕ) (bs : List ℕ) → base64_behind s (b ∷ bs) ≡ Some t → (u : Base64Text) × (base64_goes_on s b ≡ Some u) × (base64_behind u bs ≡ Some t)
-behind_first s t b bs h =
+after_first : (s t : Base64Text) (b : ℕ) (bs : List ℕ) → base64_after s (b ∷ bs) ≡ Some t → (u : Base64Text) × (base64_goes_on s b ≡ Some u) × (base64_after u bs ≡ Some t)
+after_first s t b bs h =
     elim (option_cases (base64_goes_on s b)) [
       | inl none ↦ cc (rw none at h)
       | inr some ↦ (some.0, some.1, rw some.1 at h)
@@ -129,28 +129,28 @@ behind_first s t b bs h =
 
 -- four symbols of a group, and what follows
 group_run : (v0 v1 v2 v3 : ℕ) (rest : List ℕ) → v0 < 64 → v1 < 64 → v2 < 64 → v3 < 64
-    → base64_behind Whole (symbol v0 ∷ symbol v1 ∷ symbol v2 ∷ symbol v3 ∷ rest) ≡ base64_behind Whole rest
+    → base64_after Whole (symbol v0 ∷ symbol v1 ∷ symbol v2 ∷ symbol v3 ∷ rest) ≡ base64_after Whole rest
 group_run v0 v1 v2 v3 rest l0 l1 l2 l3 =
     step Whole One (symbol v0) (symbol v1 ∷ symbol v2 ∷ symbol v3 ∷ rest) (whole_on v0 l0)
     ∙ step One (Two (v1 % 16 == 0)) (symbol v1) (symbol v2 ∷ symbol v3 ∷ rest) (one_on v1 l1)
     ∙ step (Two (v1 % 16 == 0)) (Three (v2 % 4 == 0)) (symbol v2) (symbol v3 ∷ rest) (two_on (v1 % 16 == 0) v2 l2)
     ∙ step (Three (v2 % 4 == 0)) Whole (symbol v3) rest (three_on (v2 % 4 == 0) v3 l3)
 
-two_pads : (z : Bool) → z ≡ true → base64_behind (Two z) (61 ∷ 61 ∷ []) ≡ Some Padded
+two_pads : (z : Bool) → z ≡ true → base64_after (Two z) (61 ∷ 61 ∷ []) ≡ Some Padded
 two_pads true h = refl
 two_pads false h = cc h
 
-three_pads : (z : Bool) → z ≡ true → base64_behind (Three z) (61 ∷ []) ≡ Some Padded
+three_pads : (z : Bool) → z ≡ true → base64_after (Three z) (61 ∷ []) ≡ Some Padded
 three_pads true h = refl
 three_pads false h = cc h
 
-two_run : (v0 v1 : ℕ) → v0 < 64 → v1 < 64 → v1 % 16 ≡ 0 → base64_behind Whole (symbol v0 ∷ symbol v1 ∷ 61 ∷ 61 ∷ []) ≡ Some Padded
+two_run : (v0 v1 : ℕ) → v0 < 64 → v1 < 64 → v1 % 16 ≡ 0 → base64_after Whole (symbol v0 ∷ symbol v1 ∷ 61 ∷ 61 ∷ []) ≡ Some Padded
 two_run v0 v1 l0 l1 zero_bits =
     step Whole One (symbol v0) (symbol v1 ∷ 61 ∷ 61 ∷ []) (whole_on v0 l0)
     ∙ step One (Two (v1 % 16 == 0)) (symbol v1) (61 ∷ 61 ∷ []) (one_on v1 l1)
     ∙ two_pads (v1 % 16 == 0) (eq-eqb (v1 % 16) 0 zero_bits)
 
-three_run : (v0 v1 v2 : ℕ) → v0 < 64 → v1 < 64 → v2 < 64 → v2 % 4 ≡ 0 → base64_behind Whole (symbol v0 ∷ symbol v1 ∷ symbol v2 ∷ 61 ∷ []) ≡ Some Padded
+three_run : (v0 v1 v2 : ℕ) → v0 < 64 → v1 < 64 → v2 < 64 → v2 % 4 ≡ 0 → base64_after Whole (symbol v0 ∷ symbol v1 ∷ symbol v2 ∷ 61 ∷ []) ≡ Some Padded
 three_run v0 v1 v2 l0 l1 l2 zero_bits =
     step Whole One (symbol v0) (symbol v1 ∷ symbol v2 ∷ 61 ∷ []) (whole_on v0 l0)
     ∙ step One (Two (v1 % 16 == 0)) (symbol v1) (symbol v2 ∷ 61 ∷ []) (one_on v1 l1)
@@ -161,7 +161,7 @@ three_run v0 v1 v2 l0 l1 l2 zero_bits =
 
 -- a text that may end where it ends
 abbrev pub IsWhole : List ℕ → Type 0
-IsWhole text = (t : Base64Text) × (base64_behind Whole text ≡ Some t) × (base64_may_end t ≡ true)
+IsWhole text = (t : Base64Text) × (base64_after Whole text ≡ Some t) × (base64_may_end t ≡ true)
 
 group_text : (a b c : ℕ) → encode_of standard (a ∷ b ∷ c ∷ [])
     ≡ symbol (a / 4) ∷ symbol (a % 4 * 16 + b / 16) ∷ symbol (b % 16 * 4 + c / 64) ∷ symbol (c % 64) ∷ []
@@ -196,31 +196,31 @@ encoded_whole (a ∷ b ∷ c ∷ bytes) fits =
     let lc : c < 256 = fits 2 in
     let rest = encoded_whole bytes (λ i. fits (suc (suc (suc i)))) in (
       rest.0,
-      ap (base64_behind Whole) (more_text a b c bytes)
+      ap (base64_after Whole) (more_text a b c bytes)
           ∙ group_run (a / 4) (a % 4 * 16 + b / 16) (b % 16 * 4 + c / 64) (c % 64) (encode_of standard bytes) (omega arith) (omega arith) (omega arith) (omega arith) ∙ rest.1,
       rest.2,
     )
 
 -- ---- what is read is the text of bytes
 
-some_first : (s t : Base64Text) (o : Option ℕ) (f : ℕ → Base64Text) (bs : List ℕ) (u : Base64Text) → option_map f o ≡ Some u → base64_behind u bs ≡ Some t → (v : ℕ) × (o ≡ Some v) × (base64_behind (f v) bs ≡ Some t)
+some_first : (s t : Base64Text) (o : Option ℕ) (f : ℕ → Base64Text) (bs : List ℕ) (u : Base64Text) → option_map f o ≡ Some u → base64_after u bs ≡ Some t → (v : ℕ) × (o ≡ Some v) × (base64_after (f v) bs ≡ Some t)
 some_first s t o f bs u e h =
     let found = map_some f o u e in
     (found.0, found.1, rw found.2 at h)
 
-whole_first : (t : Base64Text) (b : ℕ) (bs : List ℕ) → base64_behind Whole (b ∷ bs) ≡ Some t → (v : ℕ) × (sextet b ≡ Some v) × (base64_behind One bs ≡ Some t)
+whole_first : (t : Base64Text) (b : ℕ) (bs : List ℕ) → base64_after Whole (b ∷ bs) ≡ Some t → (v : ℕ) × (sextet b ≡ Some v) × (base64_after One bs ≡ Some t)
 whole_first t b bs h =
-    let first = behind_first Whole t b bs h in
+    let first = after_first Whole t b bs h in
     some_first Whole t (sextet b) (λ v. One) bs first.0 first.1 first.2
 
-one_first : (t : Base64Text) (b : ℕ) (bs : List ℕ) → base64_behind One (b ∷ bs) ≡ Some t → (v : ℕ) × (sextet b ≡ Some v) × (base64_behind (Two (v % 16 == 0)) bs ≡ Some t)
+one_first : (t : Base64Text) (b : ℕ) (bs : List ℕ) → base64_after One (b ∷ bs) ≡ Some t → (v : ℕ) × (sextet b ≡ Some v) × (base64_after (Two (v % 16 == 0)) bs ≡ Some t)
 one_first t b bs h =
-    let first = behind_first One t b bs h in
+    let first = after_first One t b bs h in
     some_first One t (sextet b) (λ v. Two (v % 16 == 0)) bs first.0 first.1 first.2
 
 -- a `=` where it may stand, or a symbol
-padded_or : (z : Bool) (t s : Base64Text) (b : ℕ) (bs : List ℕ) (f : ℕ → Base64Text) (u : Base64Text) → cond (z && b == 61) (Some s) (option_map f (sextet b)) ≡ Some u → base64_behind u bs ≡ Some t
-    → ((z ≡ true) × (b ≡ 61) × (base64_behind s bs ≡ Some t)) ⊎ ((v : ℕ) × (sextet b ≡ Some v) × (base64_behind (f v) bs ≡ Some t))
+padded_or : (z : Bool) (t s : Base64Text) (b : ℕ) (bs : List ℕ) (f : ℕ → Base64Text) (u : Base64Text) → cond (z && b == 61) (Some s) (option_map f (sextet b)) ≡ Some u → base64_after u bs ≡ Some t
+    → ((z ≡ true) × (b ≡ 61) × (base64_after s bs ≡ Some t)) ⊎ ((v : ℕ) × (sextet b ≡ Some v) × (base64_after (f v) bs ≡ Some t))
 padded_or z t s b bs f u e h =
     elim (chosen (z && b == 61) (Some s) (option_map f (sextet b)) (Some u) e) [
       | inl p ↦
@@ -230,30 +230,30 @@ padded_or z t s b bs f u e h =
       | inr q ↦ inr (some_first s t (sextet b) f bs u q.1 h)
     ]
 
-two_first : (z : Bool) (t : Base64Text) (b : ℕ) (bs : List ℕ) → base64_behind (Two z) (b ∷ bs) ≡ Some t
-    → ((z ≡ true) × (b ≡ 61) × (base64_behind Padding bs ≡ Some t)) ⊎ ((v : ℕ) × (sextet b ≡ Some v) × (base64_behind (Three (v % 4 == 0)) bs ≡ Some t))
+two_first : (z : Bool) (t : Base64Text) (b : ℕ) (bs : List ℕ) → base64_after (Two z) (b ∷ bs) ≡ Some t
+    → ((z ≡ true) × (b ≡ 61) × (base64_after Padding bs ≡ Some t)) ⊎ ((v : ℕ) × (sextet b ≡ Some v) × (base64_after (Three (v % 4 == 0)) bs ≡ Some t))
 two_first z t b bs h =
-    let first = behind_first (Two z) t b bs h in
+    let first = after_first (Two z) t b bs h in
     padded_or z t Padding b bs (λ v. Three (v % 4 == 0)) first.0 first.1 first.2
 
-three_first : (z : Bool) (t : Base64Text) (b : ℕ) (bs : List ℕ) → base64_behind (Three z) (b ∷ bs) ≡ Some t
-    → ((z ≡ true) × (b ≡ 61) × (base64_behind Padded bs ≡ Some t)) ⊎ ((v : ℕ) × (sextet b ≡ Some v) × (base64_behind Whole bs ≡ Some t))
+three_first : (z : Bool) (t : Base64Text) (b : ℕ) (bs : List ℕ) → base64_after (Three z) (b ∷ bs) ≡ Some t
+    → ((z ≡ true) × (b ≡ 61) × (base64_after Padded bs ≡ Some t)) ⊎ ((v : ℕ) × (sextet b ≡ Some v) × (base64_after Whole bs ≡ Some t))
 three_first z t b bs h =
-    let first = behind_first (Three z) t b bs h in
+    let first = after_first (Three z) t b bs h in
     padded_or z t Padded b bs (λ v. Whole) first.0 first.1 first.2
 
-padding_first : (t : Base64Text) (b : ℕ) (bs : List ℕ) → base64_behind Padding (b ∷ bs) ≡ Some t → (b ≡ 61) × (base64_behind Padded bs ≡ Some t)
+padding_first : (t : Base64Text) (b : ℕ) (bs : List ℕ) → base64_after Padding (b ∷ bs) ≡ Some t → (b ≡ 61) × (base64_after Padded bs ≡ Some t)
 padding_first t b bs h =
-    let first = behind_first Padding t b bs h in
+    let first = after_first Padding t b bs h in
     let so = guard_tells (b == 61) (Some Padded) first.0 first.1 in
     let same : first.0 ≡ Padded = cc so.1 in
     (eqb-true b 61 so.0, rw same at first.2)
 
-padded_none : (t : Base64Text) (bs : List ℕ) → base64_behind Padded bs ≡ Some t → bs ≡ []
+padded_none : (t : Base64Text) (bs : List ℕ) → base64_after Padded bs ≡ Some t → bs ≡ []
 padded_none t [] h = refl
 padded_none t (b ∷ bs) h = cc h
 
-unended : (s t : Base64Text) → base64_behind s [] ≡ Some t → base64_may_end t ≡ true → base64_may_end s ≡ true
+unended : (s t : Base64Text) → base64_after s [] ≡ Some t → base64_may_end t ≡ true → base64_may_end s ≡ true
 unended s t h e = let same : s ≡ t = cc h in rw same e
 
 IsBytes-group : (x y z : ℕ) (bytes : List ℕ) → x < 256 → y < 256 → z < 256 → IsBytes bytes → IsBytes (x ∷ y ∷ z ∷ bytes)
@@ -304,7 +304,7 @@ two_symbols a b va vb ea eb zero_bits =
     (x ∷ [], IsBytes-cons x [] (omega arith) IsBytes-nil, sym (one_text x ∙ rw (e0, e1, sa.1, sb.1) refl))
 
 -- what is read is the text of bytes
-pub whole_encoded : (text : List ℕ) (t : Base64Text) → base64_behind Whole text ≡ Some t → base64_may_end t ≡ true → IsBase64 text
+pub whole_encoded : (text : List ℕ) (t : Base64Text) → base64_after Whole text ≡ Some t → base64_may_end t ≡ true → IsBase64 text
 whole_encoded [] t h e = ([], IsBytes-nil, sym (encode_of-nil standard))
 whole_encoded (a ∷ []) t h e =
     let fa = whole_first t a [] h in

@@ -36,8 +36,8 @@ bits_left = refl
 bits_left_of_two : is_accepted (codes "Zm9=") ≡ false
 bits_left_of_two = refl
 
-behind_padding : is_accepted (codes "Zg==Zg==") ≡ false
-behind_padding = refl
+after_padding : is_accepted (codes "Zg==Zg==") ≡ false
+after_padding = refl
 
 padding_alone : is_accepted (codes "====") ≡ false
 padding_alone = refl

@@ -34,9 +34,9 @@ base64_may_end Padded = true
 base64_may_end _ = false
 
 -- what stands behind bytes more
-abbrev pub base64_behind : Base64Text → List ℕ → Option Base64Text
-base64_behind s [] = Some s
-base64_behind s (b ∷ bytes) = option_and_then (λ t. base64_behind t bytes) (base64_goes_on s b)
+abbrev pub base64_after : Base64Text → List ℕ → Option Base64Text
+base64_after s [] = Some s
+base64_after s (b ∷ bytes) = option_and_then (λ t. base64_after t bytes) (base64_goes_on s b)
 
 abbrev pub is_at_end : Option Base64Text → Bool
 is_at_end None = false
@@ -44,4 +44,4 @@ is_at_end (Some s) = base64_may_end s
 
 -- the text is read, and may end where it ends
 abbrev pub is_accepted : List ℕ → Bool
-is_accepted text = is_at_end (base64_behind Whole text)
+is_accepted text = is_at_end (base64_after Whole text)

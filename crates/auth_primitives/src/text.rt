@@ -1,7 +1,7 @@
 //! A base64 text as it is read.
 ghost use Rattle.std.specs.Prelude.{◌≡◌, ◌%◌, ◌==◌};
 ghost use Rattle.auth_primitives.specs.Canonical.{is_base64};
-ghost use Rattle.auth_primitives.specs.Reading.{base64_behind, base64_goes_on, base64_may_end, sextet};
+ghost use Rattle.auth_primitives.specs.Reading.{base64_after, base64_goes_on, base64_may_end, sextet};
 ghost use Rattle.auth_primitives.specs.declared.text.Base64Text.TheVariants.{Whole};
 
 /// A canonical base64 text (RFC 4648, section 4), as far as it was read: whole groups of four; one, two or three
@@ -60,7 +60,7 @@ impl Base64Text {
 
     /// The text with these bytes more. `None` where no base64 text begins so.
     pub fn followed_by_all(self, bytes: &[u8]) -> Option<Base64Text>
-        ensures { result ≡ base64_behind self bytes.now }
+        ensures { result ≡ base64_after self bytes.now }
     {
         let mut text = self;
         for byte in bytes {

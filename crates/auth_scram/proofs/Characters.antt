@@ -10,7 +10,7 @@ use Rattle.auth_scram.specs.Classes.{is_within}
 use Rattle.auth_scram.specs.States.{tails_of, tails_step, where_so}
 use Rattle.auth_scram.specs.declared.values.Tails.{Tails}
 use Rattle.auth_scram.specs.declared.values.Tails.TheVariants.{One, Two, Three, AfterE0, AfterED, AfterF0, AfterF4}
-use Rattle.auth_scram.proofs.Runs.{behind, behind_first, behind_step}
+use Rattle.auth_scram.proofs.Runs.{after_first, after_step, following}
 use Rattle.auth_scram.proofs.PassedTests.{if_some, map_some, not_eq, within, within_high, within_yes}
 use Rattle.base_lemmas.proofs.Conditions.{chosen}
 use Rattle.auth_scram.proofs.Utf8.{Leads, Rests, Tail, four, lead_text, three, two}
@@ -110,14 +110,14 @@ so_some low high b s l h = rw (within_yes low high b l h) refl
 
 module _ (plain : ℕ → Bool) (ascii : (b : ℕ) → plain b ≡ true → b < 128) where
   abbrev goes : Option Tails → List ℕ → Option (Option Tails)
-  goes = behind (char_on plain) char_end
+  goes = following (char_on plain) char_end
 
   -- what is read between characters or inside one is text
   pub utf8_found : (s : Option Tails) (bytes : List ℕ) → goes s bytes ≡ Some None → Rest s bytes
   utf8_found None [] h = IsUtf8-nil
   utf8_found (Some tails) [] h = cc h
   utf8_found None (b ∷ bytes) h =
-      let first = behind_first (char_on plain) char_end None None b bytes h in
+      let first = after_first (char_on plain) char_end None None b bytes h in
       elim (chosen (plain b) (Some None) (option_map (λ tails. Some tails) (tails_of b)) (Some first.0) first.1) [
         | inl p ↦
             let between : first.0 ≡ None = cc p.1 in
@@ -127,7 +127,7 @@ module _ (plain : ℕ → Bool) (ascii : (b : ℕ) → plain b ≡ true → b < 
             lead_text b inside.0 bytes (leads b inside.0 inside.1) (utf8_found (Some inside.0) bytes (rw inside.2 at first.2))
       ]
   utf8_found (Some tails) (b ∷ bytes) h =
-      let first = behind_first (char_on plain) char_end (Some tails) None b bytes h in
+      let first = after_first (char_on plain) char_end (Some tails) None b bytes h in
       tail_found tails b first.0 bytes first.1 (utf8_found first.0 bytes first.2)
 
   not_plain : (b : ℕ) → 128 ≤ b → plain b ≡ false
@@ -136,10 +136,10 @@ module _ (plain : ℕ → Bool) (ascii : (b : ℕ) → plain b ≡ true → b < 
   lead_step : (b : ℕ) (tails : Tails) (bytes : List ℕ) → 128 ≤ b → Leads b tails → goes None (b ∷ bytes) ≡ goes (Some tails) bytes
   lead_step b tails bytes l lead =
       let on : char_on plain None b ≡ Some (Some tails) = rw (not_plain b l, of_lead b tails lead) refl in
-      behind_step (char_on plain) char_end None (Some tails) b bytes on
+      after_step (char_on plain) char_end None (Some tails) b bytes on
 
   tail_step : (tails : Tails) (next : Option Tails) (b : ℕ) (bytes : List ℕ) → tails_step tails b ≡ Some next → goes (Some tails) (b ∷ bytes) ≡ goes next bytes
-  tail_step tails next b bytes h = behind_step (char_on plain) char_end (Some tails) next b bytes h
+  tail_step tails next b bytes h = after_step (char_on plain) char_end (Some tails) next b bytes h
 
   one_left : (y : ℕ) (bytes : List ℕ) → Continues y → goes (Some One) (y ∷ bytes) ≡ goes None bytes
   one_left y bytes h = tail_step One None y bytes (so_some 0x80 0xBF y None h.0 h.1)
@@ -192,60 +192,60 @@ module _ (plain : ℕ → Bool) (ascii : (b : ℕ) → plain b ≡ true → b < 
   plain_step : (b : ℕ) (bytes : List ℕ) → plain b ≡ true → goes None (b ∷ bytes) ≡ goes None bytes
   plain_step b bytes h =
       let on : char_on plain None b ≡ Some None = rw h refl in
-      behind_step (char_on plain) char_end None None b bytes on
+      after_step (char_on plain) char_end None None b bytes on
 
   rest_of : (b : ℕ) (bytes : List ℕ) → list_all allowed (b ∷ bytes) ≡ true → list_all allowed bytes ≡ true
   rest_of b bytes h = (and_parts (allowed b) (list_all allowed bytes) h).1
 
   characters : (cs : List ℕ) → scalars cs ≡ true → list_all allowed (encodes cs) ≡ true → goes None (encodes cs) ≡ Some None
-  characters [] ok fine = refl
-  characters (c ∷ cs) ok fine =
+  characters [] ok bounded = refl
+  characters (c ∷ cs) ok bounded =
       let parts = and_parts (scalar c) (scalars cs) ok in
       let range = scalar_cases c parts.0 in
       let rest = encodes cs in
       elim (cases_lt c 128) [
         | inl a ↦
             let as_bytes : encode c ++ rest ≡ c ∷ rest = ap (λ (x : List ℕ). x ++ rest) (encode_ascii c a) in
-            let fine' = rw as_bytes at fine in
-            let own = and_parts (allowed c) (list_all allowed rest) fine' in
+            let bounded' = rw as_bytes at bounded in
+            let own = and_parts (allowed c) (list_all allowed rest) bounded' in
             ap (goes None) as_bytes ∙ plain_step c rest (plain_byte c a own.0) ∙ characters cs parts.1 own.1
         | inr a ↦ elim (cases_lt c 2048) [
           | inl b ↦
               let x = 192 + c / 64 in
               let y = next c in
               let as_bytes : encode c ++ rest ≡ x ∷ y ∷ rest = ap (λ (x : List ℕ). x ++ rest) (two c a b) in
-              let fine' = rw as_bytes at fine in
+              let bounded' = rw as_bytes at bounded in
               ap (goes None) as_bytes ∙ two_bytes x y rest (omega arith, omega arith) (omega arith, omega arith)
-              ∙ characters cs parts.1 (rest_of y rest (rest_of x (y ∷ rest) fine'))
+              ∙ characters cs parts.1 (rest_of y rest (rest_of x (y ∷ rest) bounded'))
           | inr b ↦ elim (cases_lt c 65536) [
             | inl d ↦
                 let x = 224 + c / 4096 in
                 let y = next (c / 64) in
                 let z = next c in
                 let as_bytes : encode c ++ rest ≡ x ∷ y ∷ z ∷ rest = ap (λ (x : List ℕ). x ++ rest) (three c b d) in
-                let fine' = rw as_bytes at fine in
+                let bounded' = rw as_bytes at bounded in
                 ap (goes None) as_bytes
                 ∙ three_bytes x y z rest (omega arith, omega arith) (omega arith, omega arith) (λ e. omega arith) (λ e. omega arith) (omega arith, omega arith)
-                ∙ characters cs parts.1 (rest_of z rest (rest_of y (z ∷ rest) (rest_of x (y ∷ z ∷ rest) fine')))
+                ∙ characters cs parts.1 (rest_of z rest (rest_of y (z ∷ rest) (rest_of x (y ∷ z ∷ rest) bounded')))
             | inr d ↦
                 let x = 240 + c / 262144 in
                 let y = next (c / 4096) in
                 let z = next (c / 64) in
                 let w = next c in
                 let as_bytes : encode c ++ rest ≡ x ∷ y ∷ z ∷ w ∷ rest = ap (λ (x : List ℕ). x ++ rest) (four c d) in
-                let fine' = rw as_bytes at fine in
+                let bounded' = rw as_bytes at bounded in
                 ap (goes None) as_bytes
                 ∙ four_bytes x y z w rest (omega arith, omega arith) (omega arith, omega arith) (λ e. omega arith) (λ e. omega arith) (omega arith, omega arith) (omega arith, omega arith)
-                ∙ characters cs parts.1 (rest_of w rest (rest_of z (w ∷ rest) (rest_of y (z ∷ w ∷ rest) (rest_of x (y ∷ z ∷ w ∷ rest) fine'))))
+                ∙ characters cs parts.1 (rest_of w rest (rest_of z (w ∷ rest) (rest_of y (z ∷ w ∷ rest) (rest_of x (y ∷ z ∷ w ∷ rest) bounded'))))
           ]
         ]
       ]
 
   -- text with such bytes is read
   pub utf8_only : (bytes : List ℕ) → IsUtf8 bytes → list_all allowed bytes ≡ true → goes None bytes ≡ Some None
-  utf8_only bytes text fine =
+  utf8_only bytes text bounded =
       let is : encodes text.0 ≡ bytes = text.1.1 in
-      ap (goes None) (sym is) ∙ characters text.0 text.1.0 (rw (sym is) at fine)
+      ap (goes None) (sym is) ∙ characters text.0 text.1.0 (rw (sym is) at bounded)
 
 -- a byte inside a character is none of ASCII
 pub tails_high : (tails : Tails) (b : ℕ) (u : Option Tails) → tails_step tails b ≡ Some u → 128 ≤ b
@@ -269,10 +269,10 @@ lead_high b AfterF4 l = omega arith
 
 module _ (plain : ℕ → Bool) where
   -- the bytes of such a text
-  pub allowed_found : (s : Option Tails) (bytes : List ℕ) → behind (char_on plain) char_end s bytes ≡ Some None → list_all (λ b. plain b || nat_le 128 b) bytes ≡ true
+  pub allowed_found : (s : Option Tails) (bytes : List ℕ) → following (char_on plain) char_end s bytes ≡ Some None → list_all (λ b. plain b || nat_le 128 b) bytes ≡ true
   allowed_found s [] h = refl
   allowed_found None (b ∷ bytes) h =
-      let first = behind_first (char_on plain) char_end None None b bytes h in
+      let first = after_first (char_on plain) char_end None None b bytes h in
       let rest = allowed_found first.0 bytes first.2 in
       elim (chosen (plain b) (Some None) (option_map (λ tails. Some tails) (tails_of b)) (Some first.0) first.1) [
         | inl p ↦ rw (p.0, rest) refl
@@ -281,7 +281,7 @@ module _ (plain : ℕ → Bool) where
             rw (q.0, le-leb 128 b (lead_high b inside.0 (leads b inside.0 inside.1)), rest) refl
       ]
   allowed_found (Some tails) (b ∷ bytes) h =
-      let first = behind_first (char_on plain) char_end (Some tails) None b bytes h in
+      let first = after_first (char_on plain) char_end (Some tails) None b bytes h in
       let rest = allowed_found first.0 bytes first.2 in
       rw (le-leb 128 b (tails_high tails b first.0 first.1), or_true (plain b), rest) refl
     where

@@ -3,7 +3,7 @@ use Rattle.std.proofs.Common.{◌≡◌, ℕ, ◌⊎◌, ◌==◌, false, List, 
 use Rattle.std.proofs.lemmas.Bool.{cases_Bool, eqb-true}
 use Rattle.auth_scram.specs.Parts.{◌>>=◌, literal}
 use Rattle.auth_scram.proofs.Runs.{Alike}
-use Rattle.auth_scram.proofs.Sequences.{IsPart, Reads, alike_behind, anything, bind_err, bind_ok, bound_err, bound_ok, literal_left, literal_ok, literal_takes}
+use Rattle.auth_scram.proofs.Sequences.{IsPart, Reads, alike_after, anything, bind_err, bind_ok, bound_err, bound_ok, literal_left, literal_ok, literal_takes}
 
 -- readers that answer alike have the same language
 pub same_part : {A : Type 0} (p q : List ℕ → Result (A × List ℕ) (List ℕ)) (P : A → List ℕ → Type 0) (Closes : List ℕ → Type 0) → ((bytes : List ℕ) → q bytes ≡ p bytes) → IsPart p P Closes
@@ -52,16 +52,16 @@ module _ {A B : Type 0} (word : List ℕ) (p : List ℕ → Result (A × List �
   abbrev seen : A × List ℕ → Result (B × List ℕ) (List ℕ)
   seen x = Ok (f x.0, x.1)
 
-  abbrev behind_word : List ℕ → Result (B × List ℕ) (List ℕ)
-  behind_word bytes = literal word bytes >>= λ rest. p rest >>= seen
+  abbrev after_word : List ℕ → Result (B × List ℕ) (List ℕ)
+  after_word bytes = literal word bytes >>= λ rest. p rest >>= seen
 
   abbrev Behind : B → List ℕ → Type 0
   Behind b bytes = (a : A) × (x : List ℕ) × (bytes ≡ word ++ x) × P a x × (b ≡ f a)
 
-  on_word : (bytes : List ℕ) (rest : List ℕ) → bytes ≡ word ++ rest → behind_word bytes ≡ (p rest >>= seen)
-  on_word bytes rest e = ap behind_word e ∙ bound_ok (literal word (word ++ rest)) (λ rest. p rest >>= seen) rest (literal_takes word rest)
+  on_word : (bytes : List ℕ) (rest : List ℕ) → bytes ≡ word ++ rest → after_word bytes ≡ (p rest >>= seen)
+  on_word bytes rest e = ap after_word e ∙ bound_ok (literal word (word ++ rest)) (λ rest. p rest >>= seen) rest (literal_takes word rest)
 
-  on_part : (bytes x rest : List ℕ) (a : A) → bytes ≡ word ++ (x ++ rest) → p (x ++ rest) ≡ Ok (a, rest) → behind_word bytes ≡ Ok (f a, rest)
+  on_part : (bytes x rest : List ℕ) (a : A) → bytes ≡ word ++ (x ++ rest) → p (x ++ rest) ≡ Ok (a, rest) → after_word bytes ≡ Ok (f a, rest)
   on_part bytes x rest a e h = on_word bytes (x ++ rest) e ∙ bound_ok (p (x ++ rest)) seen (a, rest) h
 
   value_is : (a : A) (r : List ℕ) (b : B) (rest : List ℕ) → seen (a, r) ≡ Ok (b, rest) → (b ≡ f a) × (r ≡ rest)
@@ -69,21 +69,21 @@ module _ {A B : Type 0} (word : List ℕ) (p : List ℕ → Result (A × List �
       let e : (f a, r) ≡ (b, rest) = cc h in
       (sym (ap (λ (x : B × List ℕ). x.0) e), ap (λ (x : B × List ℕ). x.1) e)
 
-  behind_again : (a : A) (b : B) (x r rest other : List ℕ) → ((o : List ℕ) → Alike r o → p (x ++ o) ≡ Ok (a, o)) → r ≡ rest → b ≡ f a → Alike rest other
-      → behind_word ((word ++ x) ++ other) ≡ Ok (b, other)
-  behind_again a b x r rest other again e is alike =
+  after_again : (a : A) (b : B) (x r rest other : List ℕ) → ((o : List ℕ) → Alike r o → p (x ++ o) ≡ Ok (a, o)) → r ≡ rest → b ≡ f a → Alike rest other
+      → after_word ((word ++ x) ++ other) ≡ Ok (b, other)
+  after_again a b x r rest other again e is alike =
       let alike' : Alike r other = rw e alike in
       on_part ((word ++ x) ++ other) x other a (append_assoc word x other) (again other alike') ∙ ap (λ (v : B). let y : Result (B × List ℕ) (List ℕ) = Ok (v, other) in y) (sym is)
 
-  left_again : (front rest other : List ℕ) → p (front ++ other) ≡ Err other → behind_word ((word ++ front) ++ other) ≡ Err other
+  left_again : (front rest other : List ℕ) → p (front ++ other) ≡ Err other → after_word ((word ++ front) ++ other) ≡ Err other
   left_again front rest other h =
       on_word ((word ++ front) ++ other) (front ++ other) (append_assoc word front other) ∙ bound_err (p (front ++ other)) seen other h
 
   only_err : (rest r : List ℕ) → (p rest >>= seen) ≡ Err r → p rest ≡ Err r
   only_err rest r h = elim (bind_err (p rest) seen r h) [ inl first ↦ first | inr later ↦ cc later.2 ]
 
-  pub behind_part : IsPart behind_word Behind Closes
-  behind_part = record {
+  pub after_part : IsPart after_word Behind Closes
+  after_part = record {
     took = λ bytes b rest h. (let first = bind_ok (literal word bytes) (λ rest. p rest >>= seen) (b, rest) h in
         let second = bind_ok (p first.0) seen (b, rest) first.2 in
         let is = value_is second.0.0 second.0.1 b rest second.2 in
@@ -91,7 +91,7 @@ module _ {A B : Type 0} (word : List ℕ) (p : List ℕ → Result (A × List �
           word ++ took.0,
           literal_ok word bytes first.0 first.1 ∙ ap (λ (x : List ℕ). word ++ x) (took.1 ∙ ap (λ (x : List ℕ). took.0 ++ x) is.1) ∙ sym (append_assoc word took.0 rest),
           (second.0.0, took.0, refl, took.2, is.0),
-          λ other alike. behind_again second.0.0 b took.0 second.0.1 rest other took.3 is.1 is.0 alike,
+          λ other alike. after_again second.0.0 b took.0 second.0.1 rest other took.3 is.1 is.0 alike,
         ));
     takes = λ b x rest is closes. (
         on_part (x ++ rest) is.1 rest is.0 (ap (λ (y : List ℕ). y ++ rest) is.2 ∙ append_assoc word is.1 rest) (part.takes is.0 is.1 rest is.3 closes)
@@ -200,7 +200,7 @@ module _ {A : Type 0} (c : ℕ) (q p : List ℕ → Result (A × List ℕ) (List
       stays : (bytes front rest next : List ℕ) → bytes ≡ front ++ rest → Alike rest next → Lacks c bytes → read (front ++ next) ≡ p (front ++ next)
       stays bytes front rest next e alike lacks =
           let whole : Lacks c (front ++ rest) = rw (← e) lacks in
-          chosen_other c q p (front ++ next) (lacks_alike c (front ++ rest) (front ++ next) (alike_behind front rest next alike) whole)
+          chosen_other c q p (front ++ next) (lacks_alike c (front ++ rest) (front ++ next) (alike_after front rest next alike) whole)
 
 -- the same of whole messages
 module _ {V : Type 0} (c : ℕ) (m n : List ℕ → Result V (List ℕ)) (M N : V → List ℕ → Type 0) (first : Reads m M) (other : Reads n N)
@@ -218,7 +218,7 @@ module _ {V : Type 0} (c : ℕ) (m n : List ℕ → Result V (List ℕ)) (M N : 
   stays_other : (bytes front rest next : List ℕ) → bytes ≡ front ++ rest → Alike rest next → Lacks c bytes → read_either (front ++ next) ≡ n (front ++ next)
   stays_other bytes front rest next e alike lacks =
       let whole : Lacks c (front ++ rest) = rw (← e) lacks in
-      chosen_other c m n (front ++ next) (lacks_alike c (front ++ rest) (front ++ next) (alike_behind front rest next alike) whole)
+      chosen_other c m n (front ++ next) (lacks_alike c (front ++ rest) (front ++ next) (alike_after front rest next alike) whole)
 
   pub chosen_reads : Reads read_either EitherOf
   chosen_reads = record {

@@ -15,7 +15,7 @@ use Rattle.auth_scram.specs.declared.values.Tails.TheVariants.{One, Two, Three, 
 use Rattle.auth_scram.specs.declared.values.Until.{Until}
 use Rattle.auth_scram.specs.declared.values.Until.TheVariants.{End, Proof}
 use Rattle.auth_scram.proofs.Characters.{allowed_found, char_end, char_on, utf8_found, utf8_only}
-use Rattle.auth_scram.proofs.Runs.{Stops, behind, behind_first, behind_more, behind_step}
+use Rattle.auth_scram.proofs.Runs.{Stops, after_first, after_more, after_step, following}
 use Rattle.auth_scram.proofs.Sequences.{IsPart, stopped_part}
 use Rattle.auth_scram.proofs.PassedTests.{if_some, map_some, within}
 use Rattle.base_lemmas.proofs.Conditions.{chosen}
@@ -25,13 +25,13 @@ plain_low b h = let w = within 1 127 b (and_parts (is_within 1 127 b) (not (b ==
 
 -- the characters of a value, one after the other
 abbrev valued : Option Tails → List ℕ → Option (Option Tails)
-valued = behind (char_on is_value_ascii) char_end
+valued = following (char_on is_value_ascii) char_end
 
 valued_step : (q r : Option Tails) (b : ℕ) (bytes : List ℕ) → char_on is_value_ascii q b ≡ Some r → valued q (b ∷ bytes) ≡ valued r bytes
-valued_step q r b bytes h = behind_step (char_on is_value_ascii) char_end q r b bytes h
+valued_step q r b bytes h = after_step (char_on is_value_ascii) char_end q r b bytes h
 
 abbrev goes : Extensions → List ℕ → Option Extensions
-goes = behind extensions_go_on extensions_may_end
+goes = following extensions_go_on extensions_may_end
 
 value_found : (text : List ℕ) → 0 < length text → valued None text ≡ Some None → IsValue text
 value_found text lt h = record { some = lt; utf8 = utf8_found is_value_ascii plain_low None text h; bytes = allowed_found is_value_ascii None text h }
@@ -130,22 +130,22 @@ module _ (t : Extensions) (ends : extensions_may_end t ≡ true) where
   extensions_rest : (s : Extensions) (text : List ℕ) → goes s text ≡ Some t → Rest s text
   extensions_rest s [] h = let same : t ≡ s = cc h in ended_rest s (rw (← same) ends)
   extensions_rest (Comma until) (b ∷ text) h =
-      let first = behind_first extensions_go_on extensions_may_end (Comma until) t b text h in
+      let first = after_first extensions_go_on extensions_may_end (Comma until) t b text h in
       let so = if_some (b == 44) (Letter until) first.0 first.1 in
       rw (eqb-true b 44 so.0) (rw so.1 at (extensions_rest first.0 text first.2))
   extensions_rest (Letter until) (b ∷ text) h =
-      let first = behind_first extensions_go_on extensions_may_end (Letter until) t b text h in
+      let first = after_first extensions_go_on extensions_may_end (Letter until) t b text h in
       starts_rest until b first.0 text first.1 (extensions_rest first.0 text first.2)
   extensions_rest (Equals until) (b ∷ text) h =
-      let first = behind_first extensions_go_on extensions_may_end (Equals until) t b text h in
+      let first = after_first extensions_go_on extensions_may_end (Equals until) t b text h in
       let so = if_some (b == 61) (First until) first.0 first.1 in
       (text, ap (λ (c : ℕ). c ∷ text) (eqb-true b 61 so.0), rw so.1 at (extensions_rest first.0 text first.2))
   extensions_rest (First until) (b ∷ text) h =
-      let first = behind_first extensions_go_on extensions_may_end (First until) t b text h in
+      let first = after_first extensions_go_on extensions_may_end (First until) t b text h in
       let inside = map_some (in_value until) (character_step b) first.0 first.1 in
       first_whole until inside.0 b text inside.1 (placed_rest until inside.0 text (rw inside.2 at (extensions_rest first.0 text first.2)))
   extensions_rest (Value until) (b ∷ text) h =
-      let first = behind_first extensions_go_on extensions_may_end (Value until) t b text h in
+      let first = after_first extensions_go_on extensions_may_end (Value until) t b text h in
       let rest = extensions_rest first.0 text first.2 in
       elim (chosen (b == 44) (Some (Letter until)) (option_map (in_value until) (character_step b)) (Some first.0) first.1) [
         | inl p ↦
@@ -157,11 +157,11 @@ module _ (t : Extensions) (ends : extensions_may_end t ≡ true) where
             with_byte until None inside.0 b text inside.1 (placed_rest until inside.0 text (rw inside.2 at rest))
       ]
   extensions_rest (Inside until tails) (b ∷ text) h =
-      let first = behind_first extensions_go_on extensions_may_end (Inside until tails) t b text h in
+      let first = after_first extensions_go_on extensions_may_end (Inside until tails) t b text h in
       let inside = map_some (in_value until) (tails_step tails b) first.0 first.1 in
       with_byte until (Some tails) inside.0 b text inside.1 (placed_rest until inside.0 text (rw inside.2 at (extensions_rest first.0 text first.2)))
   extensions_rest ProofEquals (b ∷ text) h =
-      let first = behind_first extensions_go_on extensions_may_end ProofEquals t b text h in
+      let first = after_first extensions_go_on extensions_may_end ProofEquals t b text h in
       let so = if_some (b == 61) ProofBegins first.0 first.1 in
       let none : text ≡ [] = rw so.1 at (extensions_rest first.0 text first.2) in
       rw (eqb-true b 61 so.0, none) refl
@@ -190,17 +190,17 @@ value_goes : (until : Until) (q : Option Tails) (value rest : List ℕ) → valu
 value_goes until None [] rest h = refl
 value_goes until (Some tails) [] rest h = cc h
 value_goes until q (b ∷ value) rest h =
-    let first = behind_first (char_on is_value_ascii) char_end q None b value h in
-    behind_step extensions_go_on extensions_may_end (in_value until q) (in_value until first.0) b (value ++ rest) (value_on until q first.0 b first.1)
+    let first = after_first (char_on is_value_ascii) char_end q None b value h in
+    after_step extensions_go_on extensions_may_end (in_value until q) (in_value until first.0) b (value ++ rest) (value_on until q first.0 b first.1)
     ∙ value_goes until first.0 value rest first.2
 
 first_goes : (until : Until) (value rest : List ℕ) → 0 < length value → valued None value ≡ Some None → goes (First until) (value ++ rest) ≡ goes (Value until) rest
 first_goes until [] rest lt h = absurd (omega arith)
 first_goes until (b ∷ value) rest lt h =
-    let first = behind_first (char_on is_value_ascii) char_end None None b value h in
+    let first = after_first (char_on is_value_ascii) char_end None None b value h in
     let step : character_step b ≡ Some first.0 = first.1 in
     let on : extensions_go_on (First until) b ≡ Some (in_value until first.0) = rw step refl in
-    behind_step extensions_go_on extensions_may_end (First until) (in_value until first.0) b (value ++ rest) on ∙ value_goes until first.0 value rest first.2
+    after_step extensions_go_on extensions_may_end (First until) (in_value until first.0) b (value ++ rest) on ∙ value_goes until first.0 value rest first.2
 
 not_true : (b : Bool) → not b ≡ true → b ≡ false
 not_true true h = cc h
@@ -216,7 +216,7 @@ extension_goes : (until : Until) (extension rest : List ℕ) → IsExtension unt
 extension_goes until extension rest is =
     let value = is.value in
     ap (λ (x : List ℕ). goes (Letter until) (x ++ rest)) is.spelled
-    ∙ behind_step extensions_go_on extensions_may_end (Letter until) (Equals until) is.letter (61 ∷ value ++ rest) (letter_on until is.letter is.named)
+    ∙ after_step extensions_go_on extensions_may_end (Letter until) (Equals until) is.letter (61 ∷ value ++ rest) (letter_on until is.letter is.named)
     ∙ first_goes until value rest is.valued.some (value_run value is.valued)
 
 -- where a comma may stand
@@ -237,7 +237,7 @@ each_goes until (extension ∷ each) rest s all at =
     ap (λ (x : List ℕ). 44 ∷ x) (append_assoc extension (flat_map (λ (extension : List ℕ). 44 ∷ extension) each) rest) in (
       more.0,
       more.1,
-      ap (goes s) regrouped ∙ behind_step extensions_go_on extensions_may_end s (Letter until) 44 (extension ++ others) (comma_on until s at)
+      ap (goes s) regrouped ∙ after_step extensions_go_on extensions_may_end s (Letter until) 44 (extension ++ others) (comma_on until s at)
           ∙ extension_goes until extension others all.0 ∙ more.2,
     )
 
@@ -305,20 +305,20 @@ value_ends : (until : Until) → Ends (Value until)
 value_ends End = ([], Value End, refl, refl)
 value_ends Proof = (44 ∷ 112 ∷ 61 ∷ [], ProofBegins, refl, refl)
 
-behind_value : (until : Until) (t : Extensions) (more : List ℕ) → goes t more ≡ Some (Value until) → Ends t
-behind_value until t more h =
+after_value : (until : Until) (t : Extensions) (more : List ℕ) → goes t more ≡ Some (Value until) → Ends t
+after_value until t more h =
     let end = value_ends until in
-    (more ++ end.0, end.1, behind_more extensions_go_on extensions_may_end t (Value until) more end.0 h ∙ end.2, end.3)
+    (more ++ end.0, end.1, after_more extensions_go_on extensions_may_end t (Value until) more end.0 h ∙ end.2, end.3)
 
 extensions_end : (t : Extensions) → Ends t
 extensions_end (Comma End) = ([], Comma End, refl, refl)
 extensions_end (Comma Proof) = (44 ∷ 112 ∷ 61 ∷ [], ProofBegins, refl, refl)
-extensions_end (Letter End) = behind_value End (Letter End) (97 ∷ 61 ∷ 97 ∷ []) refl
+extensions_end (Letter End) = after_value End (Letter End) (97 ∷ 61 ∷ 97 ∷ []) refl
 extensions_end (Letter Proof) = (112 ∷ 61 ∷ [], ProofBegins, refl, refl)
-extensions_end (Equals until) = behind_value until (Equals until) (61 ∷ 97 ∷ []) refl
-extensions_end (First until) = behind_value until (First until) (97 ∷ []) refl
+extensions_end (Equals until) = after_value until (Equals until) (61 ∷ 97 ∷ []) refl
+extensions_end (First until) = after_value until (First until) (97 ∷ []) refl
 extensions_end (Value until) = value_ends until
-extensions_end (Inside until tails) = let end = inside_ends until tails in behind_value until (Inside until tails) end.0 end.1
+extensions_end (Inside until tails) = let end = inside_ends until tails in after_value until (Inside until tails) end.0 end.1
 extensions_end ProofEquals = (61 ∷ [], ProofBegins, refl, refl)
 extensions_end ProofBegins = ([], ProofBegins, refl, refl)
 

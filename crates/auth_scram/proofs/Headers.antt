@@ -8,7 +8,7 @@ use Rattle.auth_scram.specs.Parts.{◌>>=◌, literal}
 use Rattle.auth_scram.specs.declared.binding_flag.BindingFlag.{BindingFlag}
 use Rattle.auth_scram.specs.declared.binding_flag.BindingFlag.TheVariants.{Unsupported, NotOffered}
 use Rattle.auth_scram.specs.declared.classes.Class.TheVariants.{Binding}
-use Rattle.auth_scram.proofs.Choices.{IsGiven, Lacks, chosen_by, chosen_part, behind_part, given_part, read_given, said_part, same_part}
+use Rattle.auth_scram.proofs.Choices.{IsGiven, Lacks, chosen_by, chosen_part, after_part, given_part, read_given, said_part, same_part}
 use Rattle.auth_scram.proofs.FirstMessages.{BareParts, IsBareText, NamePart, Texts, a_name, bare_reads, bare_to, some_named}
 use Rattle.auth_scram.proofs.Languages.{Closed, class_part}
 use Rattle.auth_scram.proofs.NameRuns.{name_part}
@@ -31,7 +31,7 @@ binding_part =
     said_part binding (λ flag part. (a : List ℕ) × (x : List ℕ) × (part ≡ codes "=" ++ x) × Bound a x × (flag ≡ None)) BindingRest Closed
     (λ flag part w. (w.4, (w.1, w.3.1, w.2)))
     (λ flag part w. (w.1.0, w.1.0, w.1.2, (refl, w.1.1), w.0))
-    (behind_part (codes "=") binding_name Bound Closed (λ text. None) (class_part Binding) (97 ∷ [], 97 ∷ [], (refl, refl)))
+    (after_part (codes "=") binding_name Bound Closed (λ text. None) (class_part Binding) (97 ∷ [], 97 ∷ [], (refl, refl)))
 
 abbrev FlagRest : Type 0
 FlagRest = Option BindingFlag × List ℕ
@@ -44,7 +44,7 @@ LastFlag flag part = (a : Option BindingFlag) × (x : List ℕ) × (part ≡ 112
 
 last_part : IsPart last LastFlag Closed
 unfolding last
-last_part = behind_part (112 ∷ []) binding BindingRest Closed (λ flag. flag) binding_part (None, codes "=a", (refl, (97 ∷ [], refl, refl)))
+last_part = after_part (112 ∷ []) binding BindingRest Closed (λ flag. flag) binding_part (None, codes "=a", (refl, (97 ∷ [], refl, refl)))
 
 abbrev NotOfferedFlag : Option BindingFlag → List ℕ → Type 0
 NotOfferedFlag flag part = ((more : List ℕ) × (part ≡ 121 ∷ more) × IsGiven (Some NotOffered) flag more) ⊎ LastFlag flag part
@@ -112,7 +112,7 @@ IdentityRest b part = (a : List ℕ) × (x : List ℕ) × (part ≡ codes "=" ++
 
 identity_part : IsPart identity IdentityRest Closed
 unfolding identity
-identity_part = behind_part (codes "=") saslname NamePart Closed (λ text. true) name_part (97 ∷ [], 97 ∷ [], (refl, (97 ∷ [], a_name)))
+identity_part = after_part (codes "=") saslname NamePart Closed (λ text. true) name_part (97 ∷ [], 97 ∷ [], (refl, (97 ∷ [], a_name)))
 
 abbrev AnyIdentity : Bool → List ℕ → Type 0
 AnyIdentity b part = ((more : List ℕ) × (part ≡ 97 ∷ more) × IdentityRest b more) ⊎ IsGiven false b part

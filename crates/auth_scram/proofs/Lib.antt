@@ -10,7 +10,7 @@ pub mod FirstMessages
 pub mod Headers
 pub mod Judging
 pub mod Languages
-pub mod LeavingPlaces
+pub mod LeavingPositions
 pub mod MessageLaws
 pub mod NameRuns
 pub mod OtherMessages

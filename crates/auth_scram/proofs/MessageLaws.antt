@@ -5,7 +5,7 @@ use Rattle.base64.specs.Engines.{standard}
 use Rattle.base64.specs.GeneralPurpose.{encode_of}
 use Rattle.auth_scram.specs.Grammar.{InClientFinal, InClientFirst, InServerFinal, InServerFirst, IsClientFinal, IsClientFirst, IsServerFinal, IsServerFirst}
 use Rattle.auth_scram.specs.Messages.{ClientFinalParts, ClientFinalView, FirstParts, ServerFirstParts, ServerFirstView, before_proof, client_final_of, client_final_parts, client_first_of, first_of, first_parts, judged_client_final, judged_first, judged_server_final, judged_server_first, server_final_of, server_final_parts, server_first_of, server_first_parts, verifier_read}
-use Rattle.auth_scram.specs.Places.{LeavesAt, malformed}
+use Rattle.auth_scram.specs.Positions.{LeavesAt, malformed}
 use Rattle.auth_scram.specs.Values.{base64_bytes, hash_of, most_told, name_of, value_of}
 use Rattle.auth_scram.specs.declared.binding_flag.BindingFlag.{BindingFlag}
 use Rattle.auth_scram.specs.declared.client_first.ClientFirst.{ClientFirst}
@@ -13,15 +13,15 @@ use Rattle.auth_scram.specs.declared.fault.ScramFault.{ScramFault}
 use Rattle.auth_scram.specs.declared.fault.ScramFault.TheVariants.{Authzid, Malformed, Plus}
 use Rattle.auth_scram.proofs.Base64.{bytes_again}
 use Rattle.auth_scram.proofs.Headers.{Headed, IsFirst, first_from, first_reads, first_to}
-use Rattle.auth_scram.proofs.LeavingPlaces.{place, place_read}
+use Rattle.auth_scram.proofs.LeavingPositions.{position, position_read}
 use Rattle.auth_scram.proofs.NameRuns.{name_is}
 use Rattle.auth_scram.proofs.OtherMessages.{Bound, FinalSaid, Says, ServerRest, before_is, client_final_reads, final_from, final_to, server_final_from, server_final_reads, server_final_to, server_first_reads, server_from, server_to}
 use Rattle.auth_scram.proofs.Runs.{result_cases}
 use Rattle.auth_scram.proofs.Sequences.{After}
 use Rattle.base_lemmas.proofs.Conditions.{chosen}
 
-place_is : (a b : ℕ) → Malformed a ≡ Malformed b → a ≡ b
-place_is a b h = cc h
+position_is : (a b : ℕ) → Malformed a ≡ Malformed b → a ≡ b
+position_is a b h = cc h
 
 -- ---- the client's first message
 
@@ -120,8 +120,8 @@ of_first bytes w =
     let from = first_from w.0 w.1 w.2 w.3 w.4 bytes w.5 in
     (record { flag = w.0; authorizes = w.1; name = from.0; nonce = w.3; bare = w.4 }, from.2)
 
-pub first_place : (bytes : List ℕ) (at : ℕ) → (client_first_of bytes ≡ Err (Malformed at)) ↔ LeavesAt InClientFirst bytes at
-first_place bytes at = (
+pub first_position : (bytes : List ℕ) (at : ℕ) → (client_first_of bytes ≡ Err (Malformed at)) ↔ LeavesAt InClientFirst bytes at
+first_position bytes at = (
   λ h. elim (result_cases (first_parts bytes)) [
     | inl ok ↦
         let parts = ok.0 in
@@ -131,10 +131,10 @@ first_place bytes at = (
         ]
     | inr err ↦
         let same : Err (malformed bytes err.0) ≡ Err (Malformed at) = sym (judged_err bytes (first_parts bytes) err.0 err.1) ∙ h in
-        let n = place_is (length bytes - length err.0) at cc in
-        subst (LeavesAt InClientFirst bytes) n (place first_parts Headed first_reads InClientFirst in_first of_first bytes err.0 err.1)
+        let n = position_is (length bytes - length err.0) at cc in
+        subst (LeavesAt InClientFirst bytes) n (position first_parts Headed first_reads InClientFirst in_first of_first bytes err.0 err.1)
   ],
-  λ leaves. (let read = place_read first_parts Headed first_reads InClientFirst in_first of_first bytes at leaves in
+  λ leaves. (let read = position_read first_parts Headed first_reads InClientFirst in_first of_first bytes at leaves in
       judged_err bytes (first_parts bytes) read.0 read.1 ∙ ap (λ (n : ℕ). let r : Result ClientFirst ScramFault = Err (Malformed n) in r) read.2),
 )
 
@@ -180,16 +180,16 @@ in_server parts bytes w = let is = server_to parts bytes w in (parts.nonce, is.s
 of_server : (bytes : List ℕ) → InServerFirst bytes → (parts : ServerFirstParts) × ServerSaid parts bytes
 of_server bytes w = (record { nonce = w.0; salt = encode_of standard w.1; count = w.3.digits }, server_from w.0 w.1 w.2 bytes w.3)
 
-pub server_first_place : (bytes : List ℕ) (at : ℕ) → (server_first_of bytes ≡ Err (Malformed at)) ↔ LeavesAt InServerFirst bytes at
-server_first_place bytes at = (
+pub server_first_position : (bytes : List ℕ) (at : ℕ) → (server_first_of bytes ≡ Err (Malformed at)) ↔ LeavesAt InServerFirst bytes at
+server_first_position bytes at = (
   λ h. elim (result_cases (server_first_parts bytes)) [
     | inl ok ↦ cc (sym (server_ok bytes (server_first_parts bytes) ok.0 ok.1) ∙ h)
     | inr err ↦
         let same : Err (malformed bytes err.0) ≡ Err (Malformed at) = sym (server_err bytes (server_first_parts bytes) err.0 err.1) ∙ h in
-        let n = place_is (length bytes - length err.0) at cc in
-        subst (LeavesAt InServerFirst bytes) n (place server_first_parts ServerSaid server_first_reads InServerFirst in_server of_server bytes err.0 err.1)
+        let n = position_is (length bytes - length err.0) at cc in
+        subst (LeavesAt InServerFirst bytes) n (position server_first_parts ServerSaid server_first_reads InServerFirst in_server of_server bytes err.0 err.1)
   ],
-  λ leaves. (let read = place_read server_first_parts ServerSaid server_first_reads InServerFirst in_server of_server bytes at leaves in
+  λ leaves. (let read = position_read server_first_parts ServerSaid server_first_reads InServerFirst in_server of_server bytes at leaves in
       server_err bytes (server_first_parts bytes) read.0 read.1 ∙ ap (λ (n : ℕ). let r : Result ServerFirstView ScramFault = Err (Malformed n) in r) read.2),
 )
 
@@ -244,16 +244,16 @@ module _ (flag : BindingFlag) where
   of_final : (bytes : List ℕ) → InClientFinal flag bytes → (parts : ClientFinalParts) × ClientSaid parts bytes
   of_final bytes w = (record { nonce = w.1; proof = encode_of standard w.2 }, final_from flag w.0 w.1 w.2 bytes w.3)
 
-  pub client_final_place : (bytes : List ℕ) (at : ℕ) → (client_final_of flag bytes ≡ Err (Malformed at)) ↔ LeavesAt (InClientFinal flag) bytes at
-  client_final_place bytes at = (
+  pub client_final_position : (bytes : List ℕ) (at : ℕ) → (client_final_of flag bytes ≡ Err (Malformed at)) ↔ LeavesAt (InClientFinal flag) bytes at
+  client_final_position bytes at = (
     λ h. elim (result_cases (client_final_parts flag bytes)) [
       | inl ok ↦ cc (sym (final_ok bytes (client_final_parts flag bytes) ok.0 ok.1) ∙ h)
       | inr err ↦
           let same : Err (malformed bytes err.0) ≡ Err (Malformed at) = sym (final_err bytes (client_final_parts flag bytes) err.0 err.1) ∙ h in
-          let n = place_is (length bytes - length err.0) at cc in
-          subst (LeavesAt (InClientFinal flag) bytes) n (place (client_final_parts flag) ClientSaid (client_final_reads flag) (InClientFinal flag) in_final of_final bytes err.0 err.1)
+          let n = position_is (length bytes - length err.0) at cc in
+          subst (LeavesAt (InClientFinal flag) bytes) n (position (client_final_parts flag) ClientSaid (client_final_reads flag) (InClientFinal flag) in_final of_final bytes err.0 err.1)
     ],
-    λ leaves. (let read = place_read (client_final_parts flag) ClientSaid (client_final_reads flag) (InClientFinal flag) in_final of_final bytes at leaves in
+    λ leaves. (let read = position_read (client_final_parts flag) ClientSaid (client_final_reads flag) (InClientFinal flag) in_final of_final bytes at leaves in
         final_err bytes (client_final_parts flag bytes) read.0 read.1 ∙ ap (λ (n : ℕ). let r : Result ClientFinalView ScramFault = Err (Malformed n) in r) read.2),
   )
 
@@ -299,15 +299,15 @@ in_told v bytes w = let is = server_final_to v bytes w in (is.0, is.2)
 of_told : (bytes : List ℕ) → InServerFinal bytes → (v : Option (List ℕ)) × FinalSaid v bytes
 of_told bytes w = (option_map (encode_of standard) w.0, server_final_from w.0 bytes w.1)
 
-pub server_final_place : (bytes : List ℕ) (at : ℕ) → (server_final_of bytes ≡ Err (Malformed at)) ↔ LeavesAt InServerFinal bytes at
-server_final_place bytes at = (
+pub server_final_position : (bytes : List ℕ) (at : ℕ) → (server_final_of bytes ≡ Err (Malformed at)) ↔ LeavesAt InServerFinal bytes at
+server_final_position bytes at = (
   λ h. elim (result_cases (server_final_parts bytes)) [
     | inl ok ↦ cc (sym (told_ok bytes (server_final_parts bytes) ok.0 ok.1) ∙ h)
     | inr err ↦
         let same : Err (malformed bytes err.0) ≡ Err (Malformed at) = sym (told_err bytes (server_final_parts bytes) err.0 err.1) ∙ h in
-        let n = place_is (length bytes - length err.0) at cc in
-        subst (LeavesAt InServerFinal bytes) n (place server_final_parts FinalSaid server_final_reads InServerFinal in_told of_told bytes err.0 err.1)
+        let n = position_is (length bytes - length err.0) at cc in
+        subst (LeavesAt InServerFinal bytes) n (position server_final_parts FinalSaid server_final_reads InServerFinal in_told of_told bytes err.0 err.1)
   ],
-  λ leaves. (let read = place_read server_final_parts FinalSaid server_final_reads InServerFinal in_told of_told bytes at leaves in
+  λ leaves. (let read = position_read server_final_parts FinalSaid server_final_reads InServerFinal in_told of_told bytes at leaves in
       told_err bytes (server_final_parts bytes) read.0 read.1 ∙ ap (λ (n : ℕ). let r : Result (Option (List ℕ)) ScramFault = Err (Malformed n) in r) read.2),
 )

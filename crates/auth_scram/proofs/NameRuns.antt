@@ -15,7 +15,7 @@ use Rattle.auth_scram.specs.declared.values.Tails.{Tails}
 use Rattle.auth_scram.specs.declared.values.Tails.TheVariants.{One, Two, Three, AfterE0, AfterED, AfterF0, AfterF4}
 use Rattle.auth_scram.proofs.Characters.{allowed_found, char_end, char_on, lead_high, leads, tails_high, utf8_found, utf8_only}
 use Rattle.auth_scram.proofs.Languages.{Closed}
-use Rattle.auth_scram.proofs.Runs.{Stops, behind, behind_first, behind_step}
+use Rattle.auth_scram.proofs.Runs.{Stops, after_first, after_step, following}
 use Rattle.auth_scram.proofs.Sequences.{IsPart, run_part}
 use Rattle.auth_scram.proofs.PassedTests.{if_some, map_some, not_eq, within, within_high}
 use Rattle.base_lemmas.proofs.Conditions.{chosen}
@@ -28,16 +28,16 @@ ascii_low b h = let w = within 1 127 b h in omega arith
 
 -- the characters of a name, one after the other
 abbrev named : Option Tails → List ℕ → Option (Option Tails)
-named = behind (char_on ascii) char_end
+named = following (char_on ascii) char_end
 
 named_step : (q r : Option Tails) (b : ℕ) (bytes : List ℕ) → char_on ascii q b ≡ Some r → named q (b ∷ bytes) ≡ named r bytes
-named_step q r b bytes h = behind_step (char_on ascii) char_end q r b bytes h
+named_step q r b bytes h = after_step (char_on ascii) char_end q r b bytes h
 
 abbrev in_name : Option Tails → Name
 in_name = placed Between Inside
 
 abbrev goes : Name → List ℕ → Option Name
-goes = behind name_goes_on name_may_end
+goes = following name_goes_on name_may_end
 
 -- bytes that spell the rest of a name
 abbrev Spelt : Option Tails → List ℕ → Type 0
@@ -107,19 +107,19 @@ name_rest Escape [] h = cc h
 name_rest EscapedComma [] h = cc h
 name_rest EscapedEquals [] h = cc h
 name_rest Start (b ∷ text) h =
-    let first = behind_first name_goes_on name_may_end Start Between b text h in
+    let first = after_first name_goes_on name_may_end Start Between b text h in
     begins_rest b first.0 text first.1 (name_rest first.0 text first.2)
 name_rest Between (b ∷ text) h =
-    let first = behind_first name_goes_on name_may_end Between Between b text h in
+    let first = after_first name_goes_on name_may_end Between Between b text h in
     begins_rest b first.0 text first.1 (name_rest first.0 text first.2)
 name_rest (Inside tails) (b ∷ text) h =
-    let first = behind_first name_goes_on name_may_end (Inside tails) Between b text h in
+    let first = after_first name_goes_on name_may_end (Inside tails) Between b text h in
     let inside = map_some in_name (tails_step tails b) first.0 first.1 in
     let q = inside.0 in
     let high = tails_high tails b q inside.1 in
     with_byte (Some tails) q b text inside.1 (itself b (λ e. absurd (omega arith)) (λ e. absurd (omega arith))) (placed_rest q text (rw inside.2 at (name_rest first.0 text first.2)))
 name_rest Escape (b ∷ text) h =
-    let first = behind_first name_goes_on name_may_end Escape Between b text h in
+    let first = after_first name_goes_on name_may_end Escape Between b text h in
     let rest = name_rest first.0 text first.2 in
     elim (chosen (b == 50) (Some EscapedComma) (where_so (b == 51) EscapedEquals) (Some first.0) first.1) [
       | inl p ↦
@@ -132,11 +132,11 @@ name_rest Escape (b ∷ text) h =
           (found.0, inr (both b 51 68 text found.0 (eqb-true b 51 so.0) found.1), found.2)
     ]
 name_rest EscapedComma (b ∷ text) h =
-    let first = behind_first name_goes_on name_may_end EscapedComma Between b text h in
+    let first = after_first name_goes_on name_may_end EscapedComma Between b text h in
     let so = if_some (b == 67) Between first.0 first.1 in
     (text, rw (eqb-true b 67 so.0) refl, rw so.1 at (name_rest first.0 text first.2))
 name_rest EscapedEquals (b ∷ text) h =
-    let first = behind_first name_goes_on name_may_end EscapedEquals Between b text h in
+    let first = after_first name_goes_on name_may_end EscapedEquals Between b text h in
     let so = if_some (b == 68) Between first.0 first.1 in
     (text, rw (eqb-true b 68 so.0) refl, rw so.1 at (name_rest first.0 text first.2))
 
@@ -202,7 +202,7 @@ byte_on q r b text h =
         | inl e ↦ escape_on q r b text (inr e) h
         | inr m ↦
             ap (λ (x : List ℕ). goes (in_name q) (x ++ text)) (itself b n m)
-            ∙ behind_step name_goes_on name_may_end (in_name q) (in_name r) b text (name_on q r b h n m)
+            ∙ after_step name_goes_on name_may_end (in_name q) (in_name r) b text (name_on q r b h n m)
       ]
     ]
 
@@ -210,7 +210,7 @@ name_goes : (q : Option Tails) (name : List ℕ) → named q name ≡ Some None 
 name_goes None [] h = refl
 name_goes (Some tails) [] h = cc h
 name_goes q (b ∷ name) h =
-    let first = behind_first (char_on ascii) char_end q None b name h in
+    let first = after_first (char_on ascii) char_end q None b name h in
     byte_on q first.0 b (flat_map escaped_byte name) first.1 ∙ name_goes first.0 name first.2
 
 from_start : (text : List ℕ) → 0 < length text → goes Start text ≡ goes Between text
@@ -292,7 +292,7 @@ escaped_text (Some tails) r b text h =
 spelled_text : (q : Option Tails) (name : List ℕ) → named q name ≡ Some None → named q (flat_map escaped_byte name) ≡ Some None
 spelled_text q [] h = h
 spelled_text q (b ∷ name) h =
-    let first = behind_first (char_on ascii) char_end q None b name h in
+    let first = after_first (char_on ascii) char_end q None b name h in
     escaped_text q first.0 b (flat_map escaped_byte name) first.1 ∙ spelled_text first.0 name first.2
 
 pub name_text : (name text : List ℕ) → IsName name text → IsUtf8 text

@@ -23,25 +23,25 @@ result_cases (Err e) = inr (e, refl)
 
 module _ {S : Type 0} (goes_on : S → ℕ → Option S) (may_end : S → Bool) where
   -- the state behind bytes
-  abbrev pub behind : S → List ℕ → Option S
-  behind s [] = Some s
-  behind s (b ∷ bs) = option_and_then (λ t. behind t bs) (goes_on s b)
+  abbrev pub following : S → List ℕ → Option S
+  following s [] = Some s
+  following s (b ∷ bs) = option_and_then (λ t. following t bs) (goes_on s b)
 
-  pub behind_step : (s t : S) (b : ℕ) (bs : List ℕ) → goes_on s b ≡ Some t → behind s (b ∷ bs) ≡ behind t bs
-  behind_step s t b bs h = rw h refl
+  pub after_step : (s t : S) (b : ℕ) (bs : List ℕ) → goes_on s b ≡ Some t → following s (b ∷ bs) ≡ following t bs
+  after_step s t b bs h = rw h refl
 
-  pub behind_first : (s t : S) (b : ℕ) (bs : List ℕ) → behind s (b ∷ bs) ≡ Some t → (u : S) × (goes_on s b ≡ Some u) × (behind u bs ≡ Some t)
-  behind_first s t b bs h =
+  pub after_first : (s t : S) (b : ℕ) (bs : List ℕ) → following s (b ∷ bs) ≡ Some t → (u : S) × (goes_on s b ≡ Some u) × (following u bs ≡ Some t)
+  after_first s t b bs h =
       elim (option_cases (goes_on s b)) [
         | inl none ↦ cc (rw none at h)
         | inr some ↦ (some.0, some.1, rw some.1 at h)
       ]
 
-  pub behind_more : (s t : S) (xs ys : List ℕ) → behind s xs ≡ Some t → behind s (xs ++ ys) ≡ behind t ys
-  behind_more s t [] ys h = let same : s ≡ t = cc in rw same refl
-  behind_more s t (b ∷ bs) ys h =
-      let first = behind_first s t b bs h in
-      rw first.1 (behind_more first.0 t bs ys first.2)
+  pub after_more : (s t : S) (xs ys : List ℕ) → following s xs ≡ Some t → following s (xs ++ ys) ≡ following t ys
+  after_more s t [] ys h = let same : s ≡ t = cc in rw same refl
+  after_more s t (b ∷ bs) ys h =
+      let first = after_first s t b bs h in
+      rw first.1 (after_more first.0 t bs ys first.2)
 
   -- a part that may end goes on with no byte of the rest
   abbrev pub Stops : S → List ℕ → Type 0
@@ -51,7 +51,7 @@ module _ {S : Type 0} (goes_on : S → ℕ → Option S) (may_end : S → Bool) 
   -- what was read is a part, whatever follows with the same first byte
   pub record Took (s : S) (bytes : List ℕ) (cut : Cut) : Type 0 where
     pub state : S
-    pub behind : behind s cut.0 ≡ Some state
+    pub following : following s cut.0 ≡ Some state
     pub ends : may_end state ≡ true
     pub whole : bytes ≡ cut.0 ++ cut.1
     pub again : (rest : List ℕ) → Alike cut.1 rest → run goes_on may_end s (cut.0 ++ rest) ≡ Ok (cut.0, rest)
@@ -60,7 +60,7 @@ module _ {S : Type 0} (goes_on : S → ℕ → Option S) (may_end : S → Bool) 
   pub record Left (s : S) (bytes rest : List ℕ) : Type 0 where
     pub front : List ℕ
     pub state : S
-    pub behind : behind s front ≡ Some state
+    pub following : following s front ≡ Some state
     pub whole : bytes ≡ front ++ rest
     pub again : (other : List ℕ) → Alike rest other → run goes_on may_end s (front ++ other) ≡ Err other
 
@@ -96,7 +96,7 @@ module _ {S : Type 0} (goes_on : S → ℕ → Option S) (may_end : S → Bool) 
       let e = ended_ok (may_end s) [] cut h in
       rw e.1 (record {
         state = s;
-        behind = refl;
+        following = refl;
         ends = e.0;
         whole = refl;
         again = λ rest alike. empty_again rest alike e.0;
@@ -111,7 +111,7 @@ module _ {S : Type 0} (goes_on : S → ℕ → Option S) (may_end : S → Bool) 
             let e = ended_ok (may_end s) (b ∷ bs) cut (sym (run_stops_at s b bs none) ∙ h) in
             rw e.1 (record {
               state = s;
-              behind = refl;
+              following = refl;
               ends = e.0;
               whole = refl;
               again = λ rest alike. stopped s b bs rest none alike ∙ rw e.0 refl;
@@ -122,7 +122,7 @@ module _ {S : Type 0} (goes_on : S → ℕ → Option S) (may_end : S → Bool) 
             let took = run_took t bs inner.0 inner.1 in
             rw inner.2 (record {
               state = took.state;
-              behind = behind_step s t b inner.0.0 some.1 ∙ took.behind;
+              following = after_step s t b inner.0.0 some.1 ∙ took.following;
               ends = took.ends;
               whole = ap (λ (x : List ℕ). b ∷ x) took.whole;
               again = λ rest alike. run_takes_at s t b (inner.0.0 ++ rest) some.1 ∙ rw (took.again rest alike) refl;
@@ -132,7 +132,7 @@ module _ {S : Type 0} (goes_on : S → ℕ → Option S) (may_end : S → Bool) 
   pub run_left : (s : S) (bytes rest : List ℕ) → run goes_on may_end s bytes ≡ Err rest → Left s bytes rest
   run_left s [] rest h =
       let e = ended_err (may_end s) [] rest h in
-      rw e.1 (record { front = []; state = s; behind = refl; whole = refl; again = λ other alike. nothing_left other alike e.0 })
+      rw e.1 (record { front = []; state = s; following = refl; whole = refl; again = λ other alike. nothing_left other alike e.0 })
     where
       nothing_left : (other : List ℕ) → Alike [] other → may_end s ≡ false → run goes_on may_end s other ≡ Err other
       nothing_left [] alike ends = rw ends refl
@@ -141,23 +141,23 @@ module _ {S : Type 0} (goes_on : S → ℕ → Option S) (may_end : S → Bool) 
       elim (option_cases (goes_on s b)) [
         | inl none ↦
             let e = ended_err (may_end s) (b ∷ bs) rest (sym (run_stops_at s b bs none) ∙ h) in
-            rw e.1 (record { front = []; state = s; behind = refl; whole = refl; again = λ other alike. stopped s b bs other none alike ∙ rw e.0 refl })
+            rw e.1 (record { front = []; state = s; following = refl; whole = refl; again = λ other alike. stopped s b bs other none alike ∙ rw e.0 refl })
         | inr some ↦
             let t = some.0 in
             let left = run_left t bs rest (with_first_err b (run goes_on may_end t bs) rest (sym (run_takes_at s t b bs some.1) ∙ h)) in
             record {
               front = b ∷ left.front;
               state = left.state;
-              behind = behind_step s t b left.front some.1 ∙ left.behind;
+              following = after_step s t b left.front some.1 ∙ left.following;
               whole = ap (λ (x : List ℕ). b ∷ x) left.whole;
               again = λ other alike. run_takes_at s t b (left.front ++ other) some.1 ∙ rw (left.again other alike) refl;
             }
       ]
 
   -- a part is read where what follows doesn't go on with it
-  pub run_takes : (s t : S) (part rest : List ℕ) → behind s part ≡ Some t → may_end t ≡ true → Stops t rest → run goes_on may_end s (part ++ rest) ≡ Ok (part, rest)
+  pub run_takes : (s t : S) (part rest : List ℕ) → following s part ≡ Some t → may_end t ≡ true → Stops t rest → run goes_on may_end s (part ++ rest) ≡ Ok (part, rest)
   run_takes s t [] [] h ends stops = let same : s ≡ t = cc in rw (same, ends) refl
   run_takes s t [] (c ∷ rest) h ends stops = let same : s ≡ t = cc in rw (same, stops, ends) refl
   run_takes s t (b ∷ bs) rest h ends stops =
-      let first = behind_first s t b bs h in
+      let first = after_first s t b bs h in
       run_takes_at s first.0 b (bs ++ rest) first.1 ∙ rw (run_takes first.0 t bs rest first.2 ends stops) refl

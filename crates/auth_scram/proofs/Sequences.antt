@@ -2,7 +2,7 @@
 use Rattle.std.proofs.Common.{◌≡◌, ℕ, ◌⊎◌, ◌==◌, Bool, true, false, List, [], ◌∷◌, ◌++◌, Option, Some, Result, Ok, Err, refl, sym, ap, ◌∙◌, append_assoc, inl, inr, eq-eqb}
 use Rattle.std.proofs.lemmas.Bool.{cases_Bool, eqb-true}
 use Rattle.auth_scram.specs.Parts.{Cut, ◌>>=◌, run, literal, ends_here}
-use Rattle.auth_scram.proofs.Runs.{Alike, behind, behind_more, Stops, run_took, run_left, run_takes}
+use Rattle.auth_scram.proofs.Runs.{Alike, following, after_more, Stops, run_took, run_left, run_takes}
 
 -- A part: what it takes is in its language, and whatever follows with the same first byte; what is in its language is
 -- taken where the rest stops it; where it leaves off, some word of its language began.
@@ -40,9 +40,9 @@ bound_ok r f a h = rw h refl
 pub bound_err : {A B : Type 0} (r : Result A (List ℕ)) (f : A → Result B (List ℕ)) (e : List ℕ) → r ≡ Err e → (r >>= f) ≡ Err e
 bound_err r f e h = rw h refl
 
-pub alike_behind : (front rest other : List ℕ) → Alike rest other → Alike (front ++ rest) (front ++ other)
-alike_behind [] rest other h = h
-alike_behind (b ∷ front) rest other h = refl
+pub alike_after : (front rest other : List ℕ) → Alike rest other → Alike (front ++ rest) (front ++ other)
+alike_after [] rest other h = h
+alike_after (b ∷ front) rest other h = refl
 
 pub alike_itself : (bytes : List ℕ) → Alike bytes bytes
 alike_itself [] = tt
@@ -90,7 +90,7 @@ module _ {A V : Type 0} (p : List ℕ → Result (A × List ℕ) (List ℕ)) (k 
   later_again : (a : A) (x front middle rest other : List ℕ) → ((r : List ℕ) → Alike middle r → p (x ++ r) ≡ Ok (a, r)) → middle ≡ front ++ rest → Alike rest other
       → k a (front ++ other) ≡ Err other → both ((x ++ front) ++ other) ≡ Err other
   later_again a x front middle rest other again whole alike left =
-      let alike' : Alike middle (front ++ other) = rw whole (alike_behind front rest other alike) in
+      let alike' : Alike middle (front ++ other) = rw whole (alike_after front rest other alike) in
       ap both (append_assoc x front other) ∙ both_ok (x ++ (front ++ other)) a (front ++ other) (again (front ++ other) alike') ∙ left
 
   leaves_later : (bytes : List ℕ) (a : A) (middle rest : List ℕ) → p bytes ≡ Ok (a, middle) → k a middle ≡ Err rest → Leaves both (Then P K) bytes rest
@@ -291,17 +291,17 @@ with_bytes {U} {V} m M f reads = record {
 -- ---- the longest run of bytes that may follow each other
 
 module _ {S : Type 0} (goes_on : S → ℕ → Option S) (may_end : S → Bool) (start : S) (L : List ℕ → Type 0) (Closes : List ℕ → Type 0)
-    (found : (part : List ℕ) (t : S) → behind goes_on may_end start part ≡ Some t → may_end t ≡ true → L part)
+    (found : (part : List ℕ) (t : S) → following goes_on may_end start part ≡ Some t → may_end t ≡ true → L part)
     (only : (part : List ℕ) → L part
-    → (t : S) × (behind goes_on may_end start part ≡ Some t) × (may_end t ≡ true) × ((rest : List ℕ) → Closes rest → Stops goes_on may_end t rest))
-    (goes : (t : S) → (more : List ℕ) × (u : S) × (behind goes_on may_end t more ≡ Some u) × (may_end u ≡ true)) where
+    → (t : S) × (following goes_on may_end start part ≡ Some t) × (may_end t ≡ true) × ((rest : List ℕ) → Closes rest → Stops goes_on may_end t rest))
+    (goes : (t : S) → (more : List ℕ) × (u : S) × (following goes_on may_end t more ≡ Some u) × (may_end u ≡ true)) where
   abbrev Taken : List ℕ → List ℕ → Type 0
   Taken text part = (text ≡ part) × L part
 
   pub stopped_part : IsPart (run goes_on may_end start) Taken Closes
   stopped_part = record {
     took = λ bytes text rest h. (let took = run_took goes_on may_end start bytes (text, rest) h in
-        (text, took.whole, (refl, found text took.state took.behind took.ends), took.again));
+        (text, took.whole, (refl, found text took.state took.following took.ends), took.again));
     takes = λ text part rest is closes. (let way = only part is.1 in
         run_takes goes_on may_end start way.0 part rest way.1 way.2 (way.3 rest closes) ∙ ap (λ (x : List ℕ). let r : Result Cut (List ℕ) = Ok (x, rest) in r) (sym is.0));
     leaves = λ bytes rest h. (let left = run_left goes_on may_end start bytes rest h in
@@ -311,7 +311,7 @@ module _ {S : Type 0} (goes_on : S → ℕ → Option S) (may_end : S → Bool) 
           (
             left.front ++ way.0,
             way.0,
-            (refl, found (left.front ++ way.0) way.1 (behind_more goes_on may_end start left.state left.front way.0 left.behind ∙ way.2) way.3),
+            (refl, found (left.front ++ way.0) way.1 (after_more goes_on may_end start left.state left.front way.0 left.following ∙ way.2) way.3),
           ),
           left.again,
         ));
@@ -319,9 +319,9 @@ module _ {S : Type 0} (goes_on : S → ℕ → Option S) (may_end : S → Bool) 
 
 -- the same where it stops wherever it may end
 module _ {S : Type 0} (goes_on : S → ℕ → Option S) (may_end : S → Bool) (start : S) (L : List ℕ → Type 0) (Closes : List ℕ → Type 0)
-    (found : (part : List ℕ) (t : S) → behind goes_on may_end start part ≡ Some t → may_end t ≡ true → L part)
-    (only : (part : List ℕ) → L part → (t : S) × (behind goes_on may_end start part ≡ Some t) × (may_end t ≡ true))
-    (goes : (t : S) → (more : List ℕ) × (u : S) × (behind goes_on may_end t more ≡ Some u) × (may_end u ≡ true))
+    (found : (part : List ℕ) (t : S) → following goes_on may_end start part ≡ Some t → may_end t ≡ true → L part)
+    (only : (part : List ℕ) → L part → (t : S) × (following goes_on may_end start part ≡ Some t) × (may_end t ≡ true))
+    (goes : (t : S) → (more : List ℕ) × (u : S) × (following goes_on may_end t more ≡ Some u) × (may_end u ≡ true))
     (stops : (t : S) (rest : List ℕ) → may_end t ≡ true → Closes rest → Stops goes_on may_end t rest) where
   pub run_part : IsPart (run goes_on may_end start) (λ text part. (text ≡ part) × L part) Closes
   run_part =

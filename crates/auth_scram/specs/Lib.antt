@@ -5,7 +5,7 @@ pub mod Grammar
 pub mod Judgements
 pub mod Messages
 pub mod Parts
-pub mod Places
+pub mod Positions
 pub mod Seen
 pub mod States
 pub mod Values

@@ -1,6 +1,6 @@
 -- What reading a message answers (RFC 5802, section 7), where memory doesn't run out.
 use Rattle.std.specs.Prelude.{ℕ, ◌-◌, ◌==◌, min, Bool, true, false, List, [], ◌∷◌, Option, Some, None, Result, Ok, Err, length, take, codes, if◌then◌else◌}
-use Rattle.auth_scram.specs.Places.{malformed}
+use Rattle.auth_scram.specs.Positions.{malformed}
 use Rattle.auth_scram.specs.Parts.{Cut, ◌>>=◌, run, literal, ends_here}
 use Rattle.auth_scram.specs.States.{class_goes_on, class_may_end, count_goes_on, count_may_end, name_goes_on, name_may_end, extensions_go_on, extensions_may_end}
 use Rattle.auth_scram.specs.Values.{name_of, value_of, most_told, base64_bytes, hash_of}

@@ -1,6 +1,6 @@
 //! Why a message is refused.
 ghost use Rattle.std.specs.Prelude.{◌≡◌};
-ghost use Rattle.auth_scram.specs.Places.{malformed};
+ghost use Rattle.auth_scram.specs.Positions.{malformed};
 
 use base_io::NoMemory;
 use std::error::Error;

@@ -8,7 +8,7 @@ ghost use Rattle.auth_scram.specs.Classes.{is_within};
 ghost use Rattle.auth_scram.specs.Exchange.{ClientView, CredentialsView, ReplyView, ServerView, bare_of, begun_client, begun_server, last_of, reply_of};
 ghost use Rattle.auth_scram.specs.Grammar.{InClientFinal, InClientFirst, InServerFinal, InServerFirst, IsClientFinal, IsClientFirst, IsNonce, IsServerFinal, IsServerFirst, are_some, escaped_byte, gs2_header};
 ghost use Rattle.auth_scram.specs.Messages.{ClientFinalView, ServerFirstView, client_final_of, client_first_of, gs2_base64, server_final_of, server_first_of};
-ghost use Rattle.auth_scram.specs.Places.{LeavesAt};
+ghost use Rattle.auth_scram.specs.Positions.{LeavesAt};
 ghost use Rattle.auth_scram.specs.Values.{hash_of, most_told};
 ghost use Rattle.auth_scram.specs.declared.binding_flag.BindingFlag.{BindingFlag};
 ghost use Rattle.auth_scram.specs.declared.binding_flag.BindingFlag.TheVariants.{Unsupported};
@@ -31,13 +31,13 @@ pub fn reading_is_the_grammar()
     ensures first_authzid { (bytes : List ℕ) → (client_first_of bytes ≡ Err Authzid)
         ↔ ((flag : BindingFlag) × (name : List ℕ) × (nonce : List ℕ) × (bare : List ℕ)
         × IsClientFirst (Some flag) true name nonce bare bytes) }
-    ensures first_place { (bytes : List ℕ) (at : ℕ) → (client_first_of bytes ≡ Err (Malformed at))
+    ensures first_position { (bytes : List ℕ) (at : ℕ) → (client_first_of bytes ≡ Err (Malformed at))
         ↔ LeavesAt InClientFirst bytes at }
     ensures server_first_found { (bytes : List ℕ) (m : ServerFirstView) → server_first_of bytes ≡ Ok m
         → ((count : ℕ) × IsServerFirst m.nonce m.salt count bytes × (m.count ≡ min count most_told)) }
     ensures server_first_only { (nonce salt : List ℕ) (count : ℕ) (bytes : List ℕ) → IsServerFirst nonce salt count bytes
         → server_first_of bytes ≡ Ok (record { nonce = nonce; salt = salt; count = min count most_told }) }
-    ensures server_first_place { (bytes : List ℕ) (at : ℕ) → (server_first_of bytes ≡ Err (Malformed at))
+    ensures server_first_position { (bytes : List ℕ) (at : ℕ) → (server_first_of bytes ≡ Err (Malformed at))
         ↔ LeavesAt InServerFirst bytes at }
     ensures client_final_found { (flag : BindingFlag) (bytes : List ℕ) (m : ClientFinalView)
         → client_final_of flag bytes ≡ Ok m
@@ -46,13 +46,13 @@ pub fn reading_is_the_grammar()
         → IsClientFinal flag without_proof nonce proof bytes
         → client_final_of flag bytes
         ≡ Ok (record { without_proof = without_proof; nonce = nonce; proof = hash_of proof }) }
-    ensures client_final_place { (flag : BindingFlag) (bytes : List ℕ) (at : ℕ)
+    ensures client_final_position { (flag : BindingFlag) (bytes : List ℕ) (at : ℕ)
         → (client_final_of flag bytes ≡ Err (Malformed at)) ↔ LeavesAt (InClientFinal flag) bytes at }
     ensures server_final_found { (bytes : List ℕ) (v : Option (List ℕ)) → server_final_of bytes ≡ Ok v
         → ((verifier : Option (List ℕ)) × IsServerFinal verifier bytes × (v ≡ option_and_then hash_of verifier)) }
     ensures server_final_only { (verifier : Option (List ℕ)) (bytes : List ℕ) → IsServerFinal verifier bytes
         → server_final_of bytes ≡ Ok (option_and_then hash_of verifier) }
-    ensures server_final_place { (bytes : List ℕ) (at : ℕ) → (server_final_of bytes ≡ Err (Malformed at))
+    ensures server_final_position { (bytes : List ℕ) (at : ℕ) → (server_final_of bytes ≡ Err (Malformed at))
         ↔ LeavesAt InServerFinal bytes at }
 {}
 

@@ -8,6 +8,6 @@ abbrev pub is_among : List ℕ → List (List ℕ) → Bool
 is_among name names = list_any (λ other. bytes_eq name other) names
 
 -- the first place of a name, from 0
-abbrev pub place_of : List ℕ → List (List ℕ) → Option ℕ
-place_of name [] = None
-place_of name (other ∷ names) = if bytes_eq name other then Some 0 else option_map (λ place. suc place) (place_of name names)
+abbrev pub position_of : List ℕ → List (List ℕ) → Option ℕ
+position_of name [] = None
+position_of name (other ∷ names) = if bytes_eq name other then Some 0 else option_map (λ position. suc position) (position_of name names)

@@ -1,7 +1,7 @@
 //! Names that are found by an ordered index.
 ghost use Rattle.std.specs.Prelude.{◌≡◌, ◌<◌, false, [], ◌∷◌, ◌++◌, length, OnOk, OnErr, IfSome, IfNone, IsTrue, ◌↔◌};
 ghost use Rattle.std.specs.List.{slice_get};
-ghost use Rattle.base_io.specs.Names.{is_among, place_of};
+ghost use Rattle.base_io.specs.Names.{is_among, position_of};
 
 use crate::fault::NoMemory;
 use crate::list::Names;
@@ -14,20 +14,20 @@ use std::marker::Model;
 /// added.
 #[derive(Drop)]
 pub struct NameIndex {
-    places: BTreeMap<String, usize>,
+    positions: BTreeMap<String, usize>,
     names: Names,
 }
 
 impl Model for NameIndex {
     ghost use Rattle.std.specs.Prelude.{◌≡◌, ℕ, List};
     ghost use Rattle.std.specs.BTreeMap.{get_by_text};
-    ghost use Rattle.base_io.specs.Names.{place_of};
+    ghost use Rattle.base_io.specs.Names.{position_of};
 
     ghost Value = { List (List ℕ) };
 
     ghost view = { λ s. s.names.items };
 
-    ghost invariant = { λ s. (name : List ℕ) → get_by_text s.places name ≡ place_of name s.names.items };
+    ghost invariant = { λ s. (name : List ℕ) → get_by_text s.positions name ≡ position_of name s.names.items };
 }
 
 impl NameIndex {
@@ -36,7 +36,7 @@ impl NameIndex {
         ensures { result ≡ [] }
     {
         NameIndex {
-            places: BTreeMap::new(alloc),
+            positions: BTreeMap::new(alloc),
             names: Names::new(alloc),
         }
     }
@@ -50,19 +50,19 @@ impl NameIndex {
         self.names.reserve(1)?;
         let kept = Text::from_str(alloc, name)?;
         let key = String::from_str(alloc, name)?;
-        let place = self.names.as_slice().len();
-        self.places.insert(key, place)?;
+        let position = self.names.as_slice().len();
+        self.positions.insert(key, position)?;
         self.names.push_reserved(kept);
         Ok(())
     }
 
     /// The place of a name, from 0. It is found in a time that grows with the logarithm of their number.
     pub fn find(&self, name: &str) -> Option<usize>
-        ensures place { result ≡ place_of name.now self.now }
+        ensures position { result ≡ position_of name.now self.now }
         ensures there { IfSome result (λ i. (i < length self.now) × (slice_get self.now i ≡ Some name.now)) }
         ensures nowhere { IfNone result (is_among name.now self.now ≡ false) }
     {
-        self.places.get(name).copied()
+        self.positions.get(name).copied()
     }
 
     /// Whether a name was added.

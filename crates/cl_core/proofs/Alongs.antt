@@ -6,24 +6,24 @@ use Rattle.cl_handlers.specs.Clients as clients
 use Rattle.cl_core.specs.Feeds as feeds
 use Rattle.cl_handlers.specs.Speech.{in_bytes}
 use Rattle.cl_core.specs.Steps as steps
-use Rattle.cl_handlers.specs.Turns.{left}
+use Rattle.cl_handlers.specs.ClientSteps.{left}
 
-abbrev Turn : Type 0
-Turn = clients.Turn (List ℕ) ℕ
+abbrev ClientStep : Type 0
+ClientStep = clients.ClientStep (List ℕ) ℕ
 
-abbrev items_run : Turn → List Item → Turn
+abbrev items_run : ClientStep → List Item → ClientStep
 items_run = steps.items_run in_bytes
 
-abbrev item_step : Turn → Item → Turn
+abbrev item_step : ClientStep → Item → ClientStep
 item_step = steps.item_step in_bytes
 
-abbrev IsAlong : Turn → List Item → Turn → List Item → Type 0
+abbrev IsAlong : ClientStep → List Item → ClientStep → List Item → Type 0
 IsAlong = feeds.IsAlong in_bytes
 
-abbrev IsStopped : Turn → List Item → Turn → Type 0
+abbrev IsStopped : ClientStep → List Item → ClientStep → Type 0
 IsStopped = feeds.IsStopped in_bytes
 
-run_push : (t : Turn) (xs : List Item) (x : Item) → items_run t (xs ++ x ∷ []) ≡ item_step (items_run t xs) x
+run_push : (t : ClientStep) (xs : List Item) (x : Item) → items_run t (xs ++ x ∷ []) ≡ item_step (items_run t xs) x
 run_push t [] x = refl
 run_push t (y ∷ ys) x = run_push (item_step t y) ys x
 
@@ -52,11 +52,11 @@ take_all (suc n) [] e = refl
 take_all (suc n) (y ∷ ys) e = ap (λ (l : List Item). y ∷ l) (take_all n ys e)
 
 -- no item was taken yet
-pub along_begin : (t : Turn) (items : List Item) → IsAlong t items t items
+pub along_begin : (t : ClientStep) (items : List Item) → IsAlong t items t items
 along_begin t items = record { done = 0; within = omega arith; now_is = refl; rest_is = refl }
 
 -- one more item was taken
-pub along_step : (old : Turn) (items : List Item) (now next : Turn) (item : Item) (rest more : List Item) → IsAlong old items now rest → rest ≡ item ∷ more → next ≡ item_step now item → IsAlong old items next more
+pub along_step : (old : ClientStep) (items : List Item) (now next : ClientStep) (item : Item) (rest more : List Item) → IsAlong old items now rest → rest ≡ item ∷ more → next ≡ item_step now item → IsAlong old items next more
 along_step old items now next item rest more h e f =
     let front : drop h.done items ≡ item ∷ more = sym h.rest_is ∙ e in
     let below : h.done < length items = below_front h.done items item more front in
@@ -68,11 +68,11 @@ along_step old items now next item rest more h e f =
     }
 
 -- all items were taken
-pub along_end : (old : Turn) (items : List Item) (now : Turn) (rest : List Item) → IsAlong old items now rest → rest ≡ [] → now ≡ items_run old items
+pub along_end : (old : ClientStep) (items : List Item) (now : ClientStep) (rest : List Item) → IsAlong old items now rest → rest ≡ [] → now ≡ items_run old items
 along_end old items now rest h e = h.now_is ∙ ap (items_run old) (take_all h.done items (sym h.rest_is ∙ e))
 
 -- the next item has no effect
-pub along_stop : (old : Turn) (items : List Item) (now next : Turn) (rest : List Item) → IsAlong old items now rest → next ≡ left now → IsStopped old items next
+pub along_stop : (old : ClientStep) (items : List Item) (now next : ClientStep) (rest : List Item) → IsAlong old items now rest → next ≡ left now → IsStopped old items next
 along_stop old items now next rest h e = record { done = h.done; within = h.within; turn = e ∙ ap left h.now_is }
 
 take_whole : (xs more : List Item) → take (length xs) (xs ++ more) ≡ xs
@@ -84,8 +84,8 @@ within_whole [] more = omega arith
 within_whole (y ∷ ys) more = let h : length ys ≤ length (ys ++ more) = within_whole ys more in omega arith
 
 -- all that came had its effect, which may be less than what was due
-pub stopped_behind : (old : Turn) (front all : List Item) (now next : Turn) → IsFrontOf front all → now ≡ items_run old front → next ≡ left now → IsStopped old all next
-stopped_behind old front all now next h e f =
+pub stopped_after : (old : ClientStep) (front all : List Item) (now next : ClientStep) → IsFrontOf front all → now ≡ items_run old front → next ≡ left now → IsStopped old all next
+stopped_after old front all now next h e f =
     rw h.1 (record {
       done = length front;
       within = within_whole front h.0;
@@ -93,8 +93,8 @@ stopped_behind old front all now next h e f =
     })
 
 -- all that was due had its effect
-pub stopped_at_end : (old : Turn) (all : List Item) (now next : Turn) → now ≡ items_run old all → next ≡ left now → IsStopped old all next
-stopped_at_end old all now next e f = stopped_behind old all all now next ([], sym (append_nil_items all)) e f
+pub stopped_at_end : (old : ClientStep) (all : List Item) (now next : ClientStep) → now ≡ items_run old all → next ≡ left now → IsStopped old all next
+stopped_at_end old all now next e f = stopped_after old all all now next ([], sym (append_nil_items all)) e f
   where
     append_nil_items : (xs : List Item) → xs ++ [] ≡ xs
     append_nil_items [] = refl
@@ -106,7 +106,7 @@ take_shorter (suc n) [] more h = absurd (omega arith)
 take_shorter (suc n) (y ∷ ys) more h = let k : n ≤ length ys = omega arith in ap (λ (l : List Item). y ∷ l) (take_shorter n ys more k)
 
 -- what stopped among the first items stopped among all
-pub stopped_among : (old : Turn) (front all : List Item) (next : Turn) → IsFrontOf front all → IsStopped old front next → IsStopped old all next
+pub stopped_among : (old : ClientStep) (front all : List Item) (next : ClientStep) → IsFrontOf front all → IsStopped old front next → IsStopped old all next
 stopped_among old front all next h s =
     rw h.1 (record {
       done = s.done;

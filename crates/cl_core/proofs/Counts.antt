@@ -2,14 +2,14 @@
 use Rattle.std.proofs.Common.{◌≡◌, ℕ, Bool, true, false, List, Option, Some, None, Result, Ok, Err, IsSome, ap, refl, sym, ◌∙◌, if◌then◌else◌, nat_le, length, codes, ◌&&◌, is_some}
 use Rattle.std.specs.Option.{option_map}
 use Rattle.cl_handlers.specs.AckRows.{request_row}
-use Rattle.cl_handlers.specs.Clients.{Turn}
+use Rattle.cl_handlers.specs.Clients.{ClientStep}
 use Rattle.cl_core.specs.Counting.{counted, counted_session, management_in}
 use Rattle.cl_handlers.specs.MessageRows.{bounce_of, error_within, held_by, held_row, is_own_or_absent, live_in, logged, message_with, other_message, own_id, refuses, result_row, result_to, tells_where}
 use Rattle.cl_core.specs.PageRows.{answer_to, answered_page, begins_page, error_of_page, goes_on, iq_by, is_not_found, is_ping, next_queryid, numbered, only_fin, page_answered, page_done, page_ended, page_stanza, requests, restarts, result_of_page}
 use Rattle.cl_handlers.specs.SessionRows.{is_stanza}
 use Rattle.cl_handlers.specs.Speech.{in_bytes}
 use Rattle.cl_core.specs.Steps.{handles, online_in, stanza_row, told_row}
-use Rattle.cl_handlers.specs.Turns.{ends, has_to_put, put_in, tells, with_log}
+use Rattle.cl_handlers.specs.ClientSteps.{ends, has_to_put, put_in, tells, with_log}
 use Rattle.cl_handlers.specs.declared.events.CatchUpFault.TheVariants.{Overrun, Refused}
 use Rattle.cl_handlers.specs.declared.events.Event.{Event}
 use Rattle.cl_handlers.specs.declared.events.Event.TheVariants.{PageDone}
@@ -43,7 +43,7 @@ use Rattle.xml_trees.specs.Trees.{Elem}
 use Rattle.xml_writer.specs.Items.{written_item}
 
 abbrev T : Type 0
-T = Turn (List ℕ) ℕ
+T = ClientStep (List ℕ) ℕ
 
 abbrev S : Type 0
 S = SessionView (List ℕ)

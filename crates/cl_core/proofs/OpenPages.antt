@@ -2,7 +2,7 @@
 use Rattle.std.proofs.Common.{◌≡◌, ℕ, Bool, true, false, List, Option, Some, None, Result, Ok, IfSome, IsSome, is_some, ◌&&◌, refl, ap, sym, if◌then◌else◌, ◌∙◌}
 use Rattle.std.specs.Option.{option_and_then, option_map}
 use Rattle.std.specs.Str.{bytes_eq}
-use Rattle.cl_handlers.specs.Clients.{Turn}
+use Rattle.cl_handlers.specs.Clients.{ClientStep}
 use Rattle.cl_handlers.specs.MessageRows.{is_own_or_absent, refuses}
 use Rattle.cl_core.specs.PageRows.{answered_page, error_of_page, is_not_found, page_answered, restarts}
 use Rattle.cl_handlers.specs.Speech.{in_bytes}
@@ -14,7 +14,7 @@ use Rattle.im_stanza.specs.declared.errors.StanzaError.{StanzaError}
 use Rattle.im_stanza.specs.declared.fault.StanzaErrorFault.{StanzaErrorFault}
 
 abbrev T : Type 0
-T = Turn (List ℕ) ℕ
+T = ClientStep (List ℕ) ℕ
 
 some_if : (c : Bool) (page : OpenPage) → c ≡ is_some (if c then Some page else None)
 some_if true page = refl
@@ -75,10 +75,10 @@ refused_row : (c : Bool) (a b now : T) → c ≡ false → now ≡ b → now ≡
 refused_row true a b now is done = absurd (cc is)
 refused_row false a b now is done = done
 
-pub kept_place : (t now : T) (o : Option OpenPage) (id : List ℕ) (page : OpenPage) (error : StanzaError) (read : Result StanzaError StanzaErrorFault) → page_for id o ≡ Some page → read ≡ Ok error
+pub kept_position : (t now : T) (o : Option OpenPage) (id : List ℕ) (page : OpenPage) (error : StanzaError) (read : Result StanzaError StanzaErrorFault) → page_for id o ≡ Some page → read ≡ Ok error
     → is_not_found error.condition ≡ true → is_some (option_and_then (λ (page : OpenPage). page.after) o) ≡ true
     → (IsSome page.after → now ≡ restarts in_bytes t t.client.session page.max) → now ≡ error_of_page in_bytes t page read
-kept_place t now o id page error read found is missing there by =
+kept_position t now o id page error read found is missing there by =
     let after : is_some page.after ≡ true = sym (has_after o id page found) ∙ there in
     by_row (is_not_found error.condition) (is_some page.after) missing after ∙ ap (error_of_page in_bytes t page) (sym is)
   where
@@ -87,9 +87,9 @@ kept_place t now o id page error read found is missing there by =
     by_row true false e f = absurd (cc f)
     by_row false b e f = absurd (cc e)
 
-pub no_place : (t now : T) (o : Option OpenPage) (id : List ℕ) (page : OpenPage) (error : StanzaError) (read : Result StanzaError StanzaErrorFault) → page_for id o ≡ Some page → read ≡ Ok error
+pub no_position : (t now : T) (o : Option OpenPage) (id : List ℕ) (page : OpenPage) (error : StanzaError) (read : Result StanzaError StanzaErrorFault) → page_for id o ≡ Some page → read ≡ Ok error
     → (is_not_found error.condition && is_some (option_and_then (λ (page : OpenPage). page.after) o)) ≡ false → now ≡ refuses t (Refused error.condition) → now ≡ error_of_page in_bytes t page read
-no_place t now o id page error read found is other done =
+no_position t now o id page error read found is other done =
     refused_row (is_not_found error.condition && is_some page.after) (restarts in_bytes t t.client.session page.max) (refuses t (Refused error.condition)) now
     (ap (λ b. is_not_found error.condition && b) (sym (has_after o id page found)) ∙ other) done
     ∙ ap (error_of_page in_bytes t page) (sym is)

@@ -3,10 +3,10 @@ use Rattle.std.proofs.Common.{◌≡◌, ℕ, List, Option, Some, None, IsSome, 
 use Rattle.sm_acks.specs.declared.end.TheConstants.{MOST_UNACKNOWLEDGED}
 use Rattle.cl_handlers.specs.Acks.{HasFewer}
 use Rattle.cl_core.specs.Asking.{asks_in, queues_in}
-use Rattle.cl_handlers.specs.Clients.{Turn}
+use Rattle.cl_handlers.specs.Clients.{ClientStep}
 use Rattle.cl_handlers.specs.Speech.{in_bytes}
 use Rattle.cl_core.specs.Feeds.{Fed}
-use Rattle.cl_handlers.specs.Turns.{drops, left, puts_footer, with_log}
+use Rattle.cl_handlers.specs.ClientSteps.{drops, left, puts_footer, with_log}
 use Rattle.cl_core.specs.UserCalls.{catches_up, catches_up_in, closes, dials, submits}
 use Rattle.cl_handlers.specs.LoginSteps.{follows}
 use Rattle.cl_login.specs.LoginRows.{begin_row}
@@ -20,7 +20,7 @@ use Rattle.sm_outbox.specs.declared.said.Said.{Said}
 use Rattle.im_requests.specs.Messages.{page_text, queryid_text}
 
 abbrev T : Type 0
-T = Turn (List ℕ) ℕ
+T = ClientStep (List ℕ) ℕ
 
 abbrev S : Type 0
 S = SessionView (List ℕ)
@@ -68,9 +68,9 @@ caught_up t now log queryid max number stanza some is_number is_id is_stanza is_
 -- ---- connections
 
 -- what a login begins with goes out on the new connection
-pub dialed : (f new : Fed (List ℕ) ℕ) (now : Turn (List ℕ) ℕ) (entropy : List ℕ) → now ≡ follows in_bytes f.turn (begin_row f.turn.client.account.login.domain entropy)
+pub dialed : (f new : Fed (List ℕ) ℕ) (now : ClientStep (List ℕ) ℕ) (entropy : List ℕ) → now ≡ follows in_bytes f.turn (begin_row f.turn.client.account.login.domain entropy)
     → new ≡ record { framer = Some (from_start client_limits); turn = now } → new ≡ dials in_bytes entropy f
-dialed f new now entropy same is = is ∙ ap (λ (t : Turn (List ℕ) ℕ). record { framer = Some (from_start client_limits); turn = t }) same
+dialed f new now entropy same is = is ∙ ap (λ (t : ClientStep (List ℕ) ℕ). record { framer = Some (from_start client_limits); turn = t }) same
 
 -- the footer goes out, and the session ends
 pub closed : (f new : Fed (List ℕ) ℕ) (u : T) → u ≡ puts_footer in_bytes f.turn → new ≡ record { framer = None; turn = drops in_bytes (left u) } → new ≡ closes in_bytes f

@@ -2,11 +2,11 @@
 use Rattle.std.proofs.Common.{◌≡◌, ℕ, true, false, List, [], ◌∷◌, Some, None, Err, refl, codes}
 use Rattle.std.specs.Option.{option_map}
 use Rattle.cl_handlers.specs.AckRows.{ack_row}
-use Rattle.cl_handlers.specs.Clients.{ClientView, Turn}
+use Rattle.cl_handlers.specs.Clients.{ClientStep, ClientView}
 use Rattle.cl_core.specs.PageRows.{restarts}
 use Rattle.cl_handlers.specs.SessionRows.{begins, begins_epoch, failed_row, resumed_row, resumes_or_binds}
 use Rattle.cl_handlers.specs.Speech.{in_items, Acknowledged as AcknowledgedNote, Ended as EndedNote}
-use Rattle.cl_handlers.specs.Turns.{left}
+use Rattle.cl_handlers.specs.ClientSteps.{left}
 use Rattle.cl_core.specs.UserCalls.{catch_up_answer, catches_up}
 use Rattle.cl_handlers.specs.declared.account.Account.{Account}
 use Rattle.cl_handlers.specs.declared.events.Event.TheVariants.{Acked, Ended, ResumeFailed, Resumed}
@@ -50,7 +50,7 @@ session = record { previd = a; waiting = three }
 abbrev bound : ClientView ItemOut
 bound = record { account = account; log = empty_log; said = record { settled = []; waiting = one StillWaiting ∷ [] }; epoch = 1; n = 1; pages = 0; session = Some session; phase = phase.Online }
 
-abbrev now : Turn ItemOut ItemOut
+abbrev now : ClientStep ItemOut ItemOut
 now = record { client = bound; out = record { put = []; events = []; notes = [] } }
 
 -- ---- acknowledgements

@@ -1,13 +1,13 @@
 -- The client's step over whole items: the rows of its states.
 use Rattle.std.specs.Prelude.{ℕ, List, [], ◌∷◌, Option, Some, None, Result, Ok, Err, codes, if◌then◌else◌, unwrap_or}
 use Rattle.cl_handlers.specs.AckRows.{ack_row, request_row}
-use Rattle.cl_handlers.specs.Clients.{Turn}
+use Rattle.cl_handlers.specs.Clients.{ClientStep}
 use Rattle.cl_handlers.specs.LoginSteps.{header_row, login_row}
 use Rattle.cl_handlers.specs.MessageRows.{message_row}
 use Rattle.cl_core.specs.PageRows.{iq_row}
 use Rattle.cl_handlers.specs.SessionRows.{binding_row, enabling_row, features2_row, is_stanza, resuming_row}
 use Rattle.cl_handlers.specs.Speech.{Speech, Handled}
-use Rattle.cl_handlers.specs.Turns.{ends, is_apart, notes, with_session}
+use Rattle.cl_handlers.specs.ClientSteps.{ends, is_apart, notes, with_session}
 use Rattle.cl_handlers.specs.declared.events.PeerFault.TheVariants.{Closed, Stream}
 use Rattle.cl_handlers.specs.declared.phase.Phase.{Phase}
 use Rattle.cl_handlers.specs.declared.phase.Phase.TheVariants as phase
@@ -30,21 +30,21 @@ use Rattle.xml_trees.specs.Trees.{Elem, nodes_of}
 -- ---- online
 
 -- a stanza of the server is handled
-abbrev pub handles : {A X : Type 0} → Speech A X → Turn A X → SessionView A → Elem → Turn A X
+abbrev pub handles : {A X : Type 0} → Speech A X → ClientStep A X → SessionView A → Elem → ClientStep A X
 handles speech t s e = notes speech (with_session t s (counted_in s.waiting)) (Handled e)
 
 -- One that can't be read is counted, and dropped.
-abbrev pub stanza_row : {A X : Type 0} → Speech A X → Turn A X → Result Stanza StanzaFault → Turn A X
+abbrev pub stanza_row : {A X : Type 0} → Speech A X → ClientStep A X → Result Stanza StanzaFault → ClientStep A X
 stanza_row speech t (Ok (Message m)) = message_row t m
 stanza_row speech t (Ok (Iq q)) = iq_row speech t q
 stanza_row speech t (Ok (Presence p)) = t
 stanza_row speech t (Err fault) = t
 
-abbrev pub told_row : {A X : Type 0} → Speech A X → Turn A X → SessionView A → Result Ack ExtFault → Turn A X
+abbrev pub told_row : {A X : Type 0} → Speech A X → ClientStep A X → SessionView A → Result Ack ExtFault → ClientStep A X
 told_row speech t s (Ok ack) = ack_row speech t s ack.h
 told_row speech t s (Err why) = t
 
-abbrev pub online_in : {A X : Type 0} → Speech A X → Turn A X → Option (SessionView A) → Elem → Turn A X
+abbrev pub online_in : {A X : Type 0} → Speech A X → ClientStep A X → Option (SessionView A) → Elem → ClientStep A X
 online_in speech t None e = t
 online_in speech t (Some s) e =
     if is_stanza e then stanza_row speech (handles speech t s e) (stanza_of e)
@@ -52,7 +52,7 @@ online_in speech t (Some s) e =
 
 -- ---- elements
 
-abbrev pub element_row : {A X : Type 0} → Speech A X → Turn A X → Phase → Elem → Turn A X
+abbrev pub element_row : {A X : Type 0} → Speech A X → ClientStep A X → Phase → Elem → ClientStep A X
 element_row speech t phase.Apart e = t
 element_row speech t (phase.Login state) e = login_row speech t state e
 element_row speech t phase.Features2 e = features2_row speech t e
@@ -65,21 +65,21 @@ element_row speech t phase.Online e = online_in speech t t.client.session e
 abbrev pub stream_condition : Elem → List ℕ
 stream_condition e = unwrap_or (condition_in stream_errors_ns (nodes_of e)) (codes "undefined-condition")
 
-abbrev pub element_step : {A X : Type 0} → Speech A X → Turn A X → Elem → Turn A X
+abbrev pub element_step : {A X : Type 0} → Speech A X → ClientStep A X → Elem → ClientStep A X
 element_step speech t e =
     if is_named streams_ns (codes "error") e then ends t (Stream (stream_condition e)) else element_row speech t t.client.phase e
 
 -- ---- items
 
-abbrev pub connected_step : {A X : Type 0} → Speech A X → Turn A X → Item → Turn A X
+abbrev pub connected_step : {A X : Type 0} → Speech A X → ClientStep A X → Item → ClientStep A X
 connected_step speech t (Header at header) = header_row speech t t.client.phase
 connected_step speech t (Element e) = element_step speech t e
 connected_step speech t Footer = ends t Closed
 
 -- an item that comes where no connection stands does nothing
-abbrev pub item_step : {A X : Type 0} → Speech A X → Turn A X → Item → Turn A X
+abbrev pub item_step : {A X : Type 0} → Speech A X → ClientStep A X → Item → ClientStep A X
 item_step speech t item = if is_apart t.client.phase then t else connected_step speech t item
 
-abbrev pub items_run : {A X : Type 0} → Speech A X → Turn A X → List Item → Turn A X
+abbrev pub items_run : {A X : Type 0} → Speech A X → ClientStep A X → List Item → ClientStep A X
 items_run speech t [] = t
 items_run speech t (item ∷ items) = items_run speech (item_step speech t item) items

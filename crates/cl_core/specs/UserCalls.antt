@@ -1,11 +1,11 @@
 -- What the user calls: dial, gone, forget, close, say, catch_up.
 use Rattle.std.specs.Prelude.{ℕ, nat_lt, nat_le, Bool, true, ◌||◌, not, List, Option, Some, None, Result, Ok, Err, length, if◌then◌else◌, is_some}
-use Rattle.cl_handlers.specs.Clients.{ClientView, Turn}
+use Rattle.cl_handlers.specs.Clients.{ClientStep, ClientView}
 use Rattle.cl_core.specs.Feeds.{Fed}
 use Rattle.cl_handlers.specs.LoginSteps.{follows}
 use Rattle.cl_core.specs.PageRows.{begins_page, requests}
 use Rattle.cl_handlers.specs.Speech.{Speech}
-use Rattle.cl_handlers.specs.Turns.{drops, left, puts_footer}
+use Rattle.cl_handlers.specs.ClientSteps.{drops, left, puts_footer}
 use Rattle.cl_core.specs.declared.faults.CatchUpStart.{CatchUpStart}
 use Rattle.cl_core.specs.declared.faults.CatchUpStart.TheVariants as start
 use Rattle.cl_core.specs.declared.faults.SayFault.{SayFault}
@@ -61,12 +61,12 @@ say_answer c text = if is_bad_text text then Err say.BadText else say_in c c.ses
 abbrev pub submission_of : {A : Type 0} → ClientView A → List ℕ → List ℕ → Bool → ItemOut
 submission_of c to text private = submission_item (origin_of c.account.resource c.epoch (next_number c.n)) to text private
 
-abbrev pub submits : {A X : Type 0} → Speech A X → Turn A X → Option (SessionView A) → A → Said → Turn A X
+abbrev pub submits : {A X : Type 0} → Speech A X → ClientStep A X → Option (SessionView A) → A → Said → ClientStep A X
 submits speech t None stanza said = t
 submits speech t (Some s) stanza said =
     requests speech (record t { client = record t.client { n = said.n; said = with_said t.client.said said } }) s stanza true
 
-abbrev pub says : {A X : Type 0} → Speech A X → Turn A X → List ℕ → List ℕ → Bool → Turn A X
+abbrev pub says : {A X : Type 0} → Speech A X → ClientStep A X → List ℕ → List ℕ → Bool → ClientStep A X
 says speech t to text private =
     submits speech t t.client.session (speech.say (submission_of t.client to text private)) (said_of t.client.epoch t.client.n to text private)
 
@@ -81,9 +81,9 @@ catch_up_in c (Some s) =
 abbrev pub catch_up_answer : {A : Type 0} → ClientView A → Result (Unit {0}) CatchUpStart
 catch_up_answer c = catch_up_in c c.session
 
-abbrev pub catches_up_in : {A X : Type 0} → Speech A X → Turn A X → Option (SessionView A) → ℕ → Turn A X
+abbrev pub catches_up_in : {A X : Type 0} → Speech A X → ClientStep A X → Option (SessionView A) → ℕ → ClientStep A X
 catches_up_in speech t None max = t
 catches_up_in speech t (Some s) max = begins_page speech t s max
 
-abbrev pub catches_up : {A X : Type 0} → Speech A X → Turn A X → ℕ → Turn A X
+abbrev pub catches_up : {A X : Type 0} → Speech A X → ClientStep A X → ℕ → ClientStep A X
 catches_up speech t max = catches_up_in speech t t.client.session max

@@ -4,10 +4,10 @@ ghost use Rattle.std.specs.Option.{option_and_then};
 ghost use Rattle.cl_core.specs.Feeds.{IsMemoryLost, IsStopped, bytes_step, fed, kept_while, read};
 ghost use Rattle.cl_core.specs.Making.{fresh};
 ghost use Rattle.cl_handlers.specs.Speech.{in_bytes};
-ghost use Rattle.cl_handlers.specs.Turns.{is_apart};
+ghost use Rattle.cl_handlers.specs.ClientSteps.{is_apart};
 ghost use Rattle.cl_core.specs.UserCalls.{catch_up_answer, catches_up, closes, dials, forgets, leaves, say_answer, says};
-ghost use Rattle.cl_core.specs.Values.{fed_of, forgotten, turn_in};
-ghost use Rattle.cl_handlers.specs.Views.{turn_of};
+ghost use Rattle.cl_core.specs.Values.{client_step_in, fed_of, forgotten};
+ghost use Rattle.cl_handlers.specs.Views.{client_step_of};
 ghost use Rattle.cl_handlers.specs.declared.events.ClientOut.{ClientOut};
 ghost use Rattle.xml_framer.specs.Machine.{IsFrontOf, part_of};
 ghost use Rattle.xml_framer.specs.declared.items.Item.{Item};
@@ -48,9 +48,9 @@ impl Model for Client {
 }
 
 // Items that came before memory ran out. The connection is left.
-#[tactic(auto, using(crate::proofs::Alongs::stopped_behind, crate::proofs::Alongs::stopped_among))]
+#[tactic(auto, using(crate::proofs::Alongs::stopped_after, crate::proofs::Alongs::stopped_among))]
 fn take_first(state: &mut ClientState, alloc: Global, items: Items, out: &mut ClientOut)
-    ensures { (due : List Item) → IsFrontOf items.items due → IsStopped in_bytes (turn_of state.old out.old) due (turn_of state.new out.new) }
+    ensures { (due : List Item) → IsFrontOf items.items due → IsStopped in_bytes (client_step_of state.old out.old) due (client_step_of state.new out.new) }
 {
     match take_items(state, alloc, items, out) {
         Ok(()) => state.phase = Phase::Apart,
@@ -59,7 +59,7 @@ fn take_first(state: &mut ClientState, alloc: Global, items: Items, out: &mut Cl
 }
 
 // The items of a piece, and then the fault of its bytes. Want of memory leaves the connection.
-#[tactic(auto, using(crate::proofs::Alongs::stopped_behind, crate::proofs::Alongs::stopped_at_end, crate::proofs::Alongs::stopped_among))]
+#[tactic(auto, using(crate::proofs::Alongs::stopped_after, crate::proofs::Alongs::stopped_at_end, crate::proofs::Alongs::stopped_among))]
 fn take_piece(
     state: &mut ClientState,
     framer: &mut Framer,
@@ -67,8 +67,8 @@ fn take_piece(
     piece: &[u8],
     out: &mut ClientOut,
 ) -> Result<(), NoMemory>
-    ensures ok { OnOk result (fed in_bytes (turn_of state.old out.old) (read framer.old piece.now) ≡ kept_while (turn_of state.new out.new) framer.new) }
-    ensures memory { OnErr result (IsStopped in_bytes (turn_of state.old out.old) (read framer.old piece.now).items (turn_of state.new out.new)) }
+    ensures ok { OnOk result (fed in_bytes (client_step_of state.old out.old) (read framer.old piece.now) ≡ kept_while (client_step_of state.new out.new) framer.new) }
+    ensures memory { OnErr result (IsStopped in_bytes (client_step_of state.old out.old) (read framer.old piece.now).items (client_step_of state.new out.new)) }
 {
     let mut items = ListOf::new(alloc);
     match framer.feed(piece, &mut items) {
@@ -194,8 +194,8 @@ impl Client {
         out: &mut ClientOut,
     ) -> Result<u64, SayFault>
         ensures exact { (result ≡ Err SayFault.NoMemory) ⊎ (result ≡ say_answer self.old.client text.now) }
-        ensures ok { OnOk result (turn_in self.new out.new ≡ says in_bytes (turn_in self.old out.old) to.now text.now private) }
-        ensures err { OnErr result (turn_in self.new out.new ≡ turn_in self.old out.old) }
+        ensures ok { OnOk result (client_step_in self.new out.new ≡ says in_bytes (client_step_in self.old out.old) to.now text.now private) }
+        ensures err { OnErr result (client_step_in self.new out.new ≡ client_step_in self.old out.old) }
         ensures framer { self.new.framer ≡ self.old.framer }
     {
         say(&mut self.state, alloc, to.text(), text, private, out)
@@ -212,8 +212,8 @@ impl Client {
     ) -> Result<(), CatchUpStart>
         requires { (1 ≤ max) × (max ≤ MOST_RESULTS) }
         ensures exact { (result ≡ Err CatchUpStart.NoMemory) ⊎ (result ≡ catch_up_answer self.old.client) }
-        ensures ok { OnOk result (turn_in self.new out.new ≡ catches_up in_bytes (turn_in self.old out.old) max) }
-        ensures err { OnErr result (turn_in self.new out.new ≡ turn_in self.old out.old) }
+        ensures ok { OnOk result (client_step_in self.new out.new ≡ catches_up in_bytes (client_step_in self.old out.old) max) }
+        ensures err { OnErr result (client_step_in self.new out.new ≡ client_step_in self.old out.old) }
         ensures framer { self.new.framer ≡ self.old.framer }
     {
         catch_up(&mut self.state, alloc, max, out)

@@ -3,8 +3,8 @@ ghost use Rattle.std.specs.Prelude.{◌≡◌, Ok, IsSome, OnErr, OnOk};
 ghost use Rattle.cl_core.specs.Counting.{counted_client, management_in};
 ghost use Rattle.cl_handlers.specs.Speech.{in_bytes};
 ghost use Rattle.cl_core.specs.Steps.{online_in, stanza_row};
-ghost use Rattle.cl_handlers.specs.Turns.{left};
-ghost use Rattle.cl_handlers.specs.Views.{client_of, turn_of};
+ghost use Rattle.cl_handlers.specs.ClientSteps.{left};
+ghost use Rattle.cl_handlers.specs.Views.{client_of, client_step_of};
 
 use crate::requests::take_iq;
 use base_io::NoMemory;
@@ -32,8 +32,8 @@ fn take_stanza(
     stanza: Stanza,
     out: &mut ClientOut,
 ) -> Result<(), NoMemory>
-    ensures ok { OnOk result (turn_of state.new out.new ≡ stanza_row in_bytes (turn_of state.old out.old) (Ok stanza)) }
-    ensures err { OnErr result (left (turn_of state.new out.new) ≡ left (turn_of state.old out.old)) }
+    ensures ok { OnOk result (client_step_of state.new out.new ≡ stanza_row in_bytes (client_step_of state.old out.old) (Ok stanza)) }
+    ensures err { OnErr result (left (client_step_of state.new out.new) ≡ left (client_step_of state.old out.old)) }
 {
     match stanza {
         Stanza::Message(message) => state.message(alloc, &message, out),
@@ -49,8 +49,8 @@ fn management(
     tree: &Tree,
     out: &mut ClientOut,
 ) -> Result<(), NoMemory>
-    ensures ok { OnOk result (turn_of state.new out.new ≡ management_in in_bytes (turn_of state.old out.old) (client_of state.old).session tree.now) }
-    ensures err { OnErr result (turn_of state.new out.new ≡ turn_of state.old out.old) }
+    ensures ok { OnOk result (client_step_of state.new out.new ≡ management_in in_bytes (client_step_of state.old out.old) (client_of state.old).session tree.now) }
+    ensures err { OnErr result (client_step_of state.new out.new ≡ client_step_of state.old out.old) }
 {
     if let Ok(Request) = Request::read(tree) {
         return state.request(alloc, out);
@@ -69,8 +69,8 @@ pub(crate) fn online(
     tree: Tree,
     out: &mut ClientOut,
 ) -> Result<(), NoMemory>
-    ensures ok { OnOk result (turn_of state.new out.new ≡ online_in in_bytes (turn_of state.old out.old) (client_of state.old).session tree) }
-    ensures err { OnErr result (left (turn_of state.new out.new) ≡ left (turn_of state.old out.old)) }
+    ensures ok { OnOk result (client_step_of state.new out.new ≡ online_in in_bytes (client_step_of state.old out.old) (client_of state.old).session tree) }
+    ensures err { OnErr result (left (client_step_of state.new out.new) ≡ left (client_step_of state.old out.old)) }
 {
     if state.session.is_none() {
         return Ok(());

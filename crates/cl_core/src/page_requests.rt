@@ -6,7 +6,7 @@ ghost use Rattle.cl_handlers.specs.Acks.{HasFewer};
 ghost use Rattle.cl_core.specs.Asking.{asks_in};
 ghost use Rattle.cl_handlers.specs.Speech.{in_bytes};
 ghost use Rattle.cl_core.specs.UserCalls.{catch_up_answer, catches_up};
-ghost use Rattle.cl_handlers.specs.Views.{client_of, turn_of};
+ghost use Rattle.cl_handlers.specs.Views.{client_of, client_step_of};
 ghost use Rattle.mam_log.specs.LogPages.{last_id};
 ghost use Rattle.sm_outbox.specs.Sessions.{with_waiting};
 ghost use Rattle.sm_outbox.specs.Submissions.{next_number};
@@ -98,7 +98,7 @@ pub(crate) fn asking_for(
 }
 
 /// The request for the page behind the log's last entry. Nothing changes.
-fn asking_behind(state: &ClientState, alloc: Global, max: u32) -> Result<Asking, NoMemory>
+fn asking_after(state: &ClientState, alloc: Global, max: u32) -> Result<Asking, NoMemory>
     ensures number { IfOk result (λ asking. asking.number ≡ next_number state.now.pages) }
     ensures queryid { IfOk result (λ asking. asking.queryid ≡ queryid_text (next_number state.now.pages)) }
     ensures stanza { IfOk result (λ asking. asking.stanza.items ≡ page_text (queryid_text (next_number state.now.pages)) (last_id state.now.log.entries) max) }
@@ -114,8 +114,8 @@ pub(crate) fn make_place(
     events: usize,
     out: &mut ClientOut,
 ) -> Result<(), NoMemory>
-    ensures turn { turn_of state.new out.new ≡ turn_of state.old out.old }
-    ensures place { OnOk result (IfSome state.new.session (λ s. 1 ≤ s.spare)) }
+    ensures turn { client_step_of state.new out.new ≡ client_step_of state.old out.old }
+    ensures position { OnOk result (IfSome state.new.session (λ s. 1 ≤ s.spare)) }
     ensures room_bytes { OnOk result (length asking.now.stanza.items + length asking.now.request.items ≤ out.new.bytes.spare) }
     ensures room_events { OnOk result (events ≤ out.new.events.spare) }
 {
@@ -139,10 +139,10 @@ pub(crate) fn put_page(
     out: &mut ClientOut,
 )
     requires few { HasFewer MOST_UNACKNOWLEDGED (client_of state.old).session }
-    requires place { IfSome state.old.session (λ s. 1 ≤ s.spare) }
+    requires position { IfSome state.old.session (λ s. 1 ≤ s.spare) }
     requires room { length stanza.items + length request.now ≤ out.old.bytes.spare }
     requires request { request.now ≡ request_text }
-    ensures turn { turn_of state.new out.new ≡ asks_in in_bytes (turn_of state.old out.old) (client_of state.old).session number stanza.items }
+    ensures turn { client_step_of state.new out.new ≡ asks_in in_bytes (client_step_of state.old out.old) (client_of state.old).session number stanza.items }
     ensures events { out.new.events ≡ out.old.events }
 {
     let is_attached = state.is_online();
@@ -190,8 +190,8 @@ fn begin_page(
     requires queryid { asking.queryid ≡ queryid_text (next_number state.old.pages) }
     requires stanza { asking.stanza.items ≡ page_text (queryid_text (next_number state.old.pages)) (last_id state.old.log.entries) max }
     requires request { asking.request.items ≡ request_text }
-    ensures ok { OnOk result (turn_of state.new out.new ≡ catches_up in_bytes (turn_of state.old out.old) max) }
-    ensures err { OnErr result (turn_of state.new out.new ≡ turn_of state.old out.old) }
+    ensures ok { OnOk result (client_step_of state.new out.new ≡ catches_up in_bytes (client_step_of state.old out.old) max) }
+    ensures err { OnErr result (client_step_of state.new out.new ≡ client_step_of state.old out.old) }
 {
     make_place(state, &asking, 0, out)?;
     let Asking {
@@ -218,11 +218,11 @@ pub(crate) fn catch_up(
 ) -> Result<(), CatchUpStart>
     requires { (1 ≤ max) × (max ≤ MOST_RESULTS) }
     ensures exact { (result ≡ Err CatchUpStart.NoMemory) ⊎ (result ≡ catch_up_answer (client_of state.old)) }
-    ensures ok { OnOk result (turn_of state.new out.new ≡ catches_up in_bytes (turn_of state.old out.old) max) }
-    ensures err { OnErr result (turn_of state.new out.new ≡ turn_of state.old out.old) }
+    ensures ok { OnOk result (client_step_of state.new out.new ≡ catches_up in_bytes (client_step_of state.old out.old) max) }
+    ensures err { OnErr result (client_step_of state.new out.new ≡ client_step_of state.old out.old) }
 {
     may_catch_up(state)?;
-    let asking = asking_behind(state, alloc, max)?;
+    let asking = asking_after(state, alloc, max)?;
     begin_page(state, alloc, asking, max, out)?;
     Ok(())
 }

@@ -7,7 +7,7 @@ ghost use Rattle.cl_handlers.specs.MessageRows.{error_within, refuses};
 ghost use Rattle.cl_core.specs.PageRows;
 ghost use Rattle.cl_core.specs.PageRows.{answered_page, catch_up_fault, error_of_page, nothing_told, only_fin, page_answered, page_ended, restarts, result_of_page};
 ghost use Rattle.cl_handlers.specs.Speech.{in_bytes};
-ghost use Rattle.cl_handlers.specs.Views.{client_of, turn_of};
+ghost use Rattle.cl_handlers.specs.Views.{client_of, client_step_of};
 ghost use Rattle.mam_log.specs.Views.{OpenPage, end_of, page_for};
 ghost use Rattle.sm_outbox.specs.Submissions.{next_number};
 ghost use Rattle.im_replies.specs.Management.{request_text};
@@ -95,8 +95,8 @@ fn is_page(state: &ClientState, id: &str) -> bool
 }
 
 // Whether a session stands whose queue has place.
-fn has_place(state: &ClientState) -> bool
-    ensures value { result ≡ PageRows.has_place (client_of state.now).session }
+fn has_room(state: &ClientState) -> bool
+    ensures value { result ≡ PageRows.has_room (client_of state.now).session }
     ensures few { result ≡ true → HasFewer MOST_UNACKNOWLEDGED (client_of state.now).session }
 {
     match &state.session {
@@ -107,8 +107,8 @@ fn has_place(state: &ClientState) -> bool
 
 // Ends the catch-up before its last page.
 fn refuse(state: &mut ClientState, fault: CatchUpFault, out: &mut ClientOut) -> Result<(), NoMemory>
-    ensures ok { OnOk result (turn_of state.new out.new ≡ refuses (turn_of state.old out.old) fault) }
-    ensures err { OnErr result (turn_of state.new out.new ≡ turn_of state.old out.old) }
+    ensures ok { OnOk result (client_step_of state.new out.new ≡ refuses (client_step_of state.old out.old) fault) }
+    ensures err { OnErr result (client_step_of state.new out.new ≡ client_step_of state.old out.old) }
 {
     out.events.reserve(1)?;
     state.log.break_off();
@@ -119,7 +119,7 @@ fn refuse(state: &mut ClientState, fault: CatchUpFault, out: &mut ClientOut) -> 
 // Leaves the connection, since something has to be put and as many stanzas wait as may, where a session stands.
 fn leave_full(state: &mut ClientState, out: &mut ClientOut)
     requires room { 1 ≤ out.old.events.spare }
-    ensures { turn_of state.new out.new ≡ PageRows.leaves_full (turn_of state.old out.old) (client_of state.old).session }
+    ensures { client_step_of state.new out.new ≡ PageRows.leaves_full (client_step_of state.old out.old) (client_of state.old).session }
 {
     if state.session.is_some() {
         state.phase = Phase::Apart;
@@ -137,9 +137,9 @@ fn end_page(
     fin: &Fin,
     out: &mut ClientOut,
 ) -> Result<(), NoMemory>
-    requires last { (fin.now.complete || not (PageRows.has_place (client_of state.old).session)) ≡ true }
-    ensures ok { OnOk result ((page : OpenPage) → page_for queryid.now state.old.log.page ≡ Some page → turn_of state.new out.new ≡ page_ended in_bytes (turn_of state.old out.old) page fin.now (end_of state.old.log page fin.now)) }
-    ensures err { OnErr result (turn_of state.new out.new ≡ turn_of state.old out.old) }
+    requires last { (fin.now.complete || not (PageRows.has_room (client_of state.old).session)) ≡ true }
+    ensures ok { OnOk result ((page : OpenPage) → page_for queryid.now state.old.log.page ≡ Some page → client_step_of state.new out.new ≡ page_ended in_bytes (client_step_of state.old out.old) page fin.now (end_of state.old.log page fin.now)) }
+    ensures err { OnErr result (client_step_of state.new out.new ≡ client_step_of state.old out.old) }
 {
     out.events.reserve(2)?;
     match state.log.fin(alloc, queryid, fin) {
@@ -159,7 +159,7 @@ fn end_page(
 }
 
 // Ends the page, and asks for the next one where it isn't the last.
-#[tactic(auto, using(crate::proofs::PageEnds::complete, crate::proofs::PageEnds::more_place, crate::proofs::PageEnds::refused, crate::proofs::UserSteps::few_still))]
+#[tactic(auto, using(crate::proofs::PageEnds::complete, crate::proofs::PageEnds::more_position, crate::proofs::PageEnds::refused, crate::proofs::UserSteps::few_still))]
 fn end_and_go_on(
     state: &mut ClientState,
     alloc: Global,
@@ -168,14 +168,14 @@ fn end_and_go_on(
     asking: Asking,
     out: &mut ClientOut,
 ) -> Result<(), NoMemory>
-    requires place { PageRows.has_place (client_of state.old).session ≡ true }
+    requires position { PageRows.has_room (client_of state.old).session ≡ true }
     requires few { HasFewer MOST_UNACKNOWLEDGED (client_of state.old).session }
     requires number { asking.number ≡ next_number state.old.pages }
     requires queryid { asking.queryid ≡ queryid_text (next_number state.old.pages) }
     requires stanza { IfSome state.old.log.page (λ page. asking.stanza.items ≡ page_text (queryid_text (next_number state.old.pages)) fin.now.last page.max) }
     requires request { asking.request.items ≡ request_text }
-    ensures ok { OnOk result ((page : OpenPage) → page_for queryid.now state.old.log.page ≡ Some page → turn_of state.new out.new ≡ page_ended in_bytes (turn_of state.old out.old) page fin.now (end_of state.old.log page fin.now)) }
-    ensures err { OnErr result (turn_of state.new out.new ≡ turn_of state.old out.old) }
+    ensures ok { OnOk result ((page : OpenPage) → page_for queryid.now state.old.log.page ≡ Some page → client_step_of state.new out.new ≡ page_ended in_bytes (client_step_of state.old out.old) page fin.now (end_of state.old.log page fin.now)) }
+    ensures err { OnErr result (client_step_of state.new out.new ≡ client_step_of state.old out.old) }
 {
     make_place(state, &asking, 2, out)?;
     let Asking {
@@ -209,11 +209,11 @@ fn end_told(
     fin: &Fin,
     out: &mut ClientOut,
 ) -> Result<(), NoMemory>
-    ensures ok { OnOk result ((page : OpenPage) → page_for answer.now.id state.old.log.page ≡ Some page → turn_of state.new out.new ≡ page_ended in_bytes (turn_of state.old out.old) page fin.now (end_of state.old.log page fin.now)) }
-    ensures err { OnErr result (turn_of state.new out.new ≡ turn_of state.old out.old) }
+    ensures ok { OnOk result ((page : OpenPage) → page_for answer.now.id state.old.log.page ≡ Some page → client_step_of state.new out.new ≡ page_ended in_bytes (client_step_of state.old out.old) page fin.now (end_of state.old.log page fin.now)) }
+    ensures err { OnErr result (client_step_of state.new out.new ≡ client_step_of state.old out.old) }
 {
     let queryid = answer.id.as_str();
-    if fin.complete || !has_place(state) {
+    if fin.complete || !has_room(state) {
         return end_page(state, alloc, queryid, fin, out);
     }
     let Some(max) = state.log.most() else {
@@ -230,8 +230,8 @@ fn result_to_page(
     answer: &Iq,
     out: &mut ClientOut,
 ) -> Result<(), NoMemory>
-    ensures ok { OnOk result ((page : OpenPage) → page_for answer.now.id state.old.log.page ≡ Some page → turn_of state.new out.new ≡ result_of_page in_bytes (turn_of state.old out.old) page (only_fin (elements_of answer.now.payload))) }
-    ensures err { OnErr result (turn_of state.new out.new ≡ turn_of state.old out.old) }
+    ensures ok { OnOk result ((page : OpenPage) → page_for answer.now.id state.old.log.page ≡ Some page → client_step_of state.new out.new ≡ result_of_page in_bytes (client_step_of state.old out.old) page (only_fin (elements_of answer.now.payload))) }
+    ensures err { OnErr result (client_step_of state.new out.new ≡ client_step_of state.old out.old) }
 {
     match only_fin(alloc, answer.payload.as_slice())? {
         Some(fin) => end_told(state, alloc, answer, &fin, out),
@@ -251,14 +251,14 @@ fn restart(
     asking: Asking,
     out: &mut ClientOut,
 ) -> Result<(), NoMemory>
-    requires place { PageRows.has_place (client_of state.old).session ≡ true }
+    requires position { PageRows.has_room (client_of state.old).session ≡ true }
     requires few { HasFewer MOST_UNACKNOWLEDGED (client_of state.old).session }
     requires number { asking.number ≡ next_number state.old.pages }
     requires queryid { asking.queryid ≡ queryid_text (next_number state.old.pages) }
     requires stanza { IfSome state.old.log.page (λ page. asking.stanza.items ≡ page_text (queryid_text (next_number state.old.pages)) None page.max) }
     requires request { asking.request.items ≡ request_text }
-    ensures ok { OnOk result ((page : OpenPage) → page_for queryid.now state.old.log.page ≡ Some page → IsSome page.after → turn_of state.new out.new ≡ restarts in_bytes (turn_of state.old out.old) (client_of state.old).session page.max) }
-    ensures err { OnErr result (turn_of state.new out.new ≡ turn_of state.old out.old) }
+    ensures ok { OnOk result ((page : OpenPage) → page_for queryid.now state.old.log.page ≡ Some page → IsSome page.after → client_step_of state.new out.new ≡ restarts in_bytes (client_step_of state.old out.old) (client_of state.old).session page.max) }
+    ensures err { OnErr result (client_step_of state.new out.new ≡ client_step_of state.old out.old) }
 {
     make_place(state, &asking, 0, out)?;
     let Asking {
@@ -277,9 +277,9 @@ fn restart(
 // Breaks the catch-up off, since something has to be put and as many stanzas wait as may, where a session stands.
 #[tactic(auto, using(crate::proofs::PageEnds::full_anew))]
 fn break_full(state: &mut ClientState, out: &mut ClientOut)
-    requires full { PageRows.has_place (client_of state.old).session ≡ false }
+    requires full { PageRows.has_room (client_of state.old).session ≡ false }
     requires room { 1 ≤ out.old.events.spare }
-    ensures { (max : ℕ) → turn_of state.new out.new ≡ restarts in_bytes (turn_of state.old out.old) (client_of state.old).session max }
+    ensures { (max : ℕ) → client_step_of state.new out.new ≡ restarts in_bytes (client_step_of state.old out.old) (client_of state.old).session max }
 {
     if state.session.is_some() {
         state.log.break_off();
@@ -297,10 +297,10 @@ fn ask_anew(
     queryid: &str,
     out: &mut ClientOut,
 ) -> Result<(), NoMemory>
-    ensures ok { OnOk result ((page : OpenPage) → page_for queryid.now state.old.log.page ≡ Some page → IsSome page.after → turn_of state.new out.new ≡ restarts in_bytes (turn_of state.old out.old) (client_of state.old).session page.max) }
-    ensures err { OnErr result (turn_of state.new out.new ≡ turn_of state.old out.old) }
+    ensures ok { OnOk result ((page : OpenPage) → page_for queryid.now state.old.log.page ≡ Some page → IsSome page.after → client_step_of state.new out.new ≡ restarts in_bytes (client_step_of state.old out.old) (client_of state.old).session page.max) }
+    ensures err { OnErr result (client_step_of state.new out.new ≡ client_step_of state.old out.old) }
 {
-    if has_place(state) {
+    if has_room(state) {
         let Some(max) = state.log.most() else {
             return Ok(());
         };
@@ -313,19 +313,19 @@ fn ask_anew(
 }
 
 // The server answers the request for the open page by an error.
-#[tactic(auto, using(crate::proofs::OpenPages::kept_place, crate::proofs::OpenPages::no_place))]
+#[tactic(auto, using(crate::proofs::OpenPages::kept_position, crate::proofs::OpenPages::no_position))]
 fn error_to_page(
     state: &mut ClientState,
     alloc: Global,
     answer: &Iq,
     out: &mut ClientOut,
 ) -> Result<(), NoMemory>
-    ensures ok { OnOk result ((page : OpenPage) → page_for answer.now.id state.old.log.page ≡ Some page → turn_of state.new out.new ≡ error_of_page in_bytes (turn_of state.old out.old) page (error_within answer.now.payload)) }
-    ensures err { OnErr result (turn_of state.new out.new ≡ turn_of state.old out.old) }
+    ensures ok { OnOk result ((page : OpenPage) → page_for answer.now.id state.old.log.page ≡ Some page → client_step_of state.new out.new ≡ error_of_page in_bytes (client_step_of state.old out.old) page (error_within answer.now.payload)) }
+    ensures err { OnErr result (client_step_of state.new out.new ≡ client_step_of state.old out.old) }
 {
     match stanza_error_in(alloc, answer.payload.as_slice()) {
         Ok(error) => {
-            if is_not_found(&error.condition) && state.log.place().is_some() {
+            if is_not_found(&error.condition) && state.log.position().is_some() {
                 ask_anew(state, alloc, answer.id.as_str(), out)
             } else {
                 refuse(state, CatchUpFault::Refused(error.condition), out)
@@ -346,8 +346,8 @@ fn answer_to_page(
     answer: &Iq,
     out: &mut ClientOut,
 ) -> Result<(), NoMemory>
-    ensures ok { OnOk result ((page : OpenPage) → page_for answer.now.id state.old.log.page ≡ Some page → turn_of state.new out.new ≡ answered_page in_bytes (turn_of state.old out.old) answer.now page answer.now.kind) }
-    ensures err { OnErr result (turn_of state.new out.new ≡ turn_of state.old out.old) }
+    ensures ok { OnOk result ((page : OpenPage) → page_for answer.now.id state.old.log.page ≡ Some page → client_step_of state.new out.new ≡ answered_page in_bytes (client_step_of state.old out.old) answer.now page answer.now.kind) }
+    ensures err { OnErr result (client_step_of state.new out.new ≡ client_step_of state.old out.old) }
 {
     match answer.kind {
         IqKind::Result => result_to_page(state, alloc, answer, out),
@@ -364,8 +364,8 @@ pub(crate) fn answered(
     answer: &Iq,
     out: &mut ClientOut,
 ) -> Result<(), NoMemory>
-    ensures ok { OnOk result (turn_of state.new out.new ≡ page_answered in_bytes (turn_of state.old out.old) answer.now (page_for answer.now.id state.old.log.page)) }
-    ensures err { OnErr result (turn_of state.new out.new ≡ turn_of state.old out.old) }
+    ensures ok { OnOk result (client_step_of state.new out.new ≡ page_answered in_bytes (client_step_of state.old out.old) answer.now (page_for answer.now.id state.old.log.page)) }
+    ensures err { OnErr result (client_step_of state.new out.new ≡ client_step_of state.old out.old) }
 {
     if !is_page(state, answer.id.as_str()) {
         return Ok(());

@@ -2,8 +2,8 @@
 ghost use Rattle.std.specs.Prelude.{◌≡◌, ◌≤◌, ◌++◌, false, not, if◌then◌else◌, IfOk, OnErr, OnOk};
 ghost use Rattle.cl_core.specs.PageRows.{answer_to, iq_row, is_ping};
 ghost use Rattle.cl_handlers.specs.Speech.{in_bytes};
-ghost use Rattle.cl_handlers.specs.Turns.{has_to_put, left};
-ghost use Rattle.cl_handlers.specs.Views.{client_of, turn_of};
+ghost use Rattle.cl_handlers.specs.ClientSteps.{has_to_put, left};
+ghost use Rattle.cl_handlers.specs.Views.{client_of, client_step_of};
 ghost use Rattle.sm_outbox.specs.Sessions.{with_waiting};
 ghost use Rattle.sm_outbox.specs.Waiting.{is_full, queued};
 ghost use Rattle.xml_trees.specs.Readers.{elements_of};
@@ -92,8 +92,8 @@ pub(crate) fn put(
     stanza: Bytes,
     out: &mut ClientOut,
 ) -> Result<(), NoMemory>
-    ensures ok { OnOk result (turn_of state.new out.new ≡ has_to_put in_bytes (turn_of state.old out.old) (client_of state.old).session stanza.items) }
-    ensures err { OnErr result (turn_of state.new out.new ≡ turn_of state.old out.old) }
+    ensures ok { OnOk result (client_step_of state.new out.new ≡ has_to_put in_bytes (client_step_of state.old out.old) (client_of state.old).session stanza.items) }
+    ensures err { OnErr result (client_step_of state.new out.new ≡ client_step_of state.old out.old) }
 {
     let is_attached = state.is_online();
     let Some(mut session) = state.session.take() else {
@@ -117,8 +117,8 @@ pub(crate) fn take_iq(
     iq: &Iq,
     out: &mut ClientOut,
 ) -> Result<(), NoMemory>
-    ensures ok { OnOk result (turn_of state.new out.new ≡ iq_row in_bytes (turn_of state.old out.old) iq.now) }
-    ensures err { OnErr result (left (turn_of state.new out.new) ≡ left (turn_of state.old out.old)) }
+    ensures ok { OnOk result (client_step_of state.new out.new ≡ iq_row in_bytes (client_step_of state.old out.old) iq.now) }
+    ensures err { OnErr result (left (client_step_of state.new out.new) ≡ left (client_step_of state.old out.old)) }
 {
     match iq.kind {
         IqKind::Get => {

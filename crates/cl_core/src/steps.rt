@@ -3,8 +3,8 @@ ghost use Rattle.std.specs.Prelude.{◌≡◌, Some, IfOk, OnErr, OnOk};
 ghost use Rattle.cl_core.specs.Feeds.{IsStopped, with_fault};
 ghost use Rattle.cl_handlers.specs.Speech.{in_bytes};
 ghost use Rattle.cl_core.specs.Steps.{element_row, element_step, item_step, items_run, stream_condition};
-ghost use Rattle.cl_handlers.specs.Turns.{left};
-ghost use Rattle.cl_handlers.specs.Views.{turn_of};
+ghost use Rattle.cl_handlers.specs.ClientSteps.{left};
+ghost use Rattle.cl_handlers.specs.Views.{client_step_of};
 
 use crate::online::online;
 use base_io::{NoMemory, Text};
@@ -32,8 +32,8 @@ fn by_phase(
     tree: Tree,
     out: &mut ClientOut,
 ) -> Result<(), NoMemory>
-    ensures ok { OnOk result (turn_of state.new out.new ≡ element_row in_bytes (turn_of state.old out.old) state.old.phase tree) }
-    ensures err { OnErr result (left (turn_of state.new out.new) ≡ left (turn_of state.old out.old)) }
+    ensures ok { OnOk result (client_step_of state.new out.new ≡ element_row in_bytes (client_step_of state.old out.old) state.old.phase tree) }
+    ensures err { OnErr result (left (client_step_of state.new out.new) ≡ left (client_step_of state.old out.old)) }
 {
     let phase = mem::replace(&mut state.phase, Phase::Apart);
     match phase {
@@ -69,8 +69,8 @@ fn take_element(
     tree: Tree,
     out: &mut ClientOut,
 ) -> Result<(), NoMemory>
-    ensures ok { OnOk result (turn_of state.new out.new ≡ element_step in_bytes (turn_of state.old out.old) tree) }
-    ensures err { OnErr result (left (turn_of state.new out.new) ≡ left (turn_of state.old out.old)) }
+    ensures ok { OnOk result (client_step_of state.new out.new ≡ element_step in_bytes (client_step_of state.old out.old) tree) }
+    ensures err { OnErr result (left (client_step_of state.new out.new) ≡ left (client_step_of state.old out.old)) }
 {
     if tree.element().is(STREAMS, "error") {
         let condition = condition_of(alloc, &tree)?;
@@ -86,8 +86,8 @@ fn take_item(
     item: Item,
     out: &mut ClientOut,
 ) -> Result<(), NoMemory>
-    ensures ok { OnOk result (turn_of state.new out.new ≡ item_step in_bytes (turn_of state.old out.old) item) }
-    ensures err { OnErr result (left (turn_of state.new out.new) ≡ left (turn_of state.old out.old)) }
+    ensures ok { OnOk result (client_step_of state.new out.new ≡ item_step in_bytes (client_step_of state.old out.old) item) }
+    ensures err { OnErr result (left (client_step_of state.new out.new) ≡ left (client_step_of state.old out.old)) }
 {
     if state.is_apart() {
         return Ok(());
@@ -108,8 +108,8 @@ pub(crate) fn take_items(
     items: Items,
     out: &mut ClientOut,
 ) -> Result<(), NoMemory>
-    ensures ok { OnOk result (turn_of state.new out.new ≡ items_run in_bytes (turn_of state.old out.old) items.items) }
-    ensures memory { OnErr result (IsStopped in_bytes (turn_of state.old out.old) items.items (turn_of state.new out.new)) }
+    ensures ok { OnOk result (client_step_of state.new out.new ≡ items_run in_bytes (client_step_of state.old out.old) items.items) }
+    ensures memory { OnErr result (IsStopped in_bytes (client_step_of state.old out.old) items.items (client_step_of state.new out.new)) }
 {
     for item in items.into_items() {
         if let Err(NoMemory) = take_item(state, alloc, item, out) {
@@ -126,8 +126,8 @@ pub(crate) fn take_fault(
     fault: Fault,
     out: &mut ClientOut,
 ) -> Result<(), NoMemory>
-    ensures ok { OnOk result (turn_of state.new out.new ≡ with_fault (turn_of state.old out.old) (Some fault)) }
-    ensures err { OnErr result (turn_of state.new out.new ≡ left (turn_of state.old out.old)) }
+    ensures ok { OnOk result (client_step_of state.new out.new ≡ with_fault (client_step_of state.old out.old) (Some fault)) }
+    ensures err { OnErr result (client_step_of state.new out.new ≡ left (client_step_of state.old out.old)) }
 {
     if state.is_apart() {
         return Ok(());

@@ -4,7 +4,7 @@ ghost use Rattle.cl_handlers.specs.Acks.{HasFewer};
 ghost use Rattle.cl_core.specs.Asking.{queues_in};
 ghost use Rattle.cl_handlers.specs.Speech.{in_bytes};
 ghost use Rattle.cl_core.specs.UserCalls.{is_bad_text, say_answer, says, submission_of};
-ghost use Rattle.cl_handlers.specs.Views.{client_of, turn_of};
+ghost use Rattle.cl_handlers.specs.Views.{client_of, client_step_of};
 ghost use Rattle.im_replies.specs.Management.{request_text};
 ghost use Rattle.xml_writer.specs.Items.{written_item};
 
@@ -83,8 +83,8 @@ fn submit(
 ) -> Result<(), NoMemory>
     requires few { HasFewer 1000 (client_of state.old).session }
     requires request { request.now ≡ request_text }
-    ensures ok { OnOk result (turn_of state.new out.new ≡ queues_in in_bytes (turn_of state.old out.old) (client_of state.old).session stanza.items) }
-    ensures err { OnErr result (turn_of state.new out.new ≡ turn_of state.old out.old) }
+    ensures ok { OnOk result (client_step_of state.new out.new ≡ queues_in in_bytes (client_step_of state.old out.old) (client_of state.old).session stanza.items) }
+    ensures err { OnErr result (client_step_of state.new out.new ≡ client_step_of state.old out.old) }
     ensures said { state.new.said ≡ state.old.said }
 {
     let is_attached = state.is_online();
@@ -107,8 +107,8 @@ pub(crate) fn say(
     out: &mut ClientOut,
 ) -> Result<u64, SayFault>
     ensures exact { (result ≡ Err SayFault.NoMemory) ⊎ (result ≡ say_answer (client_of state.old) text.now) }
-    ensures ok { OnOk result (turn_of state.new out.new ≡ says in_bytes (turn_of state.old out.old) to.now text.now private) }
-    ensures err { OnErr result (turn_of state.new out.new ≡ turn_of state.old out.old) }
+    ensures ok { OnOk result (client_step_of state.new out.new ≡ says in_bytes (client_step_of state.old out.old) to.now text.now private) }
+    ensures err { OnErr result (client_step_of state.new out.new ≡ client_step_of state.old out.old) }
 {
     let n = next(state, text)?;
     let stanza = spelled(state, alloc, to, text, private)?;

@@ -3,14 +3,14 @@ use Rattle.std.proofs.Common.{◌≡◌, ℕ, Bool, true, false, List, Option, S
 use Rattle.sm_acks.specs.declared.end.TooHigh.{TooHigh}
 use Rattle.cl_handlers.specs.AckRows.{acknowledges, counts_too_high}
 use Rattle.cl_handlers.specs.Acks.{ack_in, acknowledges_in, resent_in, too_high_in}
-use Rattle.cl_handlers.specs.Clients.{Turn}
+use Rattle.cl_handlers.specs.Clients.{ClientStep}
 use Rattle.cl_handlers.specs.SessionRows.{attaches, queue_in, resumed_in}
 use Rattle.cl_handlers.specs.Speech.{in_bytes}
 use Rattle.sm_outbox.specs.Sessions.{SessionView}
 use Rattle.sm_outbox.specs.Waiting.{Waiting, is_too_high, too_high}
 
 abbrev T : Type 0
-T = Turn (List ℕ) ℕ
+T = ClientStep (List ℕ) ℕ
 
 abbrev S : Type 0
 S = SessionView (List ℕ)
@@ -55,9 +55,9 @@ resumed_high t now None h fault high is = absurd (cc high)
 resumed_high t now (Some s) h fault high is = is ∙ high_row (is_too_high s.waiting h) t (attaches in_bytes (acknowledges in_bytes t s h)) (too_high s.waiting h) fault high
 
 -- what waits behind the acknowledgement is what is put again
-pub queue_behind : (t acked : T) (o : Option S) (h : ℕ) → t.client.session ≡ o → acked ≡ acknowledges_in in_bytes t o h → resent_in o h ≡ queue_in acked.client.session
-queue_behind t acked None h there is = sym (ap (λ (u : T). queue_in u.client.session) is ∙ ap queue_in there)
-queue_behind t acked (Some s) h there is = sym (ap (λ (u : T). queue_in u.client.session) is)
+pub queue_after : (t acked : T) (o : Option S) (h : ℕ) → t.client.session ≡ o → acked ≡ acknowledges_in in_bytes t o h → resent_in o h ≡ queue_in acked.client.session
+queue_after t acked None h there is = sym (ap (λ (u : T). queue_in u.client.session) is ∙ ap queue_in there)
+queue_after t acked (Some s) h there is = sym (ap (λ (u : T). queue_in u.client.session) is)
 
 pub attached : (t acked now : T) (o : Option S) (h : ℕ) → IsSome o → too_high_in o h ≡ None → acked ≡ acknowledges_in in_bytes t o h → now ≡ attaches in_bytes acked → now ≡ resumed_in in_bytes t o h
 attached t acked now None h some fits is done = absurd (cc some)

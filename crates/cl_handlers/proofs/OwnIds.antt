@@ -19,12 +19,12 @@ given_here : (bare id : List ℕ) (read : Result StanzaId ExtFault) (other : Opt
 given_here bare id (Ok v) other e = chosen (bytes_eq v.by bare) v.id id other e
 given_here bare id (Err why) other e = absurd (cc e)
 
-given_behind : (bare : List ℕ) (read : Result StanzaId ExtFault) (other : Option (List ℕ)) → id_given bare read None ≡ None → id_given bare read other ≡ other
-given_behind bare (Ok v) other e = passed (bytes_eq v.by bare) v.id other e
-given_behind bare (Err why) other e = refl
+given_after : (bare : List ℕ) (read : Result StanzaId ExtFault) (other : Option (List ℕ)) → id_given bare read None ≡ None → id_given bare read other ≡ other
+given_after bare (Ok v) other e = passed (bytes_eq v.by bare) v.id other e
+given_after bare (Err why) other e = refl
 
 pub own_id_here : (bare id : List ℕ) (e : Elem) (rest : List Elem) → id_given bare (stanza_id_read e) None ≡ Some id → own_id bare (e ∷ rest) ≡ Some id
 own_id_here bare id e rest given = given_here bare id (stanza_id_read e) (own_id bare rest) given
 
-pub own_id_behind : (bare : List ℕ) (e : Elem) (rest : List Elem) → id_given bare (stanza_id_read e) None ≡ None → own_id bare (e ∷ rest) ≡ own_id bare rest
-own_id_behind bare e rest given = given_behind bare (stanza_id_read e) (own_id bare rest) given
+pub own_id_after : (bare : List ℕ) (e : Elem) (rest : List Elem) → id_given bare (stanza_id_read e) None ≡ None → own_id bare (e ∷ rest) ≡ own_id bare rest
+own_id_after bare e rest given = given_after bare (stanza_id_read e) (own_id bare rest) given

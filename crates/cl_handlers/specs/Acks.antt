@@ -2,7 +2,7 @@
 use Rattle.std.specs.Prelude.{ℕ, ◌<◌, List, [], length, Option, Some, None, if◌then◌else◌}
 use Rattle.sm_acks.specs.declared.end.TooHigh.{TooHigh}
 use Rattle.cl_handlers.specs.AckRows.{ack_row, acknowledges, request_row}
-use Rattle.cl_handlers.specs.Clients.{Turn}
+use Rattle.cl_handlers.specs.Clients.{ClientStep}
 use Rattle.cl_handlers.specs.Speech.{Speech}
 use Rattle.sm_outbox.specs.Sessions.{SessionView}
 use Rattle.sm_outbox.specs.Waiting.{is_too_high, resent, too_high}
@@ -22,14 +22,14 @@ abbrev pub resent_in : {A : Type 0} → Option (SessionView A) → ℕ → List 
 resent_in None h = []
 resent_in (Some s) h = resent s.waiting h
 
-abbrev pub request_in : {A X : Type 0} → Speech A X → Turn A X → Option (SessionView A) → Turn A X
+abbrev pub request_in : {A X : Type 0} → Speech A X → ClientStep A X → Option (SessionView A) → ClientStep A X
 request_in speech t None = t
 request_in speech t (Some s) = request_row speech t s
 
-abbrev pub acknowledges_in : {A X : Type 0} → Speech A X → Turn A X → Option (SessionView A) → ℕ → Turn A X
+abbrev pub acknowledges_in : {A X : Type 0} → Speech A X → ClientStep A X → Option (SessionView A) → ℕ → ClientStep A X
 acknowledges_in speech t None h = t
 acknowledges_in speech t (Some s) h = acknowledges speech t s h
 
-abbrev pub ack_in : {A X : Type 0} → Speech A X → Turn A X → Option (SessionView A) → ℕ → Turn A X
+abbrev pub ack_in : {A X : Type 0} → Speech A X → ClientStep A X → Option (SessionView A) → ℕ → ClientStep A X
 ack_in speech t None h = t
 ack_in speech t (Some s) h = ack_row speech t s h

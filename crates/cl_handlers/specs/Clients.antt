@@ -26,6 +26,6 @@ pub record OutView (A X : Type 0) : Type 0 where
   pub events : List Event
   pub notes : List (Note A)
 
-pub record Turn (A X : Type 0) : Type 0 where
+pub record ClientStep (A X : Type 0) : Type 0 where
   pub client : ClientView A
   pub out : OutView A X

@@ -9,7 +9,7 @@ pub use Rattle.sm_outbox.specs.Kept
 -- Machine: the rows of the client's table, over any speech.
 pub mod Speech
 pub mod Clients
-pub mod Turns
+pub mod ClientSteps
 pub mod LoginSteps
 pub mod AckRows
 pub mod SessionRows

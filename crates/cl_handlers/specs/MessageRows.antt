@@ -2,8 +2,8 @@
 use Rattle.std.specs.Prelude.{ℕ, nat_le, Bool, true, false, ◌&&◌, List, [], ◌∷◌, Option, Some, None, Result, Ok, Err, codes, find, if◌then◌else◌, length, unwrap_or}
 use Rattle.std.specs.Str.{bytes_eq}
 use Rattle.mam_archive.specs.Ids.{number_read}
-use Rattle.cl_handlers.specs.Clients.{ClientView, Turn}
-use Rattle.cl_handlers.specs.Turns.{tells, with_log}
+use Rattle.cl_handlers.specs.Clients.{ClientStep, ClientView}
+use Rattle.cl_handlers.specs.ClientSteps.{tells, with_log}
 use Rattle.cl_handlers.specs.declared.events.CatchUpFault.{CatchUpFault}
 use Rattle.cl_handlers.specs.declared.events.CatchUpFault.TheVariants.{Overrun}
 use Rattle.cl_handlers.specs.declared.events.Event.{Event}
@@ -55,15 +55,15 @@ abbrev pub logged : List ℕ → ℕ → MessageView → LogEntry
 logged id stamp m = record { id = id; entry = entry_of (entry_number id) stamp m }
 
 -- the catch-up ends before its last page
-abbrev pub refuses : {A X : Type 0} → Turn A X → CatchUpFault → Turn A X
+abbrev pub refuses : {A X : Type 0} → ClientStep A X → CatchUpFault → ClientStep A X
 refuses t fault = tells (with_log t (without_page t.client.log)) (CatchUpRefused fault)
 
 -- The open page takes as many as were asked for, and one more ends the catch-up. A result of another query is dropped.
-abbrev pub result_to : {A X : Type 0} → Turn A X → Option OpenPage → LogEntry → Turn A X
+abbrev pub result_to : {A X : Type 0} → ClientStep A X → Option OpenPage → LogEntry → ClientStep A X
 result_to t None entry = t
 result_to t (Some page) entry = if nat_le page.max (length page.results) then refuses t Overrun else with_log t (with_result t.client.log entry)
 
-abbrev pub result_row : {A X : Type 0} → Turn A X → Result MamResult ExtFault → Turn A X
+abbrev pub result_row : {A X : Type 0} → ClientStep A X → Result MamResult ExtFault → ClientStep A X
 result_row t (Ok r) = result_to t (page_for r.queryid t.client.log.page) (logged r.id r.forwarded.stamp r.forwarded.message)
 result_row t (Err why) = t
 
@@ -107,7 +107,7 @@ held_by c live (Some id) = record c { log = after_hold c.log (logged id live.sta
 abbrev pub held_in : {A : Type 0} → ClientView A → Forwarded → ClientView A
 held_in c live = held_by c live (own_id c.account.bare (elements_of live.message.payload))
 
-abbrev pub held_row : {A X : Type 0} → Turn A X → Forwarded → Turn A X
+abbrev pub held_row : {A X : Type 0} → ClientStep A X → Forwarded → ClientStep A X
 held_row t live = record t { client = held_in t.client live }
 
 -- ---- bounces (RFC 6120, section 8.3.1)
@@ -131,19 +131,19 @@ is_bounce c m = is_error m.kind && is_submission c.account.resource m.id c.said
 abbrev pub bounce_of : {A : Type 0} → ClientView A → MessageView → Option Event
 bounce_of c m = if is_bounce c m then bounced_by m.id (error_within m.payload) else None
 
-abbrev pub tells_where : {A X : Type 0} → Turn A X → Option Event → Turn A X
+abbrev pub tells_where : {A X : Type 0} → ClientStep A X → Option Event → ClientStep A X
 tells_where t None = t
 tells_where t (Some event) = tells t event
 
 -- ---- the rules of a message, whose stanza is counted: one may be held, and have bounced
 
-abbrev pub other_message : {A X : Type 0} → Turn A X → MessageView → Turn A X
+abbrev pub other_message : {A X : Type 0} → ClientStep A X → MessageView → ClientStep A X
 other_message t m = tells_where (held_row t (live_in t.client.account.bare m)) (bounce_of t.client m)
 
-abbrev pub message_with : {A X : Type 0} → Turn A X → MessageView → Option Elem → Turn A X
+abbrev pub message_with : {A X : Type 0} → ClientStep A X → MessageView → Option Elem → ClientStep A X
 message_with t m None = other_message t m
 message_with t m (Some result) =
     if is_own_or_absent t.client.account.bare m.from then result_row t (result_read result) else other_message t m
 
-abbrev pub message_row : {A X : Type 0} → Turn A X → MessageView → Turn A X
+abbrev pub message_row : {A X : Type 0} → ClientStep A X → MessageView → ClientStep A X
 message_row t m = message_with t m (first_named archive (codes "result") m.payload)

@@ -2,10 +2,10 @@
 use Rattle.std.specs.Prelude.{ℕ, Bool, true, false, ◌&&◌, ◌||◌, not, List, [], ◌∷◌, ◌++◌, Option, Some, None, Result, Ok, Err, codes, if◌then◌else◌, is_ok}
 use Rattle.std.specs.Str.{bytes_eq}
 use Rattle.cl_handlers.specs.AckRows.{acknowledges, counts_too_high}
-use Rattle.cl_handlers.specs.Clients.{Turn}
+use Rattle.cl_handlers.specs.Clients.{ClientStep}
 use Rattle.cl_handlers.specs.LoginSteps.{other_element}
 use Rattle.cl_handlers.specs.Speech.{Speech, Counted, Epoch, Put, Stated, spread_all, uttered}
-use Rattle.cl_handlers.specs.Turns.{drops, ends, goes, notes, puts, tells}
+use Rattle.cl_handlers.specs.ClientSteps.{drops, ends, goes, notes, puts, tells}
 use Rattle.cl_handlers.specs.declared.events.Event.TheVariants.{Bound, ResumeFailed, Resumed}
 use Rattle.cl_handlers.specs.declared.events.PeerFault.TheVariants.{NoFeature}
 use Rattle.cl_handlers.specs.declared.phase.Phase.{Phase}
@@ -35,23 +35,23 @@ use Rattle.xml_trees.specs.Trees.{Elem}
 use Rattle.xml_writer.specs.Items.{ItemOut}
 
 -- an item is put, and the answer is awaited in a phase
-abbrev pub asks : {A X : Type 0} → Speech A X → Turn A X → ItemOut → Phase → Turn A X
+abbrev pub asks : {A X : Type 0} → Speech A X → ClientStep A X → ItemOut → Phase → ClientStep A X
 asks speech t item p = goes (puts t (uttered speech item)) p
 
-abbrev pub binds : {A X : Type 0} → Speech A X → Turn A X → Turn A X
+abbrev pub binds : {A X : Type 0} → Speech A X → ClientStep A X → ClientStep A X
 binds speech t = asks speech t (bind_item t.client.account.resource) phase.Binding
 
 -- ---- Features2: a session is resumed; without one a resource is bound
 
-abbrev pub resumes_or_binds : {A X : Type 0} → Speech A X → Turn A X → Option (SessionView A) → Turn A X
+abbrev pub resumes_or_binds : {A X : Type 0} → Speech A X → ClientStep A X → Option (SessionView A) → ClientStep A X
 resumes_or_binds speech t None = binds speech t
 resumes_or_binds speech t (Some s) = asks speech (notes speech t (Stated s.waiting.handled)) (resume_item s.previd s.waiting.handled) phase.Resuming
 
-abbrev pub features2_with : {A X : Type 0} → Speech A X → Turn A X → Elem → Result Features ExtFault → Turn A X
+abbrev pub features2_with : {A X : Type 0} → Speech A X → ClientStep A X → Elem → Result Features ExtFault → ClientStep A X
 features2_with speech t e (Ok features) = if features.bind then resumes_or_binds speech t t.client.session else ends t NoFeature
 features2_with speech t e (Err why) = other_element t e
 
-abbrev pub features2_row : {A X : Type 0} → Speech A X → Turn A X → Elem → Turn A X
+abbrev pub features2_row : {A X : Type 0} → Speech A X → ClientStep A X → Elem → ClientStep A X
 features2_row speech t e = features2_with speech t e (features_read e)
 
 -- ---- Resuming
@@ -66,27 +66,27 @@ queue_in None = []
 queue_in (Some s) = s.waiting.queue
 
 -- the session is attached
-abbrev pub attaches : {A X : Type 0} → Speech A X → Turn A X → Turn A X
+abbrev pub attaches : {A X : Type 0} → Speech A X → ClientStep A X → ClientStep A X
 attaches speech t = tells (puts (goes t phase.Online) (resent speech (queue_in t.client.session))) Resumed
 
-abbrev pub resumed_row : {A X : Type 0} → Speech A X → Turn A X → SessionView A → ℕ → Turn A X
+abbrev pub resumed_row : {A X : Type 0} → Speech A X → ClientStep A X → SessionView A → ℕ → ClientStep A X
 resumed_row speech t s h =
     if is_too_high s.waiting h then counts_too_high speech t (too_high s.waiting h) else attaches speech (acknowledges speech t s h)
 
-abbrev pub resumed_in : {A X : Type 0} → Speech A X → Turn A X → Option (SessionView A) → ℕ → Turn A X
+abbrev pub resumed_in : {A X : Type 0} → Speech A X → ClientStep A X → Option (SessionView A) → ℕ → ClientStep A X
 resumed_in speech t None h = t
 resumed_in speech t (Some s) h = resumed_row speech t s h
 
 -- the session can't be resumed: it ends, and a resource is bound
-abbrev pub failed_row : {A X : Type 0} → Speech A X → Turn A X → Turn A X
+abbrev pub failed_row : {A X : Type 0} → Speech A X → ClientStep A X → ClientStep A X
 failed_row speech t = binds speech (tells (drops speech t) ResumeFailed)
 
 -- A `failed` needs no condition here.
-abbrev pub resuming_with : {A X : Type 0} → Speech A X → Turn A X → Elem → Result (List ℕ × ℕ) ExtFault → Turn A X
+abbrev pub resuming_with : {A X : Type 0} → Speech A X → ClientStep A X → Elem → Result (List ℕ × ℕ) ExtFault → ClientStep A X
 resuming_with speech t e (Ok told) = resumed_in speech t t.client.session told.1
 resuming_with speech t e (Err why) = if is_management (codes "failed") e then failed_row speech t else other_element t e
 
-abbrev pub resuming_row : {A X : Type 0} → Speech A X → Turn A X → Elem → Turn A X
+abbrev pub resuming_row : {A X : Type 0} → Speech A X → ClientStep A X → Elem → ClientStep A X
 resuming_row speech t e = resuming_with speech t e (resumption_read (codes "resumed") e)
 
 -- ---- Binding
@@ -110,10 +110,10 @@ tells_bound (Ok (Presence p)) = false
 tells_bound (Err fault) = false
 
 -- a resource is bound: its epoch begins, and its submissions are numbered anew
-abbrev pub begins_epoch : {A X : Type 0} → Speech A X → Turn A X → Turn A X
+abbrev pub begins_epoch : {A X : Type 0} → Speech A X → ClientStep A X → ClientStep A X
 begins_epoch speech t = notes speech (record t { client = record t.client { epoch = next_number t.client.epoch; n = 0 } }) (Epoch (next_number t.client.epoch))
 
-abbrev pub binding_row : {A X : Type 0} → Speech A X → Turn A X → Elem → Turn A X
+abbrev pub binding_row : {A X : Type 0} → Speech A X → ClientStep A X → Elem → ClientStep A X
 binding_row speech t e = if tells_bound (stanza_of e) then asks speech (begins_epoch speech t) enable_item phase.Enabling else other_element t e
 
 -- ---- Enabling
@@ -126,7 +126,7 @@ is_stanza e = is_named client_ns (codes "message") e || (is_named client_ns (cod
 abbrev pub first_stanzas : {A X : Type 0} → Speech A X → Waiting A
 first_stanzas speech = queued (queued nothing_waits (speech.say carbons_item) false) (speech.say available_item) false
 
-abbrev pub begins : {A X : Type 0} → Speech A X → Turn A X → List ℕ → Turn A X
+abbrev pub begins : {A X : Type 0} → Speech A X → ClientStep A X → List ℕ → ClientStep A X
 begins speech t previd =
     tells
     (puts
@@ -151,9 +151,9 @@ abbrev pub can_resume : Enabled → Bool
 can_resume enabled = enabled.resume && not (is_empty enabled.id)
 
 -- A session that can be resumed begins. A stanza is dropped, and isn't counted.
-abbrev pub enabling_with : {A X : Type 0} → Speech A X → Turn A X → Elem → Result Enabled ExtFault → Turn A X
+abbrev pub enabling_with : {A X : Type 0} → Speech A X → ClientStep A X → Elem → Result Enabled ExtFault → ClientStep A X
 enabling_with speech t e (Ok enabled) = if can_resume enabled then begins speech t enabled.id else other_element t e
 enabling_with speech t e (Err why) = if is_stanza e then t else other_element t e
 
-abbrev pub enabling_row : {A X : Type 0} → Speech A X → Turn A X → Elem → Turn A X
+abbrev pub enabling_row : {A X : Type 0} → Speech A X → ClientStep A X → Elem → ClientStep A X
 enabling_row speech t e = enabling_with speech t e (enabled_read e)

@@ -1,7 +1,7 @@
 -- What clauses see of a client: plain lists, without the room of what is kept.
 use Rattle.std.specs.Prelude.{ℕ, List, [], Option}
 use Rattle.std.specs.Option.{option_map}
-use Rattle.cl_handlers.specs.Clients.{ClientView, OutView, Turn}
+use Rattle.cl_handlers.specs.Clients.{ClientStep, ClientView, OutView}
 use Rattle.cl_handlers.specs.declared.client_state.ClientState.{ClientState}
 use Rattle.cl_handlers.specs.declared.events.ClientOut.{ClientOut}
 use Rattle.sm_outbox.specs.Kept.{HeldSession}
@@ -26,5 +26,5 @@ client_of c = record {
 abbrev pub out_of : ClientOut → OutView (List ℕ) ℕ
 out_of out = record { put = out.bytes.items; events = out.events.items; notes = [] }
 
-abbrev pub turn_of : ClientState → ClientOut → Turn (List ℕ) ℕ
-turn_of c out = record { client = client_of c; out = out_of out }
+abbrev pub client_step_of : ClientState → ClientOut → ClientStep (List ℕ) ℕ
+client_step_of c out = record { client = client_of c; out = out_of out }

@@ -3,7 +3,7 @@ ghost use Rattle.std.specs.Prelude.{◌≡◌, ◌+◌, ◌≤◌, None, OnErr, 
 ghost use Rattle.cl_handlers.specs.AckRows.{counts_too_high};
 ghost use Rattle.cl_handlers.specs.Acks.{ack_in, acknowledges_in, request_in, too_high_in};
 ghost use Rattle.cl_handlers.specs.Speech.{in_bytes};
-ghost use Rattle.cl_handlers.specs.Views.{client_of, turn_of};
+ghost use Rattle.cl_handlers.specs.Views.{client_of, client_step_of};
 
 use crate::answers::make_room;
 use crate::client_state::ClientState;
@@ -33,8 +33,8 @@ impl ClientState {
         fault: TooHigh,
         out: &mut ClientOut,
     ) -> Result<(), NoMemory>
-        ensures ok { OnOk result (turn_of self.new out.new ≡ counts_too_high in_bytes (turn_of self.old out.old) fault) }
-        ensures err { OnErr result (turn_of self.new out.new ≡ turn_of self.old out.old) }
+        ensures ok { OnOk result (client_step_of self.new out.new ≡ counts_too_high in_bytes (client_step_of self.old out.old) fault) }
+        ensures err { OnErr result (client_step_of self.new out.new ≡ client_step_of self.old out.old) }
     {
         let error = too_high(alloc, fault.h, fault.send_count)?;
         let closing = footer(alloc)?;
@@ -60,7 +60,7 @@ impl ClientState {
     pub(crate) fn acknowledge(&mut self, h: u32, out: &mut ClientOut)
         requires room { 1 ≤ out.old.events.spare }
         requires taken { too_high_in (client_of self.old).session h ≡ None }
-        ensures turn { turn_of self.new out.new ≡ acknowledges_in in_bytes (turn_of self.old out.old) (client_of self.old).session h }
+        ensures turn { client_step_of self.new out.new ≡ acknowledges_in in_bytes (client_step_of self.old out.old) (client_of self.old).session h }
         ensures bytes { out.new.bytes ≡ out.old.bytes }
         ensures events { out.old.events.spare ≤ out.new.events.spare + 1 }
     {
@@ -85,8 +85,8 @@ impl ClientState {
     /// changes.
     #[tactic(auto, using(crate::proofs::AckSteps::ack_high, crate::proofs::AckSteps::ack_taken))]
     pub fn ack(&mut self, alloc: Global, h: u32, out: &mut ClientOut) -> Result<(), NoMemory>
-        ensures ok { OnOk result (turn_of self.new out.new ≡ ack_in in_bytes (turn_of self.old out.old) (client_of self.old).session h) }
-        ensures err { OnErr result (turn_of self.new out.new ≡ turn_of self.old out.old) }
+        ensures ok { OnOk result (client_step_of self.new out.new ≡ ack_in in_bytes (client_step_of self.old out.old) (client_of self.old).session h) }
+        ensures err { OnErr result (client_step_of self.new out.new ≡ client_step_of self.old out.old) }
     {
         if let Some(fault) = self.too_high(h) {
             return self.count_too_high(alloc, fault, out);
@@ -98,8 +98,8 @@ impl ClientState {
 
     /// A request for the count of the server's stanzas (XEP-0198, section 4). Where memory runs out nothing changes.
     pub fn request(&mut self, alloc: Global, out: &mut ClientOut) -> Result<(), NoMemory>
-        ensures ok { OnOk result (turn_of self.new out.new ≡ request_in in_bytes (turn_of self.old out.old) (client_of self.old).session) }
-        ensures err { OnErr result (turn_of self.new out.new ≡ turn_of self.old out.old) }
+        ensures ok { OnOk result (client_step_of self.new out.new ≡ request_in in_bytes (client_step_of self.old out.old) (client_of self.old).session) }
+        ensures err { OnErr result (client_step_of self.new out.new ≡ client_step_of self.old out.old) }
     {
         let Some(session) = &self.session else {
             return Ok(());

@@ -1,9 +1,9 @@
 //! What the rows of a client have in common: room, the end of a connection, and the end of a session.
 ghost use Rattle.std.specs.Prelude.{◌≡◌, ◌≤◌, ◌+◌, length, OnErr, OnOk};
 ghost use Rattle.cl_handlers.specs.Speech.{in_bytes};
-ghost use Rattle.cl_handlers.specs.Turns;
-ghost use Rattle.cl_handlers.specs.Turns.{dropped, ends, goes, is_apart, left, puts, puts_footer};
-ghost use Rattle.cl_handlers.specs.Views.{client_of, turn_of};
+ghost use Rattle.cl_handlers.specs.ClientSteps;
+ghost use Rattle.cl_handlers.specs.ClientSteps.{dropped, ends, goes, is_apart, left, puts, puts_footer};
+ghost use Rattle.cl_handlers.specs.Views.{client_of, client_step_of};
 
 use crate::client_state::ClientState;
 use crate::events::{ClientOut, Event, PeerFault};
@@ -37,7 +37,7 @@ impl ClientState {
 
     /// Whether the session is attached (XEP-0198, section 5): stanzas go out at once.
     pub fn is_online(&self) -> bool
-        ensures { result ≡ Turns.is_online self.now.phase }
+        ensures { result ≡ ClientSteps.is_online self.now.phase }
     {
         match self.phase {
             Phase::Online => true,
@@ -48,8 +48,8 @@ impl ClientState {
     /// Leaves the connection for a fault of the peer, which is told. Where memory runs out it is left and nothing is told. The
     /// session stays.
     pub fn end(&mut self, fault: PeerFault, out: &mut ClientOut) -> Result<(), NoMemory>
-        ensures ok { OnOk result (turn_of self.new out.new ≡ ends (turn_of self.old out.old) fault) }
-        ensures err { OnErr result (turn_of self.new out.new ≡ left (turn_of self.old out.old)) }
+        ensures ok { OnOk result (client_step_of self.new out.new ≡ ends (client_step_of self.old out.old) fault) }
+        ensures err { OnErr result (client_step_of self.new out.new ≡ left (client_step_of self.old out.old)) }
     {
         self.phase = Phase::Apart;
         out.events.push(Event::Ended(fault))
@@ -62,8 +62,8 @@ impl ClientState {
         phase: Phase,
         out: &mut ClientOut,
     ) -> Result<(), NoMemory>
-        ensures ok { OnOk result (turn_of self.new out.new ≡ goes (puts (turn_of self.old out.old) bytes.items) phase) }
-        ensures err { OnErr result (turn_of self.new out.new ≡ turn_of self.old out.old) }
+        ensures ok { OnOk result (client_step_of self.new out.new ≡ goes (puts (client_step_of self.old out.old) bytes.items) phase) }
+        ensures err { OnErr result (client_step_of self.new out.new ≡ client_step_of self.old out.old) }
     {
         out.bytes.append(bytes.as_slice())?;
         self.phase = phase;
@@ -72,8 +72,8 @@ impl ClientState {
 
     /// Puts the footer where a connection stands (RFC 6120, section 4.4). Where memory runs out nothing is put.
     pub fn put_footer(&self, alloc: Global, out: &mut ClientOut) -> Result<(), NoMemory>
-        ensures ok { OnOk result (turn_of self.now out.new ≡ puts_footer in_bytes (turn_of self.now out.old)) }
-        ensures err { OnErr result (turn_of self.now out.new ≡ turn_of self.now out.old) }
+        ensures ok { OnOk result (client_step_of self.now out.new ≡ puts_footer in_bytes (client_step_of self.now out.old)) }
+        ensures err { OnErr result (client_step_of self.now out.new ≡ client_step_of self.now out.old) }
     {
         if self.is_apart() {
             return Ok(());

@@ -6,8 +6,8 @@ ghost use Rattle.cl_handlers.specs.Acks.{resent_in, too_high_in};
 ghost use Rattle.cl_handlers.specs.SessionRows;
 ghost use Rattle.cl_handlers.specs.SessionRows.{begins, binding_row, binds, can_resume, enabling_row, failed_row, features2_row, is_bind_result, is_stanza, queue_in, resent, resumed_in, resumes_or_binds, resuming_row, tells_bound};
 ghost use Rattle.cl_handlers.specs.Speech.{in_bytes};
-ghost use Rattle.cl_handlers.specs.Turns.{left};
-ghost use Rattle.cl_handlers.specs.Views.{client_of, turn_of};
+ghost use Rattle.cl_handlers.specs.ClientSteps.{left};
+ghost use Rattle.cl_handlers.specs.Views.{client_of, client_step_of};
 ghost use Rattle.im_extensions.specs.StreamManagement.{is_management};
 ghost use Rattle.im_replies.specs.Management.{request_text};
 ghost use Rattle.im_stanza.specs.Readings.{stanza_of};
@@ -101,8 +101,8 @@ fn can_resume(enabled: &Enabled) -> bool
 impl ClientState {
     // Asks for the binding of a resource.
     fn bind_resource(&mut self, alloc: Global, out: &mut ClientOut) -> Result<(), NoMemory>
-        ensures ok { OnOk result (turn_of self.new out.new ≡ binds in_bytes (turn_of self.old out.old)) }
-        ensures err { OnErr result (turn_of self.new out.new ≡ turn_of self.old out.old) }
+        ensures ok { OnOk result (client_step_of self.new out.new ≡ binds in_bytes (client_step_of self.old out.old)) }
+        ensures err { OnErr result (client_step_of self.new out.new ≡ client_step_of self.old out.old) }
     {
         let bytes = bind(alloc, self.account.resource.as_str())?;
         self.ask(bytes, Phase::Binding, out)
@@ -110,8 +110,8 @@ impl ClientState {
 
     // Asks for the resumption of the session, or for the binding of a resource where none stands.
     fn resume_or_bind(&mut self, alloc: Global, out: &mut ClientOut) -> Result<(), NoMemory>
-        ensures ok { OnOk result (turn_of self.new out.new ≡ resumes_or_binds in_bytes (turn_of self.old out.old) (client_of self.old).session) }
-        ensures err { OnErr result (turn_of self.new out.new ≡ turn_of self.old out.old) }
+        ensures ok { OnOk result (client_step_of self.new out.new ≡ resumes_or_binds in_bytes (client_step_of self.old out.old) (client_of self.old).session) }
+        ensures err { OnErr result (client_step_of self.new out.new ≡ client_step_of self.old out.old) }
     {
         let Some(session) = &self.session else {
             return self.bind_resource(alloc, out);
@@ -128,8 +128,8 @@ impl ClientState {
         tree: &Tree,
         out: &mut ClientOut,
     ) -> Result<(), NoMemory>
-        ensures ok { OnOk result (turn_of self.new out.new ≡ features2_row in_bytes (turn_of self.old out.old) tree.now) }
-        ensures err { OnErr result (left (turn_of self.new out.new) ≡ left (turn_of self.old out.old)) }
+        ensures ok { OnOk result (client_step_of self.new out.new ≡ features2_row in_bytes (client_step_of self.old out.old) tree.now) }
+        ensures err { OnErr result (left (client_step_of self.new out.new) ≡ left (client_step_of self.old out.old)) }
     {
         match Features::read(tree) {
             Ok(features) => {
@@ -183,12 +183,12 @@ impl ClientState {
     }
 
     // The session goes on with this count, which isn't above what was sent.
-    #[tactic(auto, using(crate::proofs::AckSteps::queue_behind, crate::proofs::AckSteps::attached))]
+    #[tactic(auto, using(crate::proofs::AckSteps::queue_after, crate::proofs::AckSteps::attached))]
     fn attach(&mut self, alloc: Global, h: u32, out: &mut ClientOut) -> Result<(), NoMemory>
         requires taken { too_high_in (client_of self.old).session h ≡ None }
         requires bound { IsSome (client_of self.old).session }
-        ensures ok { OnOk result (turn_of self.new out.new ≡ resumed_in in_bytes (turn_of self.old out.old) (client_of self.old).session h) }
-        ensures err { OnErr result (turn_of self.new out.new ≡ turn_of self.old out.old) }
+        ensures ok { OnOk result (client_step_of self.new out.new ≡ resumed_in in_bytes (client_step_of self.old out.old) (client_of self.old).session h) }
+        ensures err { OnErr result (client_step_of self.new out.new ≡ client_step_of self.old out.old) }
     {
         let request = request(alloc)?;
         let again = self.resent(alloc, h, &out.bytes, request.as_slice().len())?;
@@ -203,8 +203,8 @@ impl ClientState {
     // The server resumes the session, and has handled so many of its stanzas.
     #[tactic(auto, using(crate::proofs::AckSteps::resumed_high))]
     fn resumed(&mut self, alloc: Global, h: u32, out: &mut ClientOut) -> Result<(), NoMemory>
-        ensures ok { OnOk result (turn_of self.new out.new ≡ resumed_in in_bytes (turn_of self.old out.old) (client_of self.old).session h) }
-        ensures err { OnErr result (turn_of self.new out.new ≡ turn_of self.old out.old) }
+        ensures ok { OnOk result (client_step_of self.new out.new ≡ resumed_in in_bytes (client_step_of self.old out.old) (client_of self.old).session h) }
+        ensures err { OnErr result (client_step_of self.new out.new ≡ client_step_of self.old out.old) }
     {
         if self.session.is_none() {
             return Ok(());
@@ -217,8 +217,8 @@ impl ClientState {
 
     // The session can't be resumed: it ends, and a resource is bound.
     fn fail_to_resume(&mut self, alloc: Global, out: &mut ClientOut) -> Result<(), NoMemory>
-        ensures ok { OnOk result (turn_of self.new out.new ≡ failed_row in_bytes (turn_of self.old out.old)) }
-        ensures err { OnErr result (turn_of self.new out.new ≡ turn_of self.old out.old) }
+        ensures ok { OnOk result (client_step_of self.new out.new ≡ failed_row in_bytes (client_step_of self.old out.old)) }
+        ensures err { OnErr result (client_step_of self.new out.new ≡ client_step_of self.old out.old) }
     {
         let bytes = bind(alloc, self.account.resource.as_str())?;
         make_room(out, bytes.as_slice().len(), 1)?;
@@ -237,8 +237,8 @@ impl ClientState {
         tree: &Tree,
         out: &mut ClientOut,
     ) -> Result<(), NoMemory>
-        ensures ok { OnOk result (turn_of self.new out.new ≡ resuming_row in_bytes (turn_of self.old out.old) tree.now) }
-        ensures err { OnErr result (left (turn_of self.new out.new) ≡ left (turn_of self.old out.old)) }
+        ensures ok { OnOk result (client_step_of self.new out.new ≡ resuming_row in_bytes (client_step_of self.old out.old) tree.now) }
+        ensures err { OnErr result (left (client_step_of self.new out.new) ≡ left (client_step_of self.old out.old)) }
     {
         match Resumed::read(alloc, tree) {
             Ok(resumed) => self.resumed(alloc, resumed.h, out),
@@ -261,8 +261,8 @@ impl ClientState {
         tree: &Tree,
         out: &mut ClientOut,
     ) -> Result<(), NoMemory>
-        ensures ok { OnOk result (turn_of self.new out.new ≡ binding_row in_bytes (turn_of self.old out.old) tree.now) }
-        ensures err { OnErr result (left (turn_of self.new out.new) ≡ left (turn_of self.old out.old)) }
+        ensures ok { OnOk result (client_step_of self.new out.new ≡ binding_row in_bytes (client_step_of self.old out.old) tree.now) }
+        ensures err { OnErr result (left (client_step_of self.new out.new) ≡ left (client_step_of self.old out.old)) }
     {
         if !tells_bound(alloc, tree)? {
             return self.other(alloc, tree, out);
@@ -276,8 +276,8 @@ impl ClientState {
 
     // The session of this id begins.
     fn begin(&mut self, alloc: Global, previd: Text, out: &mut ClientOut) -> Result<(), NoMemory>
-        ensures ok { OnOk result (turn_of self.new out.new ≡ begins in_bytes (turn_of self.old out.old) previd) }
-        ensures err { OnErr result (turn_of self.new out.new ≡ turn_of self.old out.old) }
+        ensures ok { OnOk result (client_step_of self.new out.new ≡ begins in_bytes (client_step_of self.old out.old) previd) }
+        ensures err { OnErr result (client_step_of self.new out.new ≡ client_step_of self.old out.old) }
     {
         let mut session = Session::new(alloc, previd)?;
         session.reserve(2)?;
@@ -306,8 +306,8 @@ impl ClientState {
         tree: &Tree,
         out: &mut ClientOut,
     ) -> Result<(), NoMemory>
-        ensures ok { OnOk result (turn_of self.new out.new ≡ enabling_row in_bytes (turn_of self.old out.old) tree.now) }
-        ensures err { OnErr result (left (turn_of self.new out.new) ≡ left (turn_of self.old out.old)) }
+        ensures ok { OnOk result (client_step_of self.new out.new ≡ enabling_row in_bytes (client_step_of self.old out.old) tree.now) }
+        ensures err { OnErr result (left (client_step_of self.new out.new) ≡ left (client_step_of self.old out.old)) }
     {
         match Enabled::read(alloc, tree) {
             Ok(enabled) => {

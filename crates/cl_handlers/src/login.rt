@@ -3,8 +3,8 @@ ghost use Rattle.std.specs.Prelude.{◌≡◌, ◌≤◌, IfOk, OnErr, OnOk};
 ghost use Rattle.cl_handlers.specs.LoginSteps.{follows, goes_on, login_row, other_element, peer_fault};
 ghost use Rattle.cl_handlers.specs.LoginSteps;
 ghost use Rattle.cl_handlers.specs.Speech.{in_bytes};
-ghost use Rattle.cl_handlers.specs.Turns.{left, puts};
-ghost use Rattle.cl_handlers.specs.Views.{turn_of};
+ghost use Rattle.cl_handlers.specs.ClientSteps.{left, puts};
+ghost use Rattle.cl_handlers.specs.Views.{client_step_of};
 ghost use Rattle.cl_login.specs.LoginRows.{begin_row, other_fault};
 ghost use Rattle.im_login.specs.Readings.{failure_read};
 
@@ -52,8 +52,8 @@ impl ClientState {
         tree: &Tree,
         out: &mut ClientOut,
     ) -> Result<(), NoMemory>
-        ensures ok { OnOk result (turn_of self.new out.new ≡ other_element (turn_of self.old out.old) tree.now) }
-        ensures err { OnErr result (left (turn_of self.new out.new) ≡ left (turn_of self.old out.old)) }
+        ensures ok { OnOk result (client_step_of self.new out.new ≡ other_element (client_step_of self.old out.old) tree.now) }
+        ensures err { OnErr result (left (client_step_of self.new out.new) ≡ left (client_step_of self.old out.old)) }
     {
         let fault = other_fault(alloc, tree)?;
         self.end(fault, out)
@@ -62,7 +62,7 @@ impl ClientState {
     // How the connection goes on behind a row of the login.
     fn go_on(&mut self, next: Next, out: &mut ClientOut)
         requires { 1 ≤ out.old.events.spare }
-        ensures { turn_of self.new out.new ≡ goes_on (turn_of self.old out.old) next }
+        ensures { client_step_of self.new out.new ≡ goes_on (client_step_of self.old out.old) next }
     {
         match next {
             Next::Goes(state) => self.phase = Phase::Login(state),
@@ -76,8 +76,8 @@ impl ClientState {
 
     /// Does what a row of the login answered.
     pub(crate) fn follow(&mut self, answer: Answer, out: &mut ClientOut) -> Result<(), NoMemory>
-        ensures ok { OnOk result (turn_of self.new out.new ≡ goes_on (puts (turn_of self.old out.old) answer.bytes.items) answer.next) }
-        ensures err { OnErr result (turn_of self.new out.new ≡ turn_of self.old out.old) }
+        ensures ok { OnOk result (client_step_of self.new out.new ≡ goes_on (puts (client_step_of self.old out.old) answer.bytes.items) answer.next) }
+        ensures err { OnErr result (client_step_of self.new out.new ≡ client_step_of self.old out.old) }
     {
         let Answer { bytes, next } = answer;
         make_room(out, bytes.as_slice().len(), 1)?;
@@ -95,8 +95,8 @@ impl ClientState {
         entropy: &[u8; 24],
         out: &mut ClientOut,
     ) -> Result<(), NoMemory>
-        ensures ok { OnOk result (turn_of self.new out.new ≡ follows in_bytes (turn_of self.old out.old) (begin_row self.old.account.login.domain entropy.now)) }
-        ensures err { OnErr result (turn_of self.new out.new ≡ turn_of self.old out.old) }
+        ensures ok { OnOk result (client_step_of self.new out.new ≡ follows in_bytes (client_step_of self.old out.old) (begin_row self.old.account.login.domain entropy.now)) }
+        ensures err { OnErr result (client_step_of self.new out.new ≡ client_step_of self.old out.old) }
     {
         let domain = self.account.login.domain.as_str();
         let answer = LoginState::begin(alloc, domain, entropy)?;
@@ -113,8 +113,8 @@ impl ClientState {
         tree: &Tree,
         out: &mut ClientOut,
     ) -> Result<(), NoMemory>
-        ensures ok { OnOk result (turn_of self.new out.new ≡ login_row in_bytes (turn_of self.old out.old) state tree.now) }
-        ensures err { OnErr result (left (turn_of self.new out.new) ≡ left (turn_of self.old out.old)) }
+        ensures ok { OnOk result (client_step_of self.new out.new ≡ login_row in_bytes (client_step_of self.old out.old) state tree.now) }
+        ensures err { OnErr result (left (client_step_of self.new out.new) ≡ left (client_step_of self.old out.old)) }
     {
         let answer = state.element(alloc, &mut self.account.login, tree)?;
         self.follow(answer, out)
@@ -123,8 +123,8 @@ impl ClientState {
     /// A header (RFC 6120, section 4.7). Where memory runs out nothing is put or told, and the connection may be left.
     #[tactic(auto, using(crate::proofs::Followed::followed))]
     pub fn header(&mut self, alloc: Global, out: &mut ClientOut) -> Result<(), NoMemory>
-        ensures ok { OnOk result (turn_of self.new out.new ≡ LoginSteps.header_row in_bytes (turn_of self.old out.old) self.old.phase) }
-        ensures err { OnErr result (left (turn_of self.new out.new) ≡ left (turn_of self.old out.old)) }
+        ensures ok { OnOk result (client_step_of self.new out.new ≡ LoginSteps.header_row in_bytes (client_step_of self.old out.old) self.old.phase) }
+        ensures err { OnErr result (left (client_step_of self.new out.new) ≡ left (client_step_of self.old out.old)) }
     {
         let phase = mem::replace(&mut self.phase, Phase::Apart);
         match phase {

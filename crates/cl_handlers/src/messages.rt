@@ -3,7 +3,7 @@ ghost use Rattle.std.specs.Prelude.{◌≡◌, None, find, IfOk, OnErr, OnOk};
 ghost use Rattle.std.specs.Option.{option_copied, option_map};
 ghost use Rattle.cl_handlers.specs.MessageRows;
 ghost use Rattle.cl_handlers.specs.MessageRows.{bounce_of, held_in, id_given, is_bounce, live_in, live_of, logged, message_row, other_message, own_id, result_row, result_to};
-ghost use Rattle.cl_handlers.specs.Views.{client_of, turn_of};
+ghost use Rattle.cl_handlers.specs.Views.{client_of, client_step_of};
 ghost use Rattle.im_extensions.specs.Carbons.{is_carbon};
 ghost use Rattle.im_extensions.specs.Readings.{stanza_id_read};
 ghost use Rattle.mam_log.specs.Views.{page_for};
@@ -50,7 +50,7 @@ fn id_given(alloc: Global, bare: &str, element: &Element) -> Result<Option<Text>
 }
 
 // The first such id among nodes.
-#[tactic(auto, using(crate::proofs::OwnIds::own_id_here, crate::proofs::OwnIds::own_id_behind))]
+#[tactic(auto, using(crate::proofs::OwnIds::own_id_here, crate::proofs::OwnIds::own_id_after))]
 fn own_id(alloc: Global, bare: &str, nodes: &[Node]) -> Result<Option<Text>, NoMemory>
     ensures { IfOk result (λ id. id ≡ own_id bare.now (elements_of (nodes_view nodes.now))) }
 {
@@ -126,8 +126,8 @@ impl ClientState {
         entry: LogEntry,
         out: &mut ClientOut,
     ) -> Result<(), NoMemory>
-        ensures ok { OnOk result (turn_of self.new out.new ≡ result_to (turn_of self.old out.old) (page_for queryid.now self.old.log.page) entry) }
-        ensures err { OnErr result (turn_of self.new out.new ≡ turn_of self.old out.old) }
+        ensures ok { OnOk result (client_step_of self.new out.new ≡ result_to (client_step_of self.old out.old) (page_for queryid.now self.old.log.page) entry) }
+        ensures err { OnErr result (client_step_of self.new out.new ≡ client_step_of self.old out.old) }
     {
         out.events.reserve(1)?;
         match self.log.result(queryid, entry) {
@@ -150,8 +150,8 @@ impl ClientState {
         element: &Element,
         out: &mut ClientOut,
     ) -> Result<(), NoMemory>
-        ensures ok { OnOk result (turn_of self.new out.new ≡ result_row (turn_of self.old out.old) (result_read (elem_view element.now))) }
-        ensures err { OnErr result (turn_of self.new out.new ≡ turn_of self.old out.old) }
+        ensures ok { OnOk result (client_step_of self.new out.new ≡ result_row (client_step_of self.old out.old) (result_read (elem_view element.now))) }
+        ensures err { OnErr result (client_step_of self.new out.new ≡ client_step_of self.old out.old) }
     {
         match MamResult::read_element(alloc, element) {
             Ok(
@@ -245,8 +245,8 @@ impl ClientState {
         message: &Message,
         out: &mut ClientOut,
     ) -> Result<(), NoMemory>
-        ensures ok { OnOk result (turn_of self.new out.new ≡ other_message (turn_of self.old out.old) message.now) }
-        ensures err { OnErr result (turn_of self.new out.new ≡ turn_of self.old out.old) }
+        ensures ok { OnOk result (client_step_of self.new out.new ≡ other_message (client_step_of self.old out.old) message.now) }
+        ensures err { OnErr result (client_step_of self.new out.new ≡ client_step_of self.old out.old) }
     {
         let bounced = self.bounced(alloc, message)?;
         out.events.reserve(1)?;
@@ -265,8 +265,8 @@ impl ClientState {
         message: &Message,
         out: &mut ClientOut,
     ) -> Result<(), NoMemory>
-        ensures ok { OnOk result (turn_of self.new out.new ≡ message_row (turn_of self.old out.old) message.now) }
-        ensures err { OnErr result (turn_of self.new out.new ≡ turn_of self.old out.old) }
+        ensures ok { OnOk result (client_step_of self.new out.new ≡ message_row (client_step_of self.old out.old) message.now) }
+        ensures err { OnErr result (client_step_of self.new out.new ≡ client_step_of self.old out.old) }
     {
         let Some(result) = find_child(message.payload.as_slice(), ARCHIVE, "result") else {
             return self.other_message(alloc, message, out);

@@ -7,7 +7,7 @@ use Rattle.std.proofs.lemmas.List.Sums.{sum_by-cons}
 use Rattle.std.specs.List.{AllByRecursion, count_by}
 use Rattle.mam_archive.proofs.NumberedEntries.{FollowFrom, numbered_following}
 use Rattle.mam_archive.specs.Entries.{AreKept, EntryView, newest}
-use Rattle.cmd_direct.proofs.NextPages.{id_behind, next_page_is}
+use Rattle.cmd_direct.proofs.NextPages.{id_after, next_page_is}
 use Rattle.cmd_direct.proofs.TurnRuns.{Goes, goes}
 use Rattle.cmd_direct.proofs.TurnTiles.{complete_end}
 use Rattle.cmd_direct.proofs.Turns.{AreRising, Turn, end_of, ends_at, follow_ids, follow_span, id_of_entry, last_of, last_of_log, length_span, newest_span, page_by, page_is, pages_by, span, start_of}
@@ -37,9 +37,9 @@ abbrev pub turn_at : ℕ → ℕ → Turn
 turn_at last most = record { last = last; most = most }
 
 -- one page more has the last id of its turn
-last_push : (keep n : ℕ) (history : List EntryView) (turn : Turn) (pages : List LogPage) → Goes keep n history turn → last_id (log_of pages) ≡ id_behind n →
-    last_id (log_of (pages ++ page_by keep history n turn ∷ [])) ≡ id_behind (end_of keep n turn)
-last_push keep n history turn pages go behind =
+last_push : (keep n : ℕ) (history : List EntryView) (turn : Turn) (pages : List LogPage) → Goes keep n history turn → last_id (log_of pages) ≡ id_after n →
+    last_id (log_of (pages ++ page_by keep history n turn ∷ [])) ≡ id_after (end_of keep n turn)
+last_push keep n history turn pages go following =
     let entries = span (start_of keep n turn) (end_of keep n turn) history in
     let log = log_of pages in
     let ids : map (λ (l : LogEntry). l.id) (map as_logged entries) ≡ map id_of_entry entries = map-map as_logged (λ (l : LogEntry). l.id) entries in
@@ -47,8 +47,8 @@ last_push keep n history turn pages go behind =
     ∙ last_of_log (log ++ map as_logged entries)
     ∙ ap last_of (map-append (λ (l : LogEntry). l.id) log (map as_logged entries))
     ∙ ap (λ is. last_of (map (λ (l : LogEntry). l.id) log ++ is)) ids
-    ∙ follow_ids (map (λ (l : LogEntry). l.id) log) n (start_of keep n turn) entries go.follow (sym (last_of_log log) ∙ behind) go.empty
-    ∙ ap id_behind go.whole
+    ∙ follow_ids (map (λ (l : LogEntry). l.id) log) n (start_of keep n turn) entries go.follow (sym (last_of_log log) ∙ following) go.empty
+    ∙ ap id_after go.whole
 
 -- what a catch-up comes to, behind a log whose last entry has number n
 pub record CaughtUp (keep : ℕ) (history : List EntryView) (last n : ℕ) (pages result : List LogPage) : Type 0 where
@@ -61,14 +61,14 @@ pub record CaughtUp (keep : ℕ) (history : List EntryView) (last n : ℕ) (page
 
 -- one turn of it
 catch_up_turn : (turns most keep n last : ℕ) (owner : List ℕ) (history : List EntryView) (pages : List LogPage) → most ≤ 100 → 1 ≤ keep → n ≤ last →
-    last ≤ length history → last ≤ 4294967295 → FollowFrom 1 history → last_id (log_of pages) ≡ id_behind n →
+    last ≤ length history → last ≤ 4294967295 → FollowFrom 1 history → last_id (log_of pages) ≡ id_after n →
     catch_up (suc turns) most (kept_by owner (newest keep (take last history))) pages
     ≡ cond (leb (last - start_of keep n (turn_at last most)) most)
     (pages ++ page_by keep history n (turn_at last most) ∷ [])
     (catch_up turns most (kept_by owner (newest keep (take last history))) (pages ++ page_by keep history n (turn_at last most) ∷ []))
-catch_up_turn turns most keep n last owner history pages limit some within long few follow behind =
+catch_up_turn turns most keep n last owner history pages limit some within long few follow following =
     let found : next_page most (kept_by owner (newest keep (take last history))) pages ≡ Some (page_by keep history n (turn_at last most)) =
-    next_page_is keep n last most owner (newest keep (take last history)) pages (kept_right keep last history some long few follow) limit within behind
+    next_page_is keep n last most owner (newest keep (take last history)) pages (kept_right keep last history some long few follow) limit within following
     ∙ ap Some (page_is keep n most last history within long) in
     rw found refl
 
@@ -114,19 +114,19 @@ less_left : (most keep n last turns : ℕ) → 1 ≤ most → most < last - max 
 less_left most keep n last turns asked long enough = omega arith
 
 pub catch_up_is : (turns most keep n last : ℕ) (owner : List ℕ) (history : List EntryView) (pages : List LogPage) → 1 ≤ most → most ≤ 100 → 1 ≤ keep → n ≤ last →
-    last ≤ length history → last ≤ 4294967295 → FollowFrom 1 history → last_id (log_of pages) ≡ id_behind n → last - max n (last - keep) < turns →
+    last ≤ length history → last ≤ 4294967295 → FollowFrom 1 history → last_id (log_of pages) ≡ id_after n → last - max n (last - keep) < turns →
     CaughtUp keep history last n pages (catch_up turns most (kept_by owner (newest keep (take last history))) pages)
-catch_up_is zero most keep n last owner history pages asked limit some within long few follow behind enough = absurd (omega arith)
-catch_up_is (suc turns) most keep n last owner history pages asked limit some within long few follow behind enough =
+catch_up_is zero most keep n last owner history pages asked limit some within long few follow following enough = absurd (omega arith)
+catch_up_is (suc turns) most keep n last owner history pages asked limit some within long few follow following enough =
     let turn = turn_at last most in
     let page = page_by keep history n turn in
     let kept = kept_by owner (newest keep (take last history)) in
     let go = goes keep n last last history turn some within (omega arith) asked (omega arith) long follow in
-    subst (λ result. CaughtUp keep history last n pages result) (sym (catch_up_turn turns most keep n last owner history pages limit some within long few follow behind))
+    subst (λ result. CaughtUp keep history last n pages result) (sym (catch_up_turn turns most keep n last owner history pages limit some within long few follow following))
     (cond_both (leb (last - start_of keep n turn) most) (pages ++ page ∷ []) (catch_up turns most kept (pages ++ page ∷ [])) (λ result. CaughtUp keep history last n pages result)
     (λ complete. last_turn most keep n last history pages asked some within complete)
     (λ partial.
     let left : last - max (end_of keep n turn) (last - keep) < turns =
     less_left most keep n last turns asked (leb-false (last - start_of keep n turn) most partial) enough in
     further_turn most keep n last history pages (catch_up turns most kept (pages ++ page ∷ [])) asked partial
-    (catch_up_is turns most keep (end_of keep n turn) last owner history (pages ++ page ∷ []) asked limit some go.within long few follow (last_push keep n history turn pages go behind) left)))
+    (catch_up_is turns most keep (end_of keep n turn) last owner history (pages ++ page ∷ []) asked limit some go.within long few follow (last_push keep n history turn pages go following) left)))

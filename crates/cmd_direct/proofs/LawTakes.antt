@@ -17,7 +17,7 @@ use Rattle.cmd_schedule.specs.Contents.{accounts_of, along, devices_of, home_of,
 use Rattle.cmd_direct.specs.Direct.{device_line, report_by, said_at, said_line, take_at, taken, takes_of}
 use Rattle.cmd_report.specs.Lines.{take_line}
 use Rattle.base_io.specs.Names.{is_among}
-use Rattle.cmd_report.specs.Lawful.{AreNumberedBehind, AreOutcomes, AreSubmissions, EachPair, IsOfSubmission, IsOutcome, Precedes, device_named, is_taken, submission, take_named, takes_in}
+use Rattle.cmd_report.specs.Lawful.{AreNumberedAfter, AreOutcomes, AreSubmissions, EachPair, IsOfSubmission, IsOutcome, Precedes, device_named, is_taken, submission, take_named, takes_in}
 use Rattle.cmd_report.specs.LawfulRuns.{history_of, timed_take}
 use Rattle.cmd_schedule.specs.Schedules.{steps_of}
 use Rattle.cmd_report.specs.declared.report.RefusedLine.{RefusedLine}
@@ -62,21 +62,21 @@ lower_one device n step before steps name to text rest by low =
       | inr other ↦ rw other
     ]
 
-behind_lower : (device : List ℕ) (n : ℕ) (before steps : List Step) (rest : List SaidLine) → sent_by device (before ++ steps) < n →
+after_lower : (device : List ℕ) (n : ℕ) (before steps : List Step) (rest : List SaidLine) → sent_by device (before ++ steps) < n →
     submission 1 n (along (said_at device) before steps ++ rest) ≡ submission 1 n rest
-behind_lower device n before [] rest low = refl
-behind_lower device n before (Say name to text ∷ steps) rest low =
+after_lower device n before [] rest low = refl
+after_lower device n before (Say name to text ∷ steps) rest low =
     let later = along (said_at device) (before ++ Say name to text ∷ []) steps in
     ap (submission 1 n) (append_assoc (said_line device before name to text) later rest)
     ∙ lower_one device n (Say name to text) before steps name to text (later ++ rest) refl low
-    ∙ behind_lower device n (before ++ Say name to text ∷ []) steps rest (rw (append_assoc before (Say name to text ∷ []) steps) low)
-behind_lower device n before (Private name to text ∷ steps) rest low =
+    ∙ after_lower device n (before ++ Say name to text ∷ []) steps rest (rw (append_assoc before (Say name to text ∷ []) steps) low)
+after_lower device n before (Private name to text ∷ steps) rest low =
     let later = along (said_at device) (before ++ Private name to text ∷ []) steps in
     ap (submission 1 n) (append_assoc (said_line device before name to text) later rest)
     ∙ lower_one device n (Private name to text) before steps name to text (later ++ rest) refl low
-    ∙ behind_lower device n (before ++ Private name to text ∷ []) steps rest (rw (append_assoc before (Private name to text ∷ []) steps) low)
-behind_lower device n before (step ∷ steps) rest low =
-    behind_lower device n (before ++ step ∷ []) steps rest (rw (append_assoc before (step ∷ []) steps) low)
+    ∙ after_lower device n (before ++ Private name to text ∷ []) steps rest (rw (append_assoc before (Private name to text ∷ []) steps) low)
+after_lower device n before (step ∷ steps) rest low =
+    after_lower device n (before ++ step ∷ []) steps rest (rw (append_assoc before (step ∷ []) steps) low)
 
 -- a submission is found by its number
 submission_found : (device to text : List ℕ) (before rest : List Step) (step : Step) → said_at device before step ≡ submitted (sent_by device before + 1) to text ∷ [] →
@@ -86,7 +86,7 @@ submission_found device to text before rest step said =
     let low : sent_by device before < sent_by device before + 1 = omega arith in
     let same : (sent_by device before + 1 == sent_by device before + 1) ≡ true = eq-eqb (sent_by device before + 1) (sent_by device before + 1) refl in
     rw (along-append (said_at device) [] before (step ∷ rest))
-    (behind_lower device (sent_by device before + 1) [] before (along (said_at device) before (step ∷ rest)) low
+    (after_lower device (sent_by device before + 1) [] before (along (said_at device) before (step ∷ rest)) low
     ∙ rw (said, same))
 
 said_itself : (device to text : List ℕ) (before : List Step) → said_line device before device to text ≡ submitted (sent_by device before + 1) to text ∷ []
@@ -165,8 +165,8 @@ takes_exist version all known =
 -- the submissions of a device are numbered
 numbered_one : (device : List ℕ) (step : Step) (before : List Step) (name to text : List ℕ) (last : SaidLine) (later : List SaidLine) →
     is_said_by device step ≡ bytes_eq device name → last.epoch ≡ 1 → last.n ≡ sent_by device before →
-    ((next : SaidLine) → next.epoch ≡ 1 → next.n ≡ sent_by device (before ++ step ∷ []) → AreNumberedBehind next later) →
-    AreNumberedBehind last (said_line device before name to text ++ later)
+    ((next : SaidLine) → next.epoch ≡ 1 → next.n ≡ sent_by device (before ++ step ∷ []) → AreNumberedAfter next later) →
+    AreNumberedAfter last (said_line device before name to text ++ later)
 numbered_one device step before name to text last later by epoch number rest =
     elim (cases_Bool (bytes_eq device name)) [
       | inl same ↦
@@ -174,21 +174,21 @@ numbered_one device step before name to text last later by epoch number rest =
       | inr other ↦ rw other (rest last epoch (number ∙ sym (sent_none device step before (by ∙ other))))
     ]
 
-numbered_behind : (device : List ℕ) (before steps : List Step) (last : SaidLine) → last.epoch ≡ 1 → last.n ≡ sent_by device before →
-    AreNumberedBehind last (along (said_at device) before steps)
-numbered_behind device before [] last epoch number = tt
-numbered_behind device before (Say name to text ∷ steps) last epoch number =
+numbered_after : (device : List ℕ) (before steps : List Step) (last : SaidLine) → last.epoch ≡ 1 → last.n ≡ sent_by device before →
+    AreNumberedAfter last (along (said_at device) before steps)
+numbered_after device before [] last epoch number = tt
+numbered_after device before (Say name to text ∷ steps) last epoch number =
     numbered_one device (Say name to text) before name to text last (along (said_at device) (before ++ Say name to text ∷ []) steps) refl epoch number
-    (numbered_behind device (before ++ Say name to text ∷ []) steps)
-numbered_behind device before (Private name to text ∷ steps) last epoch number =
+    (numbered_after device (before ++ Say name to text ∷ []) steps)
+numbered_after device before (Private name to text ∷ steps) last epoch number =
     numbered_one device (Private name to text) before name to text last (along (said_at device) (before ++ Private name to text ∷ []) steps) refl epoch number
-    (numbered_behind device (before ++ Private name to text ∷ []) steps)
-numbered_behind device before (step ∷ steps) last epoch number =
-    numbered_behind device (before ++ step ∷ []) steps last epoch (number ∙ sym (sent_none device step before refl))
+    (numbered_after device (before ++ Private name to text ∷ []) steps)
+numbered_after device before (step ∷ steps) last epoch number =
+    numbered_after device (before ++ step ∷ []) steps last epoch (number ∙ sym (sent_none device step before refl))
 
 submissions_one : (device : List ℕ) (step : Step) (before : List Step) (name to text : List ℕ) (later : List SaidLine) →
     is_said_by device step ≡ bytes_eq device name → sent_by device before ≡ 0 →
-    ((next : SaidLine) → next.epoch ≡ 1 → next.n ≡ sent_by device (before ++ step ∷ []) → AreNumberedBehind next later) →
+    ((next : SaidLine) → next.epoch ≡ 1 → next.n ≡ sent_by device (before ++ step ∷ []) → AreNumberedAfter next later) →
     (sent_by device (before ++ step ∷ []) ≡ 0 → AreSubmissions later) →
     AreSubmissions (said_line device before name to text ++ later)
 submissions_one device step before name to text later by none rest still =
@@ -203,10 +203,10 @@ numbered_from_none : (device : List ℕ) (before steps : List Step) → sent_by 
 numbered_from_none device before [] none = tt
 numbered_from_none device before (Say name to text ∷ steps) none =
     submissions_one device (Say name to text) before name to text (along (said_at device) (before ++ Say name to text ∷ []) steps) refl none
-    (numbered_behind device (before ++ Say name to text ∷ []) steps) (numbered_from_none device (before ++ Say name to text ∷ []) steps)
+    (numbered_after device (before ++ Say name to text ∷ []) steps) (numbered_from_none device (before ++ Say name to text ∷ []) steps)
 numbered_from_none device before (Private name to text ∷ steps) none =
     submissions_one device (Private name to text) before name to text (along (said_at device) (before ++ Private name to text ∷ []) steps) refl none
-    (numbered_behind device (before ++ Private name to text ∷ []) steps) (numbered_from_none device (before ++ Private name to text ∷ []) steps)
+    (numbered_after device (before ++ Private name to text ∷ []) steps) (numbered_from_none device (before ++ Private name to text ∷ []) steps)
 numbered_from_none device before (step ∷ steps) none =
     numbered_from_none device (before ++ step ∷ []) steps (sent_none device step before refl ∙ none)
 

@@ -23,7 +23,7 @@ use Rattle.cmd_report.proofs.TakenArchives.{archive_few}
 use Rattle.cmd_report.specs.EntryLines.{EntryLineView}
 use Rattle.cmd_report.specs.Lawful.{AgreeOnStamp, ArePages, AreOutcomes, AreSubmissions, EachPair, IsAcknowledgedFirst, IsAcknowledgedRight, IsLawful, IsLogged, IsOfSchedule, IsOnceInOrder, IsPaged, IsPrefixOfAccount, IsSettledRight, IsTakenFirst, IsTakenRight, IsUndisturbed, Precedes, account_named, at_any_time, is_taken, takes_in}
 use Rattle.cmd_report.specs.LawfulRuns.{ArePagesOfRuns, IsInForm, IsLawfulKeeping, IsLoggedInRuns, IsNewestOf, IsPagedInRuns, IsRunsOf, IsTakenAndKept, KeepsLaws, KeepsLawsOf, history_of, tells_moments}
-use Rattle.cmd_report.specs.Lines.{entry_line, take_line, told_moment}
+use Rattle.cmd_report.specs.Lines.{entry_line, reported_moment, take_line}
 use Rattle.cmd_report.specs.Reports.{AccountView, DeviceView}
 use Rattle.cmd_report.specs.Takes.{archive_of}
 use Rattle.cmd_report.specs.declared.report.SaidMark.TheVariants.{Acknowledged, Waiting}
@@ -78,7 +78,7 @@ whole_kept all few name =
 
 -- The form.
 
-moment_told : (version : Version) (moment : ℕ) → is_some (told_moment version moment) ≡ tells_moments version
+moment_told : (version : Version) (moment : ℕ) → is_some (reported_moment version moment) ≡ tells_moments version
 moment_told One moment = refl
 moment_told (Two keep) moment = refl
 

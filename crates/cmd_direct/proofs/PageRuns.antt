@@ -135,10 +135,10 @@ caught_up keep all device before rest most turns whole few some asked limit rise
     let long : last ≤ length history = front.within in
     let small : last ≤ 4294967295 = omega (arith, history_few all device few) in
     let bounds = ends_bounds keep 0 0 last turns some (omega arith) rise in
-    let behind = last_id_by keep last history turns some rise long (history_follows all device) in
+    let following = last_id_by keep last history turns some rise long (history_follows all device) in
     let enough : last - max n (last - keep) < length (newest keep (take last history)) + 1 = enough_turns (length (newest keep (take last history))) n last keep (length_kept keep last history long) in
     subst (λ es. CaughtUp keep history last n pages (catch_up (length (newest keep es) + 1) most (kept_by owner (newest keep es)) pages)) (sym front.same)
-    (catch_up_is (length (newest keep (take last history)) + 1) most keep n last owner history pages asked limit some bounds.1 long small (history_follows all device) behind enough)
+    (catch_up_is (length (newest keep (take last history)) + 1) most keep n last owner history pages asked limit some bounds.1 long small (history_follows all device) following enough)
   where
     enough_turns : (size n last keep : ℕ) → size ≡ min last keep → last - max n (last - keep) < size + 1
     enough_turns size n last keep is = omega arith
@@ -287,7 +287,7 @@ placed : (keep : ℕ) (all : List Step) (device : List ℕ) (before : List Step)
     pages_of keep all device all ≡ pages_at keep all device ((turns ++ more) ++ later) → AreRising 0 (length (history_at all device)) ((turns ++ more) ++ later) →
     AllByRecursion (λ turn. turn.last ≡ last_at all device before) more → IsPageOf keep all device before k
 placed keep all device before k turns more later low split are rise lasts =
-    let place : (turns ++ more) ++ later ≡ (turns ++ split.front) ++ split.item ∷ (split.rest ++ later) =
+    let position : (turns ++ more) ++ later ≡ (turns ++ split.front) ++ split.item ∷ (split.rest ++ later) =
     ap (λ ts. (turns ++ ts) ++ later) split.joined
     ∙ append_assoc turns (split.front ++ split.item ∷ split.rest) later
     ∙ ap (λ ts. turns ++ ts) (append_assoc split.front (split.item ∷ split.rest) later)
@@ -297,8 +297,8 @@ placed keep all device before k turns more later low split are rise lasts =
         front = turns ++ split.front;
         turn = split.item;
         rest = split.rest ++ later;
-        are = are ∙ ap (pages_at keep all device) place;
-        rise = subst (λ ts. AreRising 0 (length (history_at all device)) ts) place rise;
+        are = are ∙ ap (pages_at keep all device) position;
+        rise = subst (λ ts. AreRising 0 (length (history_at all device)) ts) position rise;
         many = omega (arith, length-append turns split.front, split.many);
       };
       last = all_item (λ turn. turn.last ≡ last_at all device before) split.front split.rest split.item

@@ -9,7 +9,7 @@ use Rattle.mam_archive.proofs.NumberedEntries.{FollowFrom}
 use Rattle.mam_archive.specs.Entries.{EntryView, entry_numbered, newest}
 use Rattle.mam_archive.specs.Ids.{id_of}
 use Rattle.base_lemmas.proofs.Lists.{AllByRecursion-weaker}
-use Rattle.cmd_direct.proofs.NextPages.{id_behind}
+use Rattle.cmd_direct.proofs.NextPages.{id_after}
 use Rattle.cmd_direct.proofs.PageRuns.{ArePaged, IsPageOf, IsTurnOf, completed, front_at, history_at, history_few, history_follows, last_at, last_grows, page_of_step, paged_at, pages_at, turn_of}
 use Rattle.cmd_direct.proofs.TurnRuns.{IsIn, each_by, ids_differ, ids_from, in_history, kept_in, last_number_by, line_entry, line_id, lines_by, number_follow, numbers_within, pairs_unmap, runs_by}
 use Rattle.cmd_direct.proofs.TurnTiles.{before_turns, complete_end, complete_lines, first_number_is, last_lines_by, last_number_is, page_at_turn, tiles_by, total_whole, whole_by}
@@ -25,7 +25,7 @@ use Rattle.cmd_report.specs.LawfulRuns.{ArePagesOfRuns, AreTilesOfRuns, EndsWhol
 use Rattle.cmd_report.specs.Lines.{entry_line, logged_from, page_line}
 use Rattle.cmd_report.specs.Reports.{DeviceView}
 use Rattle.cmd_report.specs.Takes.{archive_of}
-use Rattle.cmd_report.specs.Worlds.{World}
+use Rattle.cmd_report.specs.Worlds.{ReportWorld}
 use Rattle.cmd_report.specs.declared.report.LoggedLine.{LoggedLine}
 use Rattle.cmd_report.specs.declared.report.PageLine.{PageLine}
 use Rattle.cmd_schedule.proofs.StandingSteps.{AreStanding}
@@ -76,7 +76,7 @@ first_world keep all before [] = refl
 first_world keep all before (step ∷ steps) = refl
 
 -- a step of these, and the worlds before and after it
-pub record IsMove (keep : ℕ) (all whole : List Step) (world next : World) : Type 1 where
+pub record IsMove (keep : ℕ) (all whole : List Step) (world next : ReportWorld) : Type 1 where
   pub before : List Step
   pub step : Step
   pub rest : List Step
@@ -84,19 +84,19 @@ pub record IsMove (keep : ℕ) (all whole : List Step) (world next : World) : Ty
   pub was : world_after keep all before ≡ world
   pub is : world_after keep all (before ++ step ∷ []) ≡ next
 
-pub move_at : (keep : ℕ) (all before steps : List Step) (i : ℕ) (world next : World) → slice_get (worlds_from keep all before steps) i ≡ Some world →
+pub move_at : (keep : ℕ) (all before steps : List Step) (i : ℕ) (world next : ReportWorld) → slice_get (worlds_from keep all before steps) i ≡ Some world →
     slice_get (worlds_from keep all before steps) (suc i) ≡ Some next → IsMove keep all (before ++ steps) world next
-move_at keep all before [] i world next at behind = absurd (none-some next behind)
-move_at keep all before (step ∷ steps) zero world next at behind = record {
+move_at keep all before [] i world next at following = absurd (none-some next following)
+move_at keep all before (step ∷ steps) zero world next at following = record {
   before = before;
   step = step;
   rest = steps;
   joined = refl;
   was = same_Some (world_after keep all before) world at;
-  is = same_Some (world_after keep all (before ++ step ∷ [])) next (sym (first_world keep all (before ++ step ∷ []) steps) ∙ behind);
+  is = same_Some (world_after keep all (before ++ step ∷ [])) next (sym (first_world keep all (before ++ step ∷ []) steps) ∙ following);
 }
-move_at keep all before (step ∷ steps) (suc i) world next at behind =
-    rw (append_assoc before (step ∷ []) steps) at (move_at keep all (before ++ step ∷ []) steps i world next at behind)
+move_at keep all before (step ∷ steps) (suc i) world next at following =
+    rw (append_assoc before (step ∷ []) steps) at (move_at keep all (before ++ step ∷ []) steps i world next at following)
 
 pub ends_with : (keep : ℕ) (all before steps : List Step) (device : DeviceView) → length (pages_of keep all device.name (before ++ steps)) ≡ length device.pages →
     EndsWith (worlds_from keep all before steps) device
@@ -106,19 +106,19 @@ ends_with keep all before (x ∷ y ∷ steps) device same =
     ends_with keep all (before ++ x ∷ []) (y ∷ steps) device (rw (append_assoc before (x ∷ []) (y ∷ steps)) same)
 
 -- in a direct run as many pages were asked for as were taken over
-pub asked_as_taken : (keep : ℕ) (all : List Step) (name : List ℕ) (world next : World) → IsMove keep all all world next →
+pub asked_as_taken : (keep : ℕ) (all : List Step) (name : List ℕ) (world next : ReportWorld) → IsMove keep all all world next →
     (world.asked name ≡ length (world.pages name)) × (next.asked name ≡ length (next.pages name))
 asked_as_taken keep all name world next move = (
-  ap (λ (w : World). w.asked name) (sym move.was) ∙ ap (λ (w : World). length (w.pages name)) move.was,
-  ap (λ (w : World). w.asked name) (sym move.is) ∙ ap (λ (w : World). length (w.pages name)) move.is,
+  ap (λ (w : ReportWorld). w.asked name) (sym move.was) ∙ ap (λ (w : ReportWorld). length (w.pages name)) move.was,
+  ap (λ (w : ReportWorld). w.asked name) (sym move.is) ∙ ap (λ (w : ReportWorld). length (w.pages name)) move.is,
 )
 
 -- the turn of a page that a move brought
-pub page_of_move : (keep : ℕ) (all : List Step) (name : List ℕ) (world next : World) (move : IsMove keep all all world next) (k : ℕ) → 1 ≤ keep → AreStanding [] all →
+pub page_of_move : (keep : ℕ) (all : List Step) (name : List ℕ) (world next : ReportWorld) (move : IsMove keep all all world next) (k : ℕ) → 1 ≤ keep → AreStanding [] all →
     length all ≤ 100000 → length (world.pages name) ≤ k → k < length (next.pages name) → IsPageOf keep all name move.before k
 page_of_move keep all name world next move k some stand few low high =
-    let was : length (pages_of keep all name move.before) ≡ length (world.pages name) = ap (λ (w : World). length (w.pages name)) move.was in
-    let is_now : length (pages_of keep all name (move.before ++ move.step ∷ [])) ≡ length (next.pages name) = ap (λ (w : World). length (w.pages name)) move.is in
+    let was : length (pages_of keep all name move.before) ≡ length (world.pages name) = ap (λ (w : ReportWorld). length (w.pages name)) move.was in
+    let is_now : length (pages_of keep all name (move.before ++ move.step ∷ [])) ≡ length (next.pages name) = ap (λ (w : ReportWorld). length (w.pages name)) move.is in
     page_of_step keep all name move.before move.rest move.step k move.joined stand few some (omega arith) (omega arith)
 
 -- what an archive had before the move that brought a page is no later than what it had for the page
@@ -161,22 +161,22 @@ first_of_span keep last history some long follow =
     nothing_purged size last keep some is none = omega arith
 
 -- the archive of a world, as what is kept of the history
-pub kept_of_world : (keep : ℕ) (all : List Step) (name : List ℕ) (before rest : List Step) (world : World) → before ++ rest ≡ all → world_after keep all before ≡ world →
+pub kept_of_world : (keep : ℕ) (all : List Step) (name : List ℕ) (before rest : List Step) (world : ReportWorld) → before ++ rest ≡ all → world_after keep all before ≡ world →
     world.archive (home_of all name) ≡ span (last_at all name before - keep) (last_at all name before) (history_at all name)
 kept_of_world keep all name before rest world whole is =
     let front = front_at all name before rest whole in
-    ap (λ (w : World). w.archive (home_of all name)) (sym is)
+    ap (λ (w : ReportWorld). w.archive (home_of all name)) (sym is)
     ∙ ap (newest keep) front.same
     ∙ newest_span keep (last_at all name before) (history_at all name) front.within
 
-pub last_of_world : (keep : ℕ) (all : List Step) (name : List ℕ) (before rest : List Step) (world : World) → 1 ≤ keep → before ++ rest ≡ all →
+pub last_of_world : (keep : ℕ) (all : List Step) (name : List ℕ) (before rest : List Step) (world : ReportWorld) → 1 ≤ keep → before ++ rest ≡ all →
     world_after keep all before ≡ world → last_number (world.archive (home_of all name)) ≡ last_at all name before
 last_of_world keep all name before rest world some whole is =
     let front = front_at all name before rest whole in
     ap last_number (kept_of_world keep all name before rest world whole is)
     ∙ last_of_span keep (last_at all name before) (history_at all name) some front.within (history_follows all name)
 
-pub first_of_world : (keep : ℕ) (all : List Step) (name : List ℕ) (before rest : List Step) (world : World) → 1 ≤ keep → before ++ rest ≡ all →
+pub first_of_world : (keep : ℕ) (all : List Step) (name : List ℕ) (before rest : List Step) (world : ReportWorld) → 1 ≤ keep → before ++ rest ≡ all →
     world_after keep all before ≡ world → first_number (world.archive (home_of all name)) ≡ suc (last_at all name before - keep)
 first_of_world keep all name before rest world some whole is =
     let front = front_at all name before rest whole in
@@ -213,8 +213,8 @@ pub record Reaches (keep : ℕ) (all : List Step) (name : List ℕ) (k : ℕ) (t
   pub front : AreRising 0 t.turn.last t.front
   pub rise : AreRising 0 t.turn.last (t.front ++ t.turn ∷ [])
   pub within : ends_at keep 0 t.front ≤ t.turn.last
-  pub before : last_logged (logged_before k (device_line keep all name)) ≡ id_behind (ends_at keep 0 t.front)
-  pub through : last_logged (logged_before (k + 1) (device_line keep all name)) ≡ id_behind (end_of keep (ends_at keep 0 t.front) t.turn)
+  pub before : last_logged (logged_before k (device_line keep all name)) ≡ id_after (ends_at keep 0 t.front)
+  pub through : last_logged (logged_before (k + 1) (device_line keep all name)) ≡ id_after (end_of keep (ends_at keep 0 t.front) t.turn)
 
 pub reaches : (keep : ℕ) (all : List Step) (name : List ℕ) (k : ℕ) (t : IsTurnOf keep all name k) → 1 ≤ keep → length all ≤ 100000 → Reaches keep all name k t
 reaches keep all name k t some few =
@@ -235,7 +235,7 @@ reaches keep all name k t some few =
       within = bounds.1;
       before = ap last_logged (before_of_turn keep all name k t) ∙ last_lines_by keep last history t.front some parts.0 long follow;
       through = ap last_logged (through_turn keep all name k t) ∙ last_lines_by keep last history (t.front ++ t.turn ∷ []) some rise long follow
-          ∙ ap id_behind (ends_at-append keep 0 t.front (t.turn ∷ []));
+          ∙ ap id_after (ends_at-append keep 0 t.front (t.turn ∷ []));
     }
 
 -- a complete page reaches the archive's last number
@@ -250,9 +250,9 @@ complete_turn keep all name k total t line some few at is =
 
 -- Law 5.
 
-place_of_line : (keep : ℕ) (all : List Step) (name : List ℕ) (k : ℕ) (line : PageLine) → slice_get (map page_line (pages_of keep all name all)) k ≡ Some line →
+position_of_line : (keep : ℕ) (all : List Step) (name : List ℕ) (k : ℕ) (line : PageLine) → slice_get (map page_line (pages_of keep all name all)) k ≡ Some line →
     k < length (pages_of keep all name all)
-place_of_line keep all name k line at =
+position_of_line keep all name k line at =
     omega (arith, slice_get_within (map page_line (pages_of keep all name all)) k line at, length-map (pages_of keep all name all) page_line)
 
 whole_at : (keep : ℕ) (all : List Step) (name : List ℕ) (k total : ℕ) (line : PageLine) (t : IsTurnOf keep all name k) → 1 ≤ keep → length all ≤ 100000 →
@@ -271,7 +271,7 @@ ends_whole : (keep : ℕ) (all : List Step) (name : List ℕ) → 1 ≤ keep →
     slice_get (map page_line (pages_of keep all name all)) k ≡ Some line → line.total ≡ Some total →
     EndsWhole keep (history_at all name) (logged_before (k + 1) (device_line keep all name)) total
 ends_whole keep all name some stand few k total line at is =
-    whole_at keep all name k total line (turn_of keep all name k stand few some (place_of_line keep all name k line at)) some few at is
+    whole_at keep all name k total line (turn_of keep all name k stand few some (position_of_line keep all name k line at)) some few at is
 
 -- the number of the last entry logged with a complete page is the archive's last number of the page's moment
 fresh_last : (keep : ℕ) (all : List Step) (name : List ℕ) (before : List Step) (k total last : ℕ) (line : PageLine) → 1 ≤ keep → length all ≤ 100000 →
@@ -281,7 +281,7 @@ fresh_last keep all name before k total last line some few page at is number =
     let t = page.turn_of in
     let known = reaches keep all name k t some few in
     let complete = complete_turn keep all name k total t line some few at is in
-    sym page.last ∙ last_number_is t.turn.last last known.small (subst (λ id. IsLastNumber id last) (known.through ∙ ap id_behind complete.0) number)
+    sym page.last ∙ last_number_is t.turn.last last known.small (subst (λ id. IsLastNumber id last) (known.through ∙ ap id_after complete.0) number)
 
 is_fresh_to : (keep : ℕ) (all : List Step) (name : List ℕ) → 1 ≤ keep → AreStanding [] all → length all ≤ 100000 → (k total last : ℕ) (line : PageLine) →
     slice_get (map page_line (pages_of keep all name all)) k ≡ Some line → line.total ≡ Some total →
@@ -414,10 +414,10 @@ asked_number n old last small one is =
           (id_of_same n last (omega arith) (omega arith) number.2, newer)
     ]
 
-behind_number : (keep : ℕ) (all : List Step) (name : List ℕ) (before : List Step) (k last : ℕ) (line : PageLine) → 1 ≤ keep → length all ≤ 100000 →
+after_number : (keep : ℕ) (all : List Step) (name : List ℕ) (before : List Step) (k last : ℕ) (line : PageLine) → 1 ≤ keep → length all ≤ 100000 →
     IsPageOf keep all name before k → slice_get (map page_line (pages_of keep all name all)) k ≡ Some line → 1 ≤ last → IsLastNumber line.after last →
     last_at all name before - keep < last
-behind_number keep all name before k last line some few page at one number =
+after_number keep all name before k last line some few page at one number =
     let t = page.turn_of in
     let n = ends_at keep 0 t.front in
     let known = reaches keep all name k t some few in
@@ -435,7 +435,7 @@ is_kept_when_asked keep all name some stand few k last line at one number i aski
     let ask = move_at keep all [] all i asking asked here (rw add-one at next) in
     let counts = asked_as_taken keep all name asking asked ask in
     let page = page_of_move keep all name asking asked ask k some stand few (omega (arith, counts.0, asks.0)) (omega (arith, counts.1, asks.1)) in
-    let newer : last_at all name ask.before - keep < last = behind_number keep all name ask.before k last line some few page at one number in
+    let newer : last_at all name ask.before - keep < last = after_number keep all name ask.before k last line some few page at one number in
     let was : first_number (asking.archive (home_of all name)) ≡ suc (last_at all name ask.before - keep) =
     first_of_world keep all name ask.before (ask.step ∷ ask.rest) asking some ask.joined ask.was in
     above was newer
@@ -522,7 +522,7 @@ pages_right keep s all name steps some stand few =
       fresh = λ k total last line at is number. is_fresh_to keep all name some stand few k total last line at is number;
       purged = λ k last line at after count one number. is_purged_by keep all name some stand few k last line at after number;
       oldest = λ k first line at after number. is_oldest_kept keep all name some stand few k first line at after number;
-      behind = λ k last line at one number. is_kept_when_asked keep all name some stand few k last line at one number;
+      following = λ k last line at one number. is_kept_when_asked keep all name some stand few k last line at one number;
       known = λ k last line at number. is_given_by keep all name some stand few k last number;
       last = ends_with keep all [] all (device_line keep all name) (sym (length-map (pages_of keep all name all) page_line));
       answered = λ direct. answered_right keep s all name steps known;

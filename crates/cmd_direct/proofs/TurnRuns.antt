@@ -21,8 +21,8 @@ use Rattle.mam_log.specs.declared.log_entry.LogEntry.{LogEntry}
 use Rattle.mam_pages.specs.Kept.{last_number_or}
 use Rattle.cmd_report.specs.EntryLines.{EntryLineView}
 use Rattle.cmd_report.specs.Lawful.{EachPair, last_logged}
-use Rattle.cmd_report.specs.LawfulRuns.{AreRuns, AreRunsBehind}
-use Rattle.cmd_report.specs.Lines.{entry_line, is_break, logged_behind, logged_from, logged_line}
+use Rattle.cmd_report.specs.LawfulRuns.{AreRuns, AreRunsAfter}
+use Rattle.cmd_report.specs.Lines.{entry_line, is_break, logged_after, logged_from, logged_line}
 use Rattle.cmd_report.specs.declared.report.LoggedLine.{LoggedLine}
 use Rattle.cmd_schedule.proofs.Lists.{all_append, each_among, map-map}
 
@@ -37,17 +37,17 @@ line_id l = l.entry.id
 abbrev line_of_log : LogEntry → EntryLineView
 line_of_log l = line_entry (logged_line false l)
 
-entries_behind : (broken : Bool) (es : List LogEntry) → map line_entry (logged_behind broken es) ≡ map line_of_log es
-entries_behind broken [] = refl
-entries_behind broken (e ∷ es) = ap (λ t. line_of_log e ∷ t) (map-map (logged_line false) line_entry es)
+entries_after : (broken : Bool) (es : List LogEntry) → map line_entry (logged_after broken es) ≡ map line_of_log es
+entries_after broken [] = refl
+entries_after broken (e ∷ es) = ap (λ t. line_of_log e ∷ t) (map-map (logged_line false) line_entry es)
 
 pub entries_logged : (c : ℕ) (pages : List LogPage) → map line_entry (logged_from c pages) ≡ map line_of_log (log_of pages)
 entries_logged c [] = refl
 entries_logged c (page ∷ pages) =
-    let here = logged_behind (is_break c page.after) page.entries in
+    let here = logged_after (is_break c page.after) page.entries in
     let rest = logged_from (c + length page.entries) pages in
     map-append line_entry here rest
-    ∙ ap (λ es. es ++ map line_entry rest) (entries_behind (is_break c page.after) page.entries)
+    ∙ ap (λ es. es ++ map line_entry rest) (entries_after (is_break c page.after) page.entries)
     ∙ ap (λ es. map line_of_log page.entries ++ es) (entries_logged (c + length page.entries) pages)
     ∙ sym (map-append line_of_log page.entries (log_of pages))
 
@@ -64,9 +64,9 @@ ids_from lines es same =
     ∙ ap (map (λ (v : EntryLineView). v.id)) same
     ∙ map-map entry_line (λ (v : EntryLineView). v.id) es
 
-pub length_behind : (broken : Bool) (es : List LogEntry) → length (logged_behind broken es) ≡ length es
-length_behind broken [] = refl
-length_behind broken (e ∷ es) = ap suc (length-map es (logged_line false))
+pub length_after : (broken : Bool) (es : List LogEntry) → length (logged_after broken es) ≡ length es
+length_after broken [] = refl
+length_after broken (e ∷ es) = ap suc (length-map es (logged_line false))
 
 pub length_logged : (c : ℕ) (pages : List LogPage) → length (logged_from c pages) ≡ length (log_of pages)
 length_logged c pages =
@@ -118,8 +118,8 @@ goes keep n low high history turn some within rise asked top long follow =
 -- Runs.
 
 runs_further : (before : EntryView) (s : ℕ) (es rest : List EntryView) (lines : List LoggedLine) → FollowFrom (suc s) es → before.number ≡ s →
-    ((b : EntryView) → b.number ≡ s + length es → AreRunsBehind b rest lines) →
-    AreRunsBehind before (es ++ rest) (map (logged_line false) (map as_logged es) ++ lines)
+    ((b : EntryView) → b.number ≡ s + length es → AreRunsAfter b rest lines) →
+    AreRunsAfter before (es ++ rest) (map (logged_line false) (map as_logged es) ++ lines)
 runs_further before s [] rest lines follow is more = more before (omega arith)
 runs_further before s (e ∷ es) rest lines follow is more =
     let number : e.number ≡ suc s = follow.0 in
@@ -127,16 +127,16 @@ runs_further before s (e ∷ es) rest lines follow is more =
 
 runs_joined : (before : EntryView) (s : ℕ) (broken : Bool) (es rest : List EntryView) (lines : List LoggedLine) → FollowFrom (suc s) es → before.number ≤ s →
     (broken ≡ false → before.number ≡ s) → (length es ≡ 0 → before.number ≡ s) →
-    ((b : EntryView) → b.number ≡ s + length es → AreRunsBehind b rest lines) →
-    AreRunsBehind before (es ++ rest) (logged_behind broken (map as_logged es) ++ lines)
+    ((b : EntryView) → b.number ≡ s + length es → AreRunsAfter b rest lines) →
+    AreRunsAfter before (es ++ rest) (logged_after broken (map as_logged es) ++ lines)
 runs_joined before s broken [] rest lines follow low joined empty more = more before (omega (arith, empty refl))
 runs_joined before s broken (e ∷ es) rest lines follow low joined empty more =
     let number : e.number ≡ suc s = follow.0 in
     (omega arith, λ unbroken. omega (arith, joined unbroken), runs_further e (suc s) es rest lines follow.1 number (λ b end. more b (omega arith)))
 
 runs_start : (s : ℕ) (broken : Bool) (es rest : List EntryView) (lines : List LoggedLine) → FollowFrom (suc s) es → broken ≡ false →
-    (length es ≡ 0 → AreRuns rest lines) → (1 ≤ length es → (b : EntryView) → b.number ≡ s + length es → AreRunsBehind b rest lines) →
-    AreRuns (es ++ rest) (logged_behind broken (map as_logged es) ++ lines)
+    (length es ≡ 0 → AreRuns rest lines) → (1 ≤ length es → (b : EntryView) → b.number ≡ s + length es → AreRunsAfter b rest lines) →
+    AreRuns (es ++ rest) (logged_after broken (map as_logged es) ++ lines)
 runs_start s broken [] rest lines follow unbroken none more = none refl
 runs_start s broken (e ∷ es) rest lines follow unbroken none more =
     (unbroken, runs_further e (suc s) es rest lines follow.1 follow.0 (λ b end. more (omega arith) b (omega arith)))
@@ -157,11 +157,11 @@ nothing_broken zero None is = refl
 nothing_broken zero (Some id) is = refl
 nothing_broken (suc c) after is = absurd (omega arith)
 
-runs_behind : (keep n low high c : ℕ) (history : List EntryView) (turns : List Turn) (before : EntryView) → 1 ≤ keep → n ≤ low → AreRising low high turns →
+runs_after : (keep n low high c : ℕ) (history : List EntryView) (turns : List Turn) (before : EntryView) → 1 ≤ keep → n ≤ low → AreRising low high turns →
     high ≤ length history → FollowFrom 1 history → before.number ≡ n → 1 ≤ c →
-    AreRunsBehind before (run_by keep history n turns) (logged_from c (pages_by keep history n turns))
-runs_behind keep n low high c history [] before some within rise long follow is logged = tt
-runs_behind keep n low high c history (turn ∷ turns) before some within rise long follow is logged =
+    AreRunsAfter before (run_by keep history n turns) (logged_from c (pages_by keep history n turns))
+runs_after keep n low high c history [] before some within rise long follow is logged = tt
+runs_after keep n low high c history (turn ∷ turns) before some within rise long follow is logged =
     let s = start_of keep n turn in
     let t = end_of keep n turn in
     let go = goes keep n low high history turn some within rise.0 rise.1 (rising_bounds turn.last high turns rise.2) long follow in
@@ -170,7 +170,7 @@ runs_behind keep n low high c history (turn ∷ turns) before some within rise l
     (logged_from more (pages_by keep history t turns)) go.follow (rw is go.on)
     (λ unbroken. let new : turn.last - keep < n = not_purged c n (turn.last - keep) (id_of n) logged unbroken in is ∙ stays new)
     (λ none. is ∙ go.empty none)
-    (λ b at. runs_behind keep t turn.last high more history turns b some go.within rise.2 long follow (at ∙ go.whole) (up_more c (length (map as_logged (span s t history))) logged))
+    (λ b at. runs_after keep t turn.last high more history turns b some go.within rise.2 long follow (at ∙ go.whole) (up_more c (length (map as_logged (span s t history))) logged))
   where
     stays : {n old : ℕ} → old < n → n ≡ max n old
     stays new = omega arith
@@ -191,7 +191,7 @@ runs_by keep n low high c history (turn ∷ turns) some within rise long follow 
     runs_start s (is_break c (cond (leb n (turn.last - keep)) None (Some (id_of n)))) (span s t history) (run_by keep history t turns)
     (logged_from more (pages_by keep history t turns)) go.follow (nothing_broken c (cond (leb n (turn.last - keep)) None (Some (id_of n))) nothing)
     (λ empty. runs_by keep t turn.last high more history turns some go.within rise.2 long follow (still go.whole (go.empty empty) empty none) (sum_zero nothing (size ∙ empty)))
-    (λ full b at. runs_behind keep t turn.last high more history turns b some go.within rise.2 long follow (at ∙ go.whole) (some_more c (length (map as_logged (span s t history))) (length (span s t history)) size full))
+    (λ full b at. runs_after keep t turn.last high more history turns b some go.within rise.2 long follow (at ∙ go.whole) (some_more c (length (map as_logged (span s t history))) (length (span s t history)) size full))
   where
     still : {n s k t : ℕ} → s + k ≡ t → n ≡ s → k ≡ 0 → n ≡ 0 → t ≡ 0
     still whole same empty none = omega arith
@@ -204,9 +204,9 @@ runs_by keep n low high c history (turn ∷ turns) some within rise long follow 
 
 -- The entries are those of the history.
 
-pub all_places : {A : Type 0} (P : A → Type 0) (xs : List A) → ((i : ℕ) (x : A) → slice_get xs i ≡ Some x → P x) → AllByRecursion P xs
-all_places P [] each = tt
-all_places P (x ∷ xs) each = (each zero x refl, all_places P xs (λ i y at. each (suc i) y at))
+pub all_positions : {A : Type 0} (P : A → Type 0) (xs : List A) → ((i : ℕ) (x : A) → slice_get xs i ≡ Some x → P x) → AllByRecursion P xs
+all_positions P [] each = tt
+all_positions P (x ∷ xs) each = (each zero x refl, all_positions P xs (λ i y at. each (suc i) y at))
 
 all_take : {A : Type 0} (P : A → Type 0) (k : ℕ) (xs : List A) → AllByRecursion P xs → AllByRecursion P (take k xs)
 all_take P zero xs all = tt
@@ -226,11 +226,11 @@ each_by P keep n history (turn ∷ turns) all =
     all_append P (span s t history) (run_by keep history t turns) (all_take P (t - s) (drop s history) (all_drop P s history all)) (each_by P keep t history turns all)
 
 pub in_history : (history : List EntryView) → FollowFrom 1 history → AllByRecursion (λ e. entry_numbered e.number history ≡ Some e) history
-in_history history follow = all_places (λ e. entry_numbered e.number history ≡ Some e) history (λ i e at. entry_is 1 history follow i e at)
+in_history history follow = all_positions (λ e. entry_numbered e.number history ≡ Some e) history (λ i e at. entry_is 1 history follow i e at)
 
 pub numbers_within : (history : List EntryView) → FollowFrom 1 history → AllByRecursion (λ e. e.number ≤ length history) history
 numbers_within history follow =
-    all_places (λ e. e.number ≤ length history) history
+    all_positions (λ e. e.number ≤ length history) history
     (λ i e at.
     let number : e.number ≡ 1 + i = follow_at 1 history i e follow at in
     let there : i < length history = slice_get_within history i e at in
@@ -341,9 +341,9 @@ kept_in keep high history turns some rise long follow =
       | inl below ↦ AllByRecursion-weaker (λ e. p < e.number) (IsIn n log) (λ e above low. absurd (omega arith)) (drop p history) (above_dropped p history follow)
       | inr within ↦
           let end = ends_by keep high p history turns some rise long follow (omega arith) within in
-          let place : p + (n - p) ≡ n = omega arith in
+          let position : p + (n - p) ≡ n = omega arith in
           let parts : span p n history ++ drop n history ≡ drop p history =
-          ap (λ es. span p n history ++ es) (ap (λ k. drop k history) (sym place) ∙ sym (drop-drop (n - p) p history)) ∙ take-append-drop (n - p) (drop p history) in
+          ap (λ es. span p n history ++ es) (ap (λ k. drop k history) (sym position) ∙ sym (drop-drop (n - p) p history)) ∙ take-append-drop (n - p) (drop p history) in
           let first : AllByRecursion (IsIn n log) (span p n history) =
           AllByRecursion-weaker (λ e. is_among (id_of e.number) (map id_of_entry (span p n history)) ≡ true) (IsIn n log)
           (λ e among low. ap (λ es. is_among (id_of e.number) (map id_of_entry es)) end.joined ∙ among_back (id_of e.number) end.front (span p n history) among) (span p n history)
@@ -355,21 +355,21 @@ kept_in keep high history turns some rise long follow =
 
 -- Numbers rise, so that ids differ.
 
-behind_all : (before : EntryView) (es : List EntryView) (lines : List LoggedLine) → AreRunsBehind before es lines → AllByRecursion (λ e. before.number < e.number) es
-behind_all before [] lines runs = tt
-behind_all before (e ∷ es) [] runs = absurd runs
-behind_all before (e ∷ es) (l ∷ lines) runs =
-    (runs.0, AllByRecursion-weaker (λ f. e.number < f.number) (λ f. before.number < f.number) (λ f above. omega (arith, runs.0)) es (behind_all e es lines runs.2))
+after_all : (before : EntryView) (es : List EntryView) (lines : List LoggedLine) → AreRunsAfter before es lines → AllByRecursion (λ e. before.number < e.number) es
+after_all before [] lines runs = tt
+after_all before (e ∷ es) [] runs = absurd runs
+after_all before (e ∷ es) (l ∷ lines) runs =
+    (runs.0, AllByRecursion-weaker (λ f. e.number < f.number) (λ f. before.number < f.number) (λ f above. omega (arith, runs.0)) es (after_all e es lines runs.2))
 
-behind_pairs : (before : EntryView) (es : List EntryView) (lines : List LoggedLine) → AreRunsBehind before es lines → EachPair (λ a b. a.number < b.number) es
-behind_pairs before [] lines runs = tt
-behind_pairs before (e ∷ es) [] runs = absurd runs
-behind_pairs before (e ∷ es) (l ∷ lines) runs = (behind_all e es lines runs.2, behind_pairs e es lines runs.2)
+after_pairs : (before : EntryView) (es : List EntryView) (lines : List LoggedLine) → AreRunsAfter before es lines → EachPair (λ a b. a.number < b.number) es
+after_pairs before [] lines runs = tt
+after_pairs before (e ∷ es) [] runs = absurd runs
+after_pairs before (e ∷ es) (l ∷ lines) runs = (after_all e es lines runs.2, after_pairs e es lines runs.2)
 
 runs_pairs : (es : List EntryView) (lines : List LoggedLine) → AreRuns es lines → EachPair (λ a b. a.number < b.number) es
 runs_pairs [] lines runs = tt
 runs_pairs (e ∷ es) [] runs = absurd runs
-runs_pairs (e ∷ es) (l ∷ lines) runs = (behind_all e es lines runs.1, behind_pairs e es lines runs.1)
+runs_pairs (e ∷ es) (l ∷ lines) runs = (after_all e es lines runs.1, after_pairs e es lines runs.1)
 
 all_both : {A : Type 0} (P Q R : A → Type 0) → ((x : A) → P x → Q x → R x) → (xs : List A) → AllByRecursion P xs → AllByRecursion Q xs → AllByRecursion R xs
 all_both P Q R each [] first second = tt

@@ -11,15 +11,15 @@ use Rattle.mam_archive.proofs.IdDigits.{id_of_same}
 use Rattle.mam_archive.proofs.NumberedEntries.{FollowFrom}
 use Rattle.mam_archive.specs.Entries.{EntryView, newest}
 use Rattle.mam_archive.specs.Ids.{id_of}
-use Rattle.cmd_direct.proofs.NextPages.{id_behind}
-use Rattle.cmd_direct.proofs.TurnRuns.{Goes, ends_by, goes, ids_from, length_behind, length_logged, line_entry, line_id, last_logged_of, lines_by}
+use Rattle.cmd_direct.proofs.NextPages.{id_after}
+use Rattle.cmd_direct.proofs.TurnRuns.{Goes, ends_by, goes, ids_from, length_after, length_logged, line_entry, line_id, last_logged_of, lines_by}
 use Rattle.cmd_direct.proofs.Turns.{AreRising, Turn, end_of, ends_at, follow_ids, id_of_entry, last_by, last_of, length_span, newest_span, page_by, pages_by, pages_by-append, rising_bounds, run_by, span, start_of}
 use Rattle.cmd_direct.specs.Direct.{as_logged}
 use Rattle.mam_log.specs.LogPages.{LogPage, log_of}
 use Rattle.mam_log.specs.declared.log_entry.LogEntry.{LogEntry}
 use Rattle.cmd_report.specs.Lawful.{last_logged}
 use Rattle.cmd_report.specs.LawfulRuns.{AreTilesOfRuns, BeginsRun, EndsWhole, IsFirstNumber, IsLastNumber}
-use Rattle.cmd_report.specs.Lines.{entry_line, is_break, logged_behind, logged_from, logged_line, page_line}
+use Rattle.cmd_report.specs.Lines.{entry_line, is_break, logged_after, logged_from, logged_line, page_line}
 use Rattle.cmd_report.specs.declared.report.LoggedLine.{LoggedLine}
 use Rattle.cmd_report.specs.declared.report.PageLine.{PageLine}
 use Rattle.cmd_schedule.proofs.Lists.{all_map, all_of, map-map}
@@ -46,10 +46,10 @@ complete_end keep n turn some within complete =
     let short : turn.last - start_of keep n turn ≤ turn.most = leb-true (turn.last - start_of keep n turn) turn.most complete in
     omega arith
 
-asked_behind : (n old : ℕ) (last : Option (List ℕ)) → last ≡ id_behind n →
+asked_after : (n old : ℕ) (last : Option (List ℕ)) → last ≡ id_after n →
     (cond (leb n old) None (Some (id_of n)) ≡ None) ⊎ (cond (leb n old) None (Some (id_of n)) ≡ last)
-asked_behind zero old last is = let first : leb zero old ≡ true = le-leb zero old (omega arith) in inl (rw first refl)
-asked_behind (suc n) old last is =
+asked_after zero old last is = let first : leb zero old ≡ true = le-leb zero old (omega arith) in inl (rw first refl)
+asked_after (suc n) old last is =
     elim (cases_Bool (leb (suc n) old)) [
       | inl gone ↦ inl (rw gone refl)
       | inr there ↦ inr (rw there (sym is))
@@ -60,14 +60,14 @@ none_logged [] none = refl
 none_logged (l ∷ []) none = absurd (none-some l.entry.id (sym none))
 none_logged (l ∷ m ∷ lines) none = absurd (omega (arith, none_logged (m ∷ lines) none))
 
-gone_some : (keep n : ℕ) (turn : Turn) (before : List LoggedLine) → 1 ≤ keep → 1 ≤ turn.most → last_logged before ≡ id_behind n → n ≤ turn.last - keep →
+gone_some : (keep n : ℕ) (turn : Turn) (before : List LoggedLine) → 1 ≤ keep → 1 ≤ turn.most → last_logged before ≡ id_after n → n ≤ turn.last - keep →
     is_break (length before) None ≡ true → 1 ≤ end_of keep n turn - start_of keep n turn
 gone_some keep zero turn before some asked known old broken =
     absurd (let unbroken : is_break 0 None ≡ true = rw (none_logged before known) at broken in false≢true unbroken)
 gone_some keep (suc n) turn before some asked known old broken = omega arith
 
 -- a page that was asked for anew behind entries has one
-broken_some : (keep n : ℕ) (turn : Turn) (before : List LoggedLine) → 1 ≤ keep → 1 ≤ turn.most → last_logged before ≡ id_behind n →
+broken_some : (keep n : ℕ) (turn : Turn) (before : List LoggedLine) → 1 ≤ keep → 1 ≤ turn.most → last_logged before ≡ id_after n →
     is_break (length before) (cond (leb n (turn.last - keep)) None (Some (id_of n))) ≡ true → 1 ≤ end_of keep n turn - start_of keep n turn
 broken_some keep n turn before some asked known broken =
     elim (cases_Bool (leb n (turn.last - keep))) [
@@ -75,7 +75,7 @@ broken_some keep n turn before some asked known broken =
       | inr there ↦ absurd (let unbroken : is_break (length before) (Some (id_of n)) ≡ true = rw there at broken in false≢true unbroken)
     ]
 
-begins : (broken : Bool) (es : List LogEntry) → BeginsRun broken (logged_behind broken es)
+begins : (broken : Bool) (es : List LogEntry) → BeginsRun broken (logged_after broken es)
 begins broken [] = tt
 begins broken (e ∷ es) = (refl, all_map (λ m. m.broken ≡ false) (logged_line false) es (all_of (λ l. false ≡ false) (λ l. refl) es))
 
@@ -84,33 +84,33 @@ tile_step : (before lines more : List LoggedLine) (page : PageLine) (pages : Lis
     BeginsRun (is_break (length before) page.after) lines → AreTilesOfRuns (before ++ lines) pages more → AreTilesOfRuns before (page ∷ pages) (lines ++ more)
 tile_step before lines more page pages size after some anew run rest =
     let front : take page.count (lines ++ more) ≡ lines = take_at lines more page.count size in
-    let behind : drop page.count (lines ++ more) ≡ more = drop_at lines more page.count size in
+    let following : drop page.count (lines ++ more) ≡ more = drop_at lines more page.count size in
     let within : page.count ≤ length (lines ++ more) = omega (arith, length-append lines more) in
-    (after, within, some, anew, rw front run, rw (front, behind) rest)
+    (after, within, some, anew, rw front run, rw (front, following) rest)
 
-pub ids_behind : (broken : Bool) (es : List EntryView) → map line_id (logged_behind broken (map as_logged es)) ≡ map id_of_entry es
-ids_behind broken [] = refl
-ids_behind broken (e ∷ es) =
+pub ids_after : (broken : Bool) (es : List EntryView) → map line_id (logged_after broken (map as_logged es)) ≡ map id_of_entry es
+ids_after broken [] = refl
+ids_after broken (e ∷ es) =
     ap (λ ids. id_of e.number ∷ ids) (map-map (logged_line false) line_id (map as_logged es) ∙ map-map as_logged (λ (l : LogEntry). line_id (logged_line false l)) es)
 
 -- behind one turn more the last id is that of its last number
-pub last_behind : (keep n : ℕ) (history : List EntryView) (turn : Turn) (broken : Bool) (before : List LoggedLine) → Goes keep n history turn →
-    last_logged before ≡ id_behind n →
-    last_logged (before ++ logged_behind broken (map as_logged (span (start_of keep n turn) (end_of keep n turn) history))) ≡ id_behind (end_of keep n turn)
-last_behind keep n history turn broken before go known =
+pub last_after : (keep n : ℕ) (history : List EntryView) (turn : Turn) (broken : Bool) (before : List LoggedLine) → Goes keep n history turn →
+    last_logged before ≡ id_after n →
+    last_logged (before ++ logged_after broken (map as_logged (span (start_of keep n turn) (end_of keep n turn) history))) ≡ id_after (end_of keep n turn)
+last_after keep n history turn broken before go known =
     let entries = span (start_of keep n turn) (end_of keep n turn) history in
-    last_logged_of (before ++ logged_behind broken (map as_logged entries))
-    ∙ ap last_of (map-append line_id before (logged_behind broken (map as_logged entries)))
-    ∙ ap (λ ids. last_of (map line_id before ++ ids)) (ids_behind broken entries)
+    last_logged_of (before ++ logged_after broken (map as_logged entries))
+    ∙ ap last_of (map-append line_id before (logged_after broken (map as_logged entries)))
+    ∙ ap (λ ids. last_of (map line_id before ++ ids)) (ids_after broken entries)
     ∙ follow_ids (map line_id before) n (start_of keep n turn) entries go.follow (sym (last_logged_of before) ∙ known) go.empty
-    ∙ ap id_behind go.whole
+    ∙ ap id_after go.whole
 
 -- a page with an entry counts one
 pub some_count : {a b : ℕ} → a ≡ b → 1 ≤ b → 0 < a
 some_count same some = omega arith
 
 pub tiles_by : (keep n low high : ℕ) (history : List EntryView) (turns : List Turn) (before : List LoggedLine) → 1 ≤ keep → n ≤ low → AreRising low high turns →
-    high ≤ length history → FollowFrom 1 history → last_logged before ≡ id_behind n →
+    high ≤ length history → FollowFrom 1 history → last_logged before ≡ id_after n →
     AreTilesOfRuns before (map page_line (pages_by keep history n turns)) (logged_from (length before) (pages_by keep history n turns))
 tiles_by keep n low high history [] before some within rise long follow known = refl
 tiles_by keep n low high history (turn ∷ turns) before some within rise long follow known =
@@ -120,15 +120,15 @@ tiles_by keep n low high history (turn ∷ turns) before some within rise long f
     let pages = pages_by keep history t turns in
     let entries = span s t history in
     let broken = is_break (length before) page.after in
-    let lines = logged_behind broken (map as_logged entries) in
+    let lines = logged_after broken (map as_logged entries) in
     let go = goes keep n low high history turn some within rise.0 rise.1 (rising_bounds turn.last high turns rise.2) long follow in
-    let size : length lines ≡ length (map as_logged entries) = length_behind broken (map as_logged entries) in
+    let size : length lines ≡ length (map as_logged entries) = length_after broken (map as_logged entries) in
     let count : length (map as_logged entries) ≡ t - s = length-map entries as_logged ∙ go.size in
     let whole : length (before ++ lines) ≡ length before + length (map as_logged entries) = length-append before lines ∙ ap (λ k. length before + k) size in
     let later : AreTilesOfRuns (before ++ lines) (map page_line pages) (logged_from (length (before ++ lines)) pages) =
-    tiles_by keep t turn.last high history turns (before ++ lines) some go.within rise.2 long follow (last_behind keep n history turn broken before go known) in
+    tiles_by keep t turn.last high history turns (before ++ lines) some go.within rise.2 long follow (last_after keep n history turn broken before go known) in
     tile_step before lines (logged_from (length before + length (map as_logged entries)) pages) (page_line page) (map page_line pages) size
-    (asked_behind n (turn.last - keep) (last_logged before) known)
+    (asked_after n (turn.last - keep) (last_logged before) known)
     (λ partial. some_count count (partial_some keep n turn rise.1 (total_partial page.complete page.total partial)))
     (λ anew. some_count count (broken_some keep n turn before some rise.1 known anew))
     (begins broken (map as_logged entries))
@@ -140,7 +140,7 @@ logged_more : (c : ℕ) (xs ys : List LogPage) → (more : List LoggedLine) × (
 logged_more c [] ys = (logged_from c ys, refl)
 logged_more c (x ∷ xs) ys =
     let rest = logged_more (c + length x.entries) xs ys in
-    let lines = logged_behind (is_break c x.after) x.entries in
+    let lines = logged_after (is_break c x.after) x.entries in
     (rest.0, ap (λ ls. lines ++ ls) rest.1 ∙ sym (append_assoc lines (logged_from (c + length x.entries) xs) rest.0))
 
 abbrev count_of_page : PageLine → ℕ
@@ -199,11 +199,11 @@ page_at_turn keep n history (x ∷ front) rest turn = page_at_turn keep (end_of 
 
 -- Last numbers.
 
-pub is_last_number : (n : ℕ) → n ≤ 4294967295 → IsLastNumber (id_behind n) n
+pub is_last_number : (n : ℕ) → n ≤ 4294967295 → IsLastNumber (id_after n) n
 is_last_number zero few = refl
 is_last_number (suc n) few = (omega arith, few, refl)
 
-pub last_number_is : (m n : ℕ) → m ≤ 4294967295 → IsLastNumber (id_behind m) n → m ≡ n
+pub last_number_is : (m n : ℕ) → m ≤ 4294967295 → IsLastNumber (id_after m) n → m ≡ n
 last_number_is zero n few is = sym is
 last_number_is (suc m) n few is =
     let high : n ≤ 4294967295 = is.1 in
@@ -221,7 +221,7 @@ first_number_is s first (l ∷ lines) (e ∷ es) small same follow is =
     id_of_same first (suc s) (omega arith) (omega arith) (sym is.2 ∙ id ∙ ap id_of number)
 
 pub last_lines_by : (keep high : ℕ) (history : List EntryView) (turns : List Turn) → 1 ≤ keep → AreRising 0 high turns → high ≤ length history → FollowFrom 1 history →
-    last_logged (logged_from 0 (pages_by keep history 0 turns)) ≡ id_behind (ends_at keep 0 turns)
+    last_logged (logged_from 0 (pages_by keep history 0 turns)) ≡ id_after (ends_at keep 0 turns)
 last_lines_by keep high history turns some rise long follow =
     last_logged_of (logged_from 0 (pages_by keep history 0 turns))
     ∙ ap last_of (ids_from (logged_from 0 (pages_by keep history 0 turns)) (run_by keep history 0 turns) (lines_by keep 0 0 history turns))
@@ -234,9 +234,9 @@ newest_end : (t : ℕ) (lines : List LoggedLine) (front es : List EntryView) →
 newest_end t lines front es same size =
     let entries = map entry_line front in
     let many : length lines ≡ length front + length es = sym (length-map lines line_entry) ∙ ap length same ∙ length-map (front ++ es) entry_line ∙ length-append front es in
-    let place : length lines - t ≡ length entries = omega (arith, length-map front entry_line) in
+    let position : length lines - t ≡ length entries = omega (arith, length-map front entry_line) in
     sym (drop-map line_entry (length lines - t) lines)
-    ∙ ap (λ k. drop k (map line_entry lines)) place
+    ∙ ap (λ k. drop k (map line_entry lines)) position
     ∙ ap (drop (length entries)) (same ∙ map-append entry_line front es)
     ∙ drop_at entries (map entry_line es) (length entries) refl
 
@@ -251,10 +251,10 @@ whole_by keep history turns last some rise long few follow end =
     let joined : run_by keep history 0 turns ≡ ending.front ++ span p last history = ending.joined ∙ ap (λ k. ending.front ++ span p k history) end in
     let size : length (span p last history) ≡ min last keep = let many = length_span p last history long in omega arith in
     let same : map line_entry lines ≡ map entry_line (ending.front ++ span p last history) = lines_by keep 0 0 history turns ∙ ap (map entry_line) joined in
-    let place : last - min last keep ≡ last - keep = omega arith in
+    let position : last - min last keep ≡ last - keep = omega arith in
     let kept : newest (min last keep) (take last history) ≡ span p last history =
-    newest_span (min last keep) last history long ∙ ap (λ k. span k last history) place in
-    let id : last_logged lines ≡ id_behind last = last_lines_by keep last history turns some rise long follow ∙ ap id_behind end in
+    newest_span (min last keep) last history long ∙ ap (λ k. span k last history) position in
+    let id : last_logged lines ≡ id_after last = last_lines_by keep last history turns some rise long follow ∙ ap id_after end in
     record {
       last = last;
       number = subst (λ i. IsLastNumber i last) (sym id) (is_last_number last few);

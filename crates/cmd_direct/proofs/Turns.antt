@@ -7,9 +7,9 @@ use Rattle.std.proofs.lemmas.List.{append_assoc, append-nil, drop-drop, drop-tak
 use Rattle.mam_archive.proofs.NumberedEntries.{FollowFrom, follow_drop}
 use Rattle.mam_archive.specs.Entries.{EntryView, newest}
 use Rattle.mam_archive.specs.Ids.{id_of}
-use Rattle.cmd_direct.proofs.NextPages.{id_behind}
+use Rattle.cmd_direct.proofs.NextPages.{id_after}
 use Rattle.cmd_direct.specs.Direct.{as_logged}
-use Rattle.cmd_direct.specs.NextPages.{kept_behind, page_at, purged}
+use Rattle.cmd_direct.specs.NextPages.{kept_after, page_at, purged}
 use Rattle.mam_log.specs.LogPages.{LogPage, last_id, log_of}
 use Rattle.mam_log.specs.declared.log_entry.LogEntry.{LogEntry}
 
@@ -135,8 +135,8 @@ length_span s t history within = omega (arith, length-take (t - s) (drop s histo
 pub span_join : (s m t : ℕ) (history : List EntryView) → s ≤ m → m ≤ t → span s m history ++ span m t history ≡ span s t history
 span_join s m t history low high =
     let size : t - s ≡ (m - s) + (t - m) = omega arith in
-    let place : s + (m - s) ≡ m = omega arith in
-    let further : drop (m - s) (drop s history) ≡ drop m history = drop-drop (m - s) s history ∙ ap (λ k. drop k history) place in
+    let position : s + (m - s) ≡ m = omega arith in
+    let further : drop (m - s) (drop s history) ≡ drop m history = drop-drop (m - s) s history ∙ ap (λ k. drop k history) position in
     ap (λ es. take (m - s) (drop s history) ++ take (t - m) es) (sym further)
     ∙ sym (take-add (m - s) (t - m) (drop s history))
     ∙ ap (λ k. take k (drop s history)) (sym size)
@@ -183,14 +183,14 @@ newest_span keep last history within =
     ap (λ k. drop k (take last history)) size ∙ drop_front (last - keep) last history (omega arith)
 
 kept_rest : (keep n last : ℕ) (history : List EntryView) → n ≤ last → last ≤ length history →
-    kept_behind n last (newest keep (take last history)) ≡ span (max n (last - keep)) last history
+    kept_after n last (newest keep (take last history)) ≡ span (max n (last - keep)) last history
 kept_rest keep n last history low within =
     let size : length (take last history) - keep ≡ last - keep = ap (λ k. k - keep) (length-take-le last history within) in
-    let place : (last - keep) + (n - (last - keep)) ≡ max n (last - keep) = omega arith in
+    let position : (last - keep) + (n - (last - keep)) ≡ max n (last - keep) = omega arith in
     ap (λ k. drop (n - k) (newest keep (take last history))) (purged_is keep last history within)
     ∙ ap (λ k. drop (n - (last - keep)) (drop k (take last history))) size
     ∙ drop-drop (n - (last - keep)) (last - keep) (take last history)
-    ∙ ap (λ k. drop k (take last history)) place
+    ∙ ap (λ k. drop k (take last history)) position
     ∙ drop_front (max n (last - keep)) last history (omega arith)
 
 -- the page of its parts
@@ -211,7 +211,7 @@ page_is keep n most last history low within =
     let few : start ≤ last = omega arith in
     let cut : take most (span start last history) ≡ span start (min (start + most) last) history = cut_span start most last history few within in
     let size : length (span start last history) ≡ last - start = length_span start last history within in
-    ap (λ old. page_made n most old (kept_behind n last kept) (length kept)) (purged_is keep last history within)
+    ap (λ old. page_made n most old (kept_after n last kept) (length kept)) (purged_is keep last history within)
     ∙ ap (λ rest. page_made n most (last - keep) rest (length kept)) (kept_rest keep n last history low within)
     ∙ ap (λ total. page_made n most (last - keep) (span start last history) total) (length_kept keep last history within)
     ∙ ap (λ es. record { after = cond (leb n (last - keep)) None (Some (id_of n)); entries = map as_logged es; complete = leb (length (span start last history)) most; total = min last keep }) cut
@@ -238,24 +238,24 @@ last_of_log (e ∷ f ∷ es) = last_of_log (f ∷ es)
 abbrev pub id_of_entry : EntryView → List ℕ
 id_of_entry e = id_of e.number
 
-pub follow_ids : (before : List (List ℕ)) (n s : ℕ) (es : List EntryView) → FollowFrom (suc s) es → last_of before ≡ id_behind n → (length es ≡ 0 → n ≡ s) →
-    last_of (before ++ map id_of_entry es) ≡ id_behind (s + length es)
-follow_ids before n s [] follow behind empty =
+pub follow_ids : (before : List (List ℕ)) (n s : ℕ) (es : List EntryView) → FollowFrom (suc s) es → last_of before ≡ id_after n → (length es ≡ 0 → n ≡ s) →
+    last_of (before ++ map id_of_entry es) ≡ id_after (s + length es)
+follow_ids before n s [] follow following empty =
     let same : n ≡ s + 0 = omega (arith, empty refl) in
-    ap last_of (append-nil before) ∙ behind ∙ ap id_behind same
-follow_ids before n s (e ∷ es) follow behind empty =
+    ap last_of (append-nil before) ∙ following ∙ ap id_after same
+follow_ids before n s (e ∷ es) follow following empty =
     let number : e.number ≡ suc s = follow.0 in
     let size : suc s + length es ≡ s + length (e ∷ es) = omega arith in
     ap last_of (sym (append_assoc before (id_of e.number ∷ []) (map id_of_entry es)))
     ∙ follow_ids (before ++ id_of e.number ∷ []) (suc s) (suc s) es follow.1 (last_of_push before (id_of e.number) ∙ ap (λ k. Some (id_of k)) number) (λ none. refl)
-    ∙ ap id_behind size
+    ∙ ap id_after size
 
 -- behind the turns the last id is that of the last number
 pub last_by : (keep n low high : ℕ) (history : List EntryView) (turns : List Turn) (before : List (List ℕ)) → 1 ≤ keep → n ≤ low → AreRising low high turns →
-    high ≤ length history → FollowFrom 1 history → last_of before ≡ id_behind n →
-    last_of (before ++ map id_of_entry (run_by keep history n turns)) ≡ id_behind (ends_at keep n turns)
-last_by keep n low high history [] before some within rise long follow behind = ap last_of (append-nil before) ∙ behind
-last_by keep n low high history (turn ∷ turns) before some within rise long follow behind =
+    high ≤ length history → FollowFrom 1 history → last_of before ≡ id_after n →
+    last_of (before ++ map id_of_entry (run_by keep history n turns)) ≡ id_after (ends_at keep n turns)
+last_by keep n low high history [] before some within rise long follow following = ap last_of (append-nil before) ∙ following
+last_by keep n low high history (turn ∷ turns) before some within rise long follow following =
     let s = start_of keep n turn in
     let t = end_of keep n turn in
     let entries = span s t history in
@@ -265,8 +265,8 @@ last_by keep n low high history (turn ∷ turns) before some within rise long fo
     let top : turn.last ≤ high = rising_bounds turn.last high turns rise.2 in
     let size : length entries ≡ t - s = length_span s t history (le_both bounds.2 top long) in
     let end : s + length entries ≡ t = sum_back size bounds.1 in
-    let here : last_of (before ++ map id_of_entry entries) ≡ id_behind t =
-    follow_ids before n s entries (follow_span s t history follow) behind (λ none. turn_empty keep n turn some rise.1 inside (sym size ∙ none)) ∙ ap id_behind end in
+    let here : last_of (before ++ map id_of_entry entries) ≡ id_after t =
+    follow_ids before n s entries (follow_span s t history follow) following (λ none. turn_empty keep n turn some rise.1 inside (sym size ∙ none)) ∙ ap id_after end in
     ap (λ ids. last_of (before ++ ids)) (map-append id_of_entry entries rest)
     ∙ ap last_of (sym (append_assoc before (map id_of_entry entries) (map id_of_entry rest)))
     ∙ last_by keep t turn.last high history turns (before ++ map id_of_entry entries) some bounds.2 rise.2 long follow here
@@ -278,7 +278,7 @@ last_by keep n low high history (turn ∷ turns) before some within rise long fo
     sum_back is low = omega arith
 
 pub last_id_by : (keep high : ℕ) (history : List EntryView) (turns : List Turn) → 1 ≤ keep → AreRising 0 high turns → high ≤ length history → FollowFrom 1 history →
-    last_id (log_of (pages_by keep history 0 turns)) ≡ id_behind (ends_at keep 0 turns)
+    last_id (log_of (pages_by keep history 0 turns)) ≡ id_after (ends_at keep 0 turns)
 last_id_by keep high history turns some rise long follow =
     ap last_id (log_by keep 0 history turns)
     ∙ last_of_log (map as_logged (run_by keep history 0 turns))

@@ -11,8 +11,8 @@ use Rattle.mam_pages.specs.Cuts.{CutView}
 use Rattle.mam_pages.specs.Kept.{Kept, kept_by}
 use Rattle.mam_pages.specs.PageOf.{page_of}
 use Rattle.mam_pages.specs.declared.query.PageQuery.{PageQuery}
-use Rattle.mam_pages.specs.declared.query.Place.{Place}
-use Rattle.mam_pages.specs.declared.query.Place.TheVariants.{First, After}
+use Rattle.mam_pages.specs.declared.query.PagePosition.{PagePosition}
+use Rattle.mam_pages.specs.declared.query.PagePosition.TheVariants.{First, After}
 use Rattle.base_io.specs.Names.{is_among}
 use Rattle.cmd_report.specs.Reports.{AccountView, DeviceView, ReportView}
 use Rattle.cmd_report.specs.declared.report.SaidLine.{SaidLine}
@@ -68,21 +68,21 @@ entries_numbered numbers entries = filter_map (λ n. entry_numbered n entries) n
 abbrev pub page_with : List EntryView → CutView → Page
 page_with entries cut = record { entries = entries_numbered cut.numbers entries; complete = cut.complete; count = cut.count }
 
-abbrev pub place_behind : Option (List ℕ) → Place
-place_behind None = First
-place_behind (Some id) = After id
+abbrev pub position_after : Option (List ℕ) → PagePosition
+position_after None = First
+position_after (Some id) = After id
 
 -- asks for everybody's messages of all times, from the first one on or behind the entry with an id (XEP-0313 section
 -- 4.3, XEP-0059 section 2.2)
-abbrev pub query_at : Place → ℕ → PageQuery
-query_at place most = record { peer = None; start = None; end = None; place = place; max = Some most }
+abbrev pub query_at : PagePosition → ℕ → PageQuery
+query_at position most = record { peer = None; start = None; end = None; position = position; max = Some most }
 
-abbrev pub query_behind : Option (List ℕ) → ℕ → PageQuery
-query_behind after most = query_at (place_behind after) most
+abbrev pub query_after : Option (List ℕ) → ℕ → PageQuery
+query_after after most = query_at (position_after after) most
 
 -- what an archive answers to that
 abbrev pub page_answered : Option (List ℕ) → ℕ → Kept → Option Page
-page_answered after most kept = option_map (page_with kept.entries) (page_of kept (query_behind after most))
+page_answered after most kept = option_map (page_with kept.entries) (page_of kept (query_after after most))
 
 abbrev pub as_taken_over : Option (List ℕ) → Page → LogPage
 as_taken_over after page = record { after = after; entries = map as_logged page.entries; complete = page.complete; total = page.count }

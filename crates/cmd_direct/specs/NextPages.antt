@@ -8,7 +8,7 @@ use Rattle.mam_log.specs.declared.log_entry.LogEntry.{LogEntry}
 use Rattle.mam_pages.specs.Cuts.{CutView}
 use Rattle.mam_pages.specs.Kept.{last_number}
 use Rattle.mam_pages.specs.PageOf.{cut_out}
-use Rattle.mam_pages.specs.declared.query.Place.TheVariants.{First}
+use Rattle.mam_pages.specs.declared.query.PagePosition.TheVariants.{First}
 
 -- the number of a log's last entry, or 0 where it has none
 abbrev pub last_logged : List LogEntry → ℕ
@@ -19,15 +19,15 @@ abbrev pub purged : ℕ → List EntryView → ℕ
 purged last kept = last - length kept
 
 -- the kept entries behind number n, or all where n was purged
-abbrev pub kept_behind : ℕ → ℕ → List EntryView → List EntryView
-kept_behind n last kept = drop (n - purged last kept) kept
+abbrev pub kept_after : ℕ → ℕ → List EntryView → List EntryView
+kept_after n last kept = drop (n - purged last kept) kept
 
 -- the page that a log gets whose last entry has number n: it is asked for without an id where n is 0 or was purged
 abbrev pub page_at : ℕ → ℕ → ℕ → List EntryView → LogPage
 page_at n most last kept = record {
   after = if nat_le n (purged last kept) then None else Some (id_of n);
-  entries = map as_logged (take most (kept_behind n last kept));
-  complete = nat_le (length (kept_behind n last kept)) most;
+  entries = map as_logged (take most (kept_after n last kept));
+  complete = nat_le (length (kept_after n last kept)) most;
   total = length kept;
 }
 
@@ -38,4 +38,4 @@ is_purged (suc n) last kept = nat_le (suc n) (purged last kept)
 
 -- what the archive answers to it, behind number n or, where n was purged, from its first entry on: forwards either way
 abbrev pub cut_at : ℕ → ℕ → ℕ → List EntryView → CutView
-cut_at n most last kept = cut_out First kept most (kept_behind n last kept) (take most (kept_behind n last kept))
+cut_at n most last kept = cut_out First kept most (kept_after n last kept) (take most (kept_after n last kept))

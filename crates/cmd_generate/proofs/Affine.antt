@@ -31,14 +31,14 @@ joined u v t b s e f = omega arith
 spread : (f y : ℕ) → f * (y * factor_twice + step_twice) ≡ f * y * factor_twice + f * step_twice
 spread f y = omega arith
 
-turned : (f y : ℕ) → f * factor_twice * y ≡ f * y * factor_twice
-turned f y = mul_assoc f factor_twice y ∙ ap (λ (n : ℕ). f * n) (mul_comm factor_twice y) ∙ sym (mul_assoc f y factor_twice)
+rendered : (f y : ℕ) → f * factor_twice * y ≡ f * y * factor_twice
+rendered f y = mul_assoc f factor_twice y ∙ ap (λ (n : ℕ). f * n) (mul_comm factor_twice y) ∙ sym (mul_assoc f y factor_twice)
 
 one_more : (f s y : ℕ) → (f * ((y * factor_twice + step_twice) % 2 ^ 64) + s) % 2 ^ 64 ≡ ((f * factor_twice) % 2 ^ 64 * y + (f * step_twice + s) % 2 ^ 64) % 2 ^ 64
 one_more f s y =
     joined (f * ((y * factor_twice + step_twice) % 2 ^ 64)) (f * y * factor_twice) ((f * factor_twice) % 2 ^ 64 * y) (f * step_twice) s
     (mul-mod_second f (y * factor_twice + step_twice) (2 ^ 64) ∙ ap (λ (n : ℕ). n % 2 ^ 64) (spread f y))
-    (mul-mod_first (f * factor_twice) y (2 ^ 64) ∙ ap (λ (n : ℕ). n % 2 ^ 64) (turned f y))
+    (mul-mod_first (f * factor_twice) y (2 ^ 64) ∙ ap (λ (n : ℕ). n % 2 ^ 64) (rendered f y))
 
 -- the first number drawn behind n dials
 pub walked_is : (n x : ℕ) → next_state (walked n x) ≡ (factor_of n * next_state x + step_of n) % 2 ^ 64

@@ -93,8 +93,8 @@ counted_behind m i n left = dials_in (drawn_lines m (i + n) left.dials left.stat
 split : (n m i dials state : ℕ) → counted (n + m) i dials state ≡ counted n i dials state + counted_behind m i n (left_by n i dials state)
 split zero m i dials state =
     let here : counted (zero + m) i dials state ≡ counted m i dials state = ap (λ (k : ℕ). counted k i dials state) (omega arith) in
-    let place : counted m i dials state ≡ counted m (i + zero) dials state = ap (λ (k : ℕ). counted m k dials state) (omega arith) in
-    omega (arith, here, place)
+    let position : counted m i dials state ≡ counted m (i + zero) dials state = ap (λ (k : ℕ). counted m k dials state) (omega arith) in
+    omega (arith, here, position)
 split (suc n) m i dials state =
     let line = drawn_line i dials state in
     let left = left_by n (i + 1) (dials_with line.value dials) line.state in
@@ -102,8 +102,8 @@ split (suc n) m i dials state =
     let more : suc n + m ≡ suc (n + m) = omega arith in
     let whole : counted (suc n + m) i dials state ≡ dials_with line.value 0 + counted (n + m) (i + 1) (dials_with line.value dials) line.state = ap (λ (k : ℕ). counted k i dials state) more in
     let first : counted (suc n) i dials state ≡ dials_with line.value 0 + counted n (i + 1) (dials_with line.value dials) line.state = refl in
-    let place : i + 1 + n ≡ i + suc n = omega arith in
-    let moved : counted_behind m (i + 1) n left ≡ counted_behind m i (suc n) left = ap (λ (k : ℕ). dials_in (drawn_lines m k left.dials left.state)) place in
+    let position : i + 1 + n ≡ i + suc n = omega arith in
+    let moved : counted_behind m (i + 1) n left ≡ counted_behind m i (suc n) left = ap (λ (k : ℕ). dials_in (drawn_lines m k left.dials left.state)) position in
     joined (counted (suc n + m) i dials state) (dials_with line.value 0) (counted (n + m) (i + 1) (dials_with line.value dials) line.state) (counted n (i + 1) (dials_with line.value dials) line.state)
     (counted_behind m (i + 1) n left) (counted_behind m i (suc n) left) (counted (suc n) i dials state) whole rest moved first
 

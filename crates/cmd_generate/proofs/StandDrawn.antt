@@ -81,7 +81,7 @@ message_text i low =
 -- ---- drawn lines
 
 -- a step that may stand behind so many dials and times, and what it leaves
-record IsFine (d t : ℕ) (step : WireStep) : Type 0 where
+record IsBounded (d t : ℕ) (step : WireStep) : Type 0 where
   may : may_run (at d t) step ≡ true
   few : d + dials_with step 0 ≤ 10000 → t + 1 ≤ 100000 → are_few (at d t) step ≡ true
   times : ℕ
@@ -107,17 +107,17 @@ message_may i d t state further low =
     (among_device (draw 6 state).value d t (drawn_below 6 state (omega arith))) (account_name (draw 3 further).value (drawn_below 3 further (omega arith))))
     (message_text i low)
 
-say_fine : (i d t state further : ℕ) → i < 2 ^ 64 → IsFine d t (Common (Say (device_named (draw 6 state).value) (account_named (draw 3 further).value) (text_named i)))
-say_fine i d t state further low = record { may = message_may i d t state further low; few = λ a b. refl; times = t; short = omega arith; next = refl }
+say_bounded : (i d t state further : ℕ) → i < 2 ^ 64 → IsBounded d t (Common (Say (device_named (draw 6 state).value) (account_named (draw 3 further).value) (text_named i)))
+say_bounded i d t state further low = record { may = message_may i d t state further low; few = λ a b. refl; times = t; short = omega arith; next = refl }
 
-private_fine : (i d t state further : ℕ) → i < 2 ^ 64 → IsFine d t (Common (Private (device_named (draw 6 state).value) (account_named (draw 3 further).value) (text_named i)))
-private_fine i d t state further low = record { may = message_may i d t state further low; few = λ a b. refl; times = t; short = omega arith; next = refl }
+private_bounded : (i d t state further : ℕ) → i < 2 ^ 64 → IsBounded d t (Common (Private (device_named (draw 6 state).value) (account_named (draw 3 further).value) (text_named i)))
+private_bounded i d t state further low = record { may = message_may i d t state further low; few = λ a b. refl; times = t; short = omega arith; next = refl }
 
-run_fine : (d t : ℕ) → IsFine d t (Run 1)
-run_fine d t = record { may = refl; few = λ a b. le-leb (t + 1) 100000 b; times = t + 1; short = omega arith; next = refl }
+run_bounded : (d t : ℕ) → IsBounded d t (Run 1)
+run_bounded d t = record { may = refl; few = λ a b. le-leb (t + 1) 100000 b; times = t + 1; short = omega arith; next = refl }
 
-catchup_fine : (d t state further : ℕ) → IsFine d t (Common (Catchup (device_named (draw 6 state).value) (1 + (draw 10 further).value)))
-catchup_fine d t state further =
+catchup_bounded : (d t state further : ℕ) → IsBounded d t (Common (Catchup (device_named (draw 6 state).value) (1 + (draw 10 further).value)))
+catchup_bounded d t state further =
     let device = among_device (draw 6 state).value d t (drawn_below 6 state (omega arith)) in
     let low = drawn_below 10 further (omega arith) in
     record {
@@ -130,8 +130,8 @@ catchup_fine d t state further =
       next = refl;
     }
 
-up_fine : (d t state further : ℕ) → 1 ≤ d → IsFine d t (Up (1 + (draw d state).value) (Number (draw 2000 further).value))
-up_fine d t state further some = record {
+up_bounded : (d t state further : ℕ) → 1 ≤ d → IsBounded d t (Up (1 + (draw d state).value) (Number (draw 2000 further).value))
+up_bounded d t state further some = record {
   may = and_from (is_made (at d t) (1 + (draw d state).value)) (nat_le (draw 2000 further).value 4294967295) (made d t state some) (number_fits further);
   few = λ a b. refl;
   times = t;
@@ -139,8 +139,8 @@ up_fine d t state further some = record {
   next = refl;
 }
 
-down_fine : (d t state further : ℕ) → 1 ≤ d → IsFine d t (Down (1 + (draw d state).value) (Number (draw 2000 further).value))
-down_fine d t state further some = record {
+down_bounded : (d t state further : ℕ) → 1 ≤ d → IsBounded d t (Down (1 + (draw d state).value) (Number (draw 2000 further).value))
+down_bounded d t state further some = record {
   may = and_from (is_made (at d t) (1 + (draw d state).value)) (nat_le (draw 2000 further).value 4294967295) (made d t state some) (number_fits further);
   few = λ a b. refl;
   times = t;
@@ -148,8 +148,8 @@ down_fine d t state further some = record {
   next = refl;
 }
 
-cut_fine : (d t state further last : ℕ) → 1 ≤ d → IsFine d t (Cut (1 + (draw d state).value) (draw 2000 further).value (draw 2000 last).value)
-cut_fine d t state further last some = record {
+cut_bounded : (d t state further last : ℕ) → 1 ≤ d → IsBounded d t (Cut (1 + (draw d state).value) (draw 2000 further).value (draw 2000 last).value)
+cut_bounded d t state further last some = record {
   may = and_from _ (nat_le (draw 2000 last).value 4294967295)
       (and_from (is_made (at d t) (1 + (draw d state).value)) (nat_le (draw 2000 further).value 4294967295) (made d t state some) (number_fits further)) (number_fits last);
   few = λ a b. refl;
@@ -158,8 +158,8 @@ cut_fine d t state further last some = record {
   next = refl;
 }
 
-dial_fine : (d t state : ℕ) → IsFine d t (Dial (device_named (draw 6 state).value))
-dial_fine d t state = record {
+dial_bounded : (d t state : ℕ) → IsBounded d t (Dial (device_named (draw 6 state).value))
+dial_bounded d t state = record {
   may = among_device (draw 6 state).value d t (drawn_below 6 state (omega arith));
   few = λ a b. lt-ltb d 10000 (omega arith);
   times = t;
@@ -167,8 +167,8 @@ dial_fine d t state = record {
   next = refl;
 }
 
-forget_fine : (d t state : ℕ) → IsFine d t (Forget (device_named (draw 6 state).value))
-forget_fine d t state = record {
+forget_bounded : (d t state : ℕ) → IsBounded d t (Forget (device_named (draw 6 state).value))
+forget_bounded d t state = record {
   may = among_device (draw 6 state).value d t (drawn_below 6 state (omega arith));
   few = λ a b. refl;
   times = t;
@@ -176,8 +176,8 @@ forget_fine d t state = record {
   next = refl;
 }
 
-tick_fine : (d t state : ℕ) → IsFine d t (Common (Tick (draw 100000 state).value))
-tick_fine d t state = record {
+tick_bounded : (d t state : ℕ) → IsBounded d t (Common (Tick (draw 100000 state).value))
+tick_bounded d t state = record {
   may = le-leb (draw 100000 state).value 1000000000 (omega (arith, drawn_below 100000 state (omega arith)));
   few = λ a b. refl;
   times = t;
@@ -185,23 +185,23 @@ tick_fine d t state = record {
   next = refl;
 }
 
-kind_fine : (kind i d t state : ℕ) → 1 ≤ d → i < 2 ^ 64 → IsFine d t (drawn_of_kind kind i d state).value
+kind_bounded : (kind i d t state : ℕ) → 1 ≤ d → i < 2 ^ 64 → IsBounded d t (drawn_of_kind kind i d state).value
 unfolding drawn_of_kind
-kind_fine kind i d t state some low =
-    by_test (nat_le kind 5) (λ e. rw e (say_fine i d t state (draw 6 state).state low)) (λ a.
-    by_test (nat_le kind 7) (λ e. rw (a, e) (run_fine d t)) (λ b.
-    by_test (eqb kind 8) (λ e. rw (a, b, e) (catchup_fine d t state (draw 6 state).state)) (λ c.
-    by_test (eqb kind 9) (λ e. rw (a, b, c, e) (up_fine d t state (draw d state).state some)) (λ f.
-    by_test (eqb kind 10) (λ e. rw (a, b, c, f, e) (down_fine d t state (draw d state).state some)) (λ g.
-    by_test (eqb kind 11) (λ e. rw (a, b, c, f, g, e) (cut_fine d t state (draw d state).state (draw 2000 (draw d state).state).state some)) (λ h.
-    by_test (eqb kind 12) (λ e. rw (a, b, c, f, g, h, e) (dial_fine d t state)) (λ j.
-    by_test (eqb kind 13) (λ e. rw (a, b, c, f, g, h, j, e) (forget_fine d t state)) (λ k.
-    by_test (eqb kind 14) (λ e. rw (a, b, c, f, g, h, j, k, e) (tick_fine d t state)) (λ l.
-    rw (a, b, c, f, g, h, j, k, l) (private_fine i d t state (draw 6 state).state low))))))))))
+kind_bounded kind i d t state some low =
+    by_test (nat_le kind 5) (λ e. rw e (say_bounded i d t state (draw 6 state).state low)) (λ a.
+    by_test (nat_le kind 7) (λ e. rw (a, e) (run_bounded d t)) (λ b.
+    by_test (eqb kind 8) (λ e. rw (a, b, e) (catchup_bounded d t state (draw 6 state).state)) (λ c.
+    by_test (eqb kind 9) (λ e. rw (a, b, c, e) (up_bounded d t state (draw d state).state some)) (λ f.
+    by_test (eqb kind 10) (λ e. rw (a, b, c, f, e) (down_bounded d t state (draw d state).state some)) (λ g.
+    by_test (eqb kind 11) (λ e. rw (a, b, c, f, g, e) (cut_bounded d t state (draw d state).state (draw 2000 (draw d state).state).state some)) (λ h.
+    by_test (eqb kind 12) (λ e. rw (a, b, c, f, g, h, e) (dial_bounded d t state)) (λ j.
+    by_test (eqb kind 13) (λ e. rw (a, b, c, f, g, h, j, e) (forget_bounded d t state)) (λ k.
+    by_test (eqb kind 14) (λ e. rw (a, b, c, f, g, h, j, k, e) (tick_bounded d t state)) (λ l.
+    rw (a, b, c, f, g, h, j, k, l) (private_bounded i d t state (draw 6 state).state low))))))))))
 
-line_fine : (i d t state : ℕ) → 1 ≤ d → i < 2 ^ 64 → IsFine d t (drawn_line i d state).value
+line_bounded : (i d t state : ℕ) → 1 ≤ d → i < 2 ^ 64 → IsBounded d t (drawn_line i d state).value
 unfolding drawn_line
-line_fine i d t state some low = kind_fine (draw 16 state).value i d t (draw 16 state).state some low
+line_bounded i d t state some low = kind_bounded (draw 16 state).value i d t (draw 16 state).state some low
 
 -- so many drawn lines may stand, and what they leave
 record DoStand (d t n : ℕ) (steps : List WireStep) : Type 0 where
@@ -210,25 +210,25 @@ record DoStand (d t n : ℕ) (steps : List WireStep) : Type 0 where
   short : times ≤ t + n
   leave : with_steps (at d t) steps ≡ at (d + dials_in steps) times
 
-one_stands : (d t n : ℕ) (step : WireStep) (steps : List WireStep) (fine : IsFine d t step) → d + dials_in (step ∷ steps) ≤ 10000 → t + suc n ≤ 100000 → DoStand (dials_with step d) fine.times n steps
+one_stands : (d t n : ℕ) (step : WireStep) (steps : List WireStep) (bounded : IsBounded d t step) → d + dials_in (step ∷ steps) ≤ 10000 → t + suc n ≤ 100000 → DoStand (dials_with step d) bounded.times n steps
     → DoStand d t (suc n) (step ∷ steps)
-one_stands d t n step steps fine few short behind =
+one_stands d t n step steps bounded few short following =
     let many : dials_with step d + dials_in steps ≡ d + dials_in (step ∷ steps) = omega (arith, dials_more step d) in
     record {
-      stand = (fine.may, fine.few (omega arith) (omega arith), subst (λ (above : WireAbove). Stand above steps) (sym fine.next) behind.stand);
-      times = behind.times;
-      short = omega (arith, behind.short, fine.short);
-      leave = ap (λ (above : WireAbove). with_steps above steps) fine.next ∙ behind.leave ∙ ap (λ (k : ℕ). at k behind.times) many;
+      stand = (bounded.may, bounded.few (omega arith) (omega arith), subst (λ (above : WireAbove). Stand above steps) (sym bounded.next) following.stand);
+      times = following.times;
+      short = omega (arith, following.short, bounded.short);
+      leave = ap (λ (above : WireAbove). with_steps above steps) bounded.next ∙ following.leave ∙ ap (λ (k : ℕ). at k following.times) many;
     }
 
 drawn_stand : (n i d t state : ℕ) → 1 ≤ d → i + n < 2 ^ 64 → d + dials_in (drawn_lines n i d state) ≤ 10000 → t + n ≤ 100000 → DoStand d t n (drawn_lines n i d state)
 drawn_stand zero i d t state some low few short = record { stand = tt; times = t; short = omega arith; leave = ap (λ (k : ℕ). at k t) (omega arith) }
 drawn_stand (suc n) i d t state some low few short =
     let line = drawn_line i d state in
-    let fine = line_fine i d t state some (omega arith) in
+    let bounded = line_bounded i d t state some (omega arith) in
     let more = dials_more line.value d in
-    let behind = drawn_stand n (i + 1) (dials_with line.value d) fine.times line.state (omega (arith, more)) (omega arith) (omega (arith, more, few)) (omega (arith, fine.short, short)) in
-    one_stands d t n line.value (drawn_lines n (i + 1) (dials_with line.value d) line.state) fine few short behind
+    let following = drawn_stand n (i + 1) (dials_with line.value d) bounded.times line.state (omega (arith, more)) (omega arith) (omega (arith, more, few)) (omega (arith, bounded.short, short)) in
+    one_stands d t n line.value (drawn_lines n (i + 1) (dials_with line.value d) line.state) bounded few short following
 
 drawn_length : (n i d state : ℕ) → length (drawn_lines n i d state) ≡ n
 drawn_length zero i d state = refl
@@ -240,8 +240,8 @@ generated_stands number size most =
     let few = few_dials size 0 6 number most in
     let middle = drawn_stand size 0 6 12 number (omega arith) (omega arith) (omega (arith, few)) (omega arith) in
     let last = closing_stands (6 + dials_in drawn) middle.times (omega (arith, few)) (omega (arith, middle.short)) in
-    let behind : Stand (at 6 12) (drawn ++ closing) = stand_append (at 6 12) drawn closing middle.stand (subst (λ (above : WireAbove). Stand above closing) (sym middle.leave) last) in
-    let all = stand_append nothing_above opening (drawn ++ closing) opening_stands (subst (λ (above : WireAbove). Stand above (drawn ++ closing)) (sym opening_leaves) behind) in
+    let following : Stand (at 6 12) (drawn ++ closing) = stand_append (at 6 12) drawn closing middle.stand (subst (λ (above : WireAbove). Stand above closing) (sym middle.leave) last) in
+    let all = stand_append nothing_above opening (drawn ++ closing) opening_stands (subst (λ (above : WireAbove). Stand above (drawn ++ closing)) (sym opening_leaves) following) in
     let size_is : length (generated_steps number size) ≤ 10030 = omega (arith, length-append opening (drawn ++ closing), length-append drawn closing, drawn_length size 0 6 number) in
     record { keeps = refl; lines = stand_lines nothing_above 2 (generated_steps number size) (omega (arith, size_is)) all }
 

@@ -10,10 +10,10 @@ use Rattle.std.proofs.lemmas.Str.{is_utf8-from_IsUtf8}
 use Rattle.hex.specs.Hex.{encode_lower}
 use Rattle.base_io.specs.Names.{is_among}
 use Rattle.cmd_journal.proofs.HexFields.{bytes_again, entropy_again}
-use Rattle.cmd_journal.proofs.Words.{IsPlain, IsWord, domain_word, hex_word, lacks_from_all, last_again, name_word, next_again, number_word, password_word, plain_append, plain_behind, plain_from_all}
+use Rattle.cmd_journal.proofs.Words.{IsPlain, IsWord, domain_word, hex_word, lacks_from_all, last_again, name_word, next_again, number_word, password_word, plain_after, plain_append, plain_from_all}
 use Rattle.cmd_journal.specs.AccountsFiles.{AccountsView, AreRegistered, IsAccountsFile, accounts_text, domain_text, is_account_name, is_domain, is_password, may_register, preamble_text, registration_text, registrations_text}
 use Rattle.cmd_journal.specs.Journals.{EventView, Connect, Piece, Gone, AreEvents, InputView, MayFollow, Says, are_bytes, begun_last, ends_events, event_text, events_text, is_connection, is_moment, journal_header, mark, may_happen}
-use Rattle.cmd_journal.specs.LineReading.{connection_in, fields_behind, moment_in, read_connect, read_domain, read_event, read_first, read_gone, read_journal_header, read_keep, read_piece, read_registration, read_words}
+use Rattle.cmd_journal.specs.LineReading.{connection_in, fields_after, moment_in, read_connect, read_domain, read_event, read_first, read_gone, read_journal_header, read_keep, read_piece, read_registration, read_words}
 use Rattle.cmd_journal.specs.Reading.{PreambleView, accounts_reading, is_mark, read_events, read_file, read_preamble, read_registrations, read_version, rerun_reading}
 use Rattle.cmd_journal.specs.declared.accounts_file.Registration.{Registration}
 use Rattle.cmd_journal.specs.declared.accounts_reading.Behind.{Behind}
@@ -21,7 +21,7 @@ use Rattle.cmd_journal.specs.declared.accounts_reading.Behind.TheVariants.{Nothi
 use Rattle.cmd_journal.specs.declared.event.TheConstants.{LAST_CONNECTION}
 use Rattle.cmd_journal.specs.declared.fault.InputFault.{InputFault}
 use Rattle.cmd_schedule.proofs.Numbers.{number_again}
-use Rattle.cmd_schedule.proofs.Words.{Lacks, piece_behind}
+use Rattle.cmd_schedule.proofs.Words.{Lacks, piece_after}
 use Rattle.cmd_schedule.specs.Grammar.{may_keep}
 use Rattle.cmd_schedule.specs.Reading.{cut_of, not_empty, pieces_of}
 use Rattle.cmd_schedule.specs.declared.schedule.TheConstants.{MOST_KEPT}
@@ -44,7 +44,7 @@ record IsDomainAgain (name : List ℕ) : Type 0 where
   plain : IsPlain (domain_text name)
 
 domain_again : (name : List ℕ) → is_domain name ≡ true → IsDomainAgain name
-unfolding read_domain fields_behind
+unfolding read_domain fields_after
 domain_again name h =
     let word = domain_word name h in
     let plain = plain_append (codes "domain ") name (plain_from_all (codes "domain ") refl) word.plain in
@@ -58,7 +58,7 @@ record IsKeepAgain (keep : ℕ) : Type 0 where
   plain : IsPlain (keep_line keep)
 
 keep_again : (keep : ℕ) → may_keep (Two keep) ≡ true → IsKeepAgain keep
-unfolding read_keep fields_behind
+unfolding read_keep fields_after
 keep_again keep h =
     let parts = and_parts (nat_le 1 keep) (nat_le keep MOST_KEPT) h in
     let high : keep ≤ MOST_KEPT = leb-true keep MOST_KEPT parts.1 in
@@ -72,14 +72,14 @@ record IsRegisteredAgain (above : List (List ℕ)) (r : Registration) : Type 0 w
   plain : IsPlain (registration_text r)
 
 registration_again : (above : List (List ℕ)) (r : Registration) → may_register above r ≡ true → IsRegisteredAgain above r
-unfolding read_registration fields_behind
+unfolding read_registration fields_after
 registration_again above r h =
     let outer = and_parts _ (is_password r.password) h in
     let inner = and_parts (is_account_name r.name) (not (is_among r.name above)) outer.0 in
     let name = name_word r.name inner.0 in
     let password = password_word r.password outer.1 in
     let plain : IsPlain (registration_text r) =
-    plain_append (codes "account ") (r.name ++ 32 ∷ r.password) (plain_from_all (codes "account ") refl) (plain_behind r.name r.password name.plain password.plain) in
+    plain_append (codes "account ") (r.name ++ 32 ∷ r.password) (plain_from_all (codes "account ") refl) (plain_after r.name r.password name.plain password.plain) in
     record {
       read = rw (utf8_plain (registration_text r) plain, next_again r.name r.password name, last_again r.password password, inner.0, inner.1, outer.1) refl;
       plain = plain;
@@ -88,7 +88,7 @@ registration_again above r h =
 -- ---- lines of a text
 
 line_cut : (text rest : List ℕ) → Lacks 10 text → pieces_of (text ++ 10 ∷ rest) ≡ line text ∷ pieces_of rest
-line_cut text rest h = piece_behind text rest h
+line_cut text rest h = piece_after text rest h
 
 -- the same, where the line's end stands with the line
 line_cut_end : (text rest : List ℕ) → Lacks 10 text → pieces_of ((text ++ 10 ∷ []) ++ rest) ≡ line text ∷ pieces_of rest
@@ -101,25 +101,25 @@ ok x = Ok x
 abbrev preamble : Version → List ℕ → ℕ → List lines.Piece → PreambleView
 preamble version domain next rest = record { version = version; domain = domain; next = next; rest = rest }
 
-one_again : (behind : Behind) (domain : List ℕ) (rest : List lines.Piece) → read_domain (line (domain_text domain)) ≡ Ok domain
-    → read_preamble behind (line (codes "xmpp-accounts 1") ∷ line (domain_text domain) ∷ rest) ≡ Ok (preamble One domain 3 rest)
+one_again : (following : Behind) (domain : List ℕ) (rest : List lines.Piece) → read_domain (line (domain_text domain)) ≡ Ok domain
+    → read_preamble following (line (codes "xmpp-accounts 1") ∷ line (domain_text domain) ∷ rest) ≡ Ok (preamble One domain 3 rest)
 unfolding read_preamble read_version read_first
-one_again behind domain rest named = rw named refl
+one_again following domain rest named = rw named refl
 
-two_again : (behind : Behind) (domain : List ℕ) (keep : ℕ) (rest : List lines.Piece) → read_domain (line (domain_text domain)) ≡ Ok domain → read_keep (line (keep_line keep)) ≡ Ok keep
-    → read_preamble behind (line (codes "xmpp-accounts 2") ∷ line (domain_text domain) ∷ line (keep_line keep) ∷ rest) ≡ Ok (preamble (Two keep) domain 4 rest)
+two_again : (following : Behind) (domain : List ℕ) (keep : ℕ) (rest : List lines.Piece) → read_domain (line (domain_text domain)) ≡ Ok domain → read_keep (line (keep_line keep)) ≡ Ok keep
+    → read_preamble following (line (codes "xmpp-accounts 2") ∷ line (domain_text domain) ∷ line (keep_line keep) ∷ rest) ≡ Ok (preamble (Two keep) domain 4 rest)
 unfolding read_preamble read_version read_first
-two_again behind domain keep rest named kept = rw (named, kept) refl
+two_again following domain keep rest named kept = rw (named, kept) refl
 
-preamble_again : (behind : Behind) (version : Version) (domain rest : List ℕ) → may_keep version ≡ true → is_domain domain ≡ true → (next : ℕ) × (read_preamble behind (pieces_of (preamble_text version domain ++ rest)) ≡ Ok (preamble version domain next (pieces_of rest)))
-preamble_again behind One domain rest keeps named =
+preamble_again : (following : Behind) (version : Version) (domain rest : List ℕ) → may_keep version ≡ true → is_domain domain ≡ true → (next : ℕ) × (read_preamble following (pieces_of (preamble_text version domain ++ rest)) ≡ Ok (preamble version domain next (pieces_of rest)))
+preamble_again following One domain rest keeps named =
     let again = domain_again domain named in
     let second : pieces_of ((domain_text domain ++ 10 ∷ []) ++ rest) ≡ line (domain_text domain) ∷ pieces_of rest = line_cut_end (domain_text domain) rest again.plain.lacks in
     let first : pieces_of (preamble_text One domain ++ rest) ≡ line (codes "xmpp-accounts 1") ∷ pieces_of ((domain_text domain ++ 10 ∷ []) ++ rest) =
     line_cut (codes "xmpp-accounts 1") ((domain_text domain ++ 10 ∷ []) ++ rest) (plain_from_all (codes "xmpp-accounts 1") refl).lacks in
     let all = first ∙ ap (λ (ps : List lines.Piece). line (codes "xmpp-accounts 1") ∷ ps) second in
-    (3, ap (λ (ps : List lines.Piece). read_preamble behind ps) all ∙ one_again behind domain (pieces_of rest) again.read)
-preamble_again behind (Two keep) domain rest keeps named =
+    (3, ap (λ (ps : List lines.Piece). read_preamble following ps) all ∙ one_again following domain (pieces_of rest) again.read)
+preamble_again following (Two keep) domain rest keeps named =
     let again = domain_again domain named in
     let kept = keep_again keep keeps in
     let below : List ℕ = (keep_line keep ++ 10 ∷ []) ++ rest in
@@ -130,27 +130,27 @@ preamble_again behind (Two keep) domain rest keeps named =
     let regrouped : preamble_text (Two keep) domain ++ rest ≡ codes "xmpp-accounts 2" ++ 10 ∷ (domain_text domain ++ 10 ∷ below) =
     ap (λ xs. codes "xmpp-accounts 2" ++ 10 ∷ xs) (append_assoc (domain_text domain) (10 ∷ (keep_line keep ++ 10 ∷ [])) rest) in
     let all = ap pieces_of regrouped ∙ first ∙ ap (λ (ps : List lines.Piece). line (codes "xmpp-accounts 2") ∷ ps) (second ∙ ap (λ (ps : List lines.Piece). line (domain_text domain) ∷ ps) third) in
-    (4, ap (λ (ps : List lines.Piece). read_preamble behind ps) all ∙ two_again behind domain keep (pieces_of rest) again.read kept.read)
+    (4, ap (λ (ps : List lines.Piece). read_preamble following ps) all ∙ two_again following domain keep (pieces_of rest) again.read kept.read)
 
 -- no account's line is the line at which the accounts end
-not_mark : (behind : Behind) (r : Registration) → is_mark behind (line (registration_text r)) ≡ false
+not_mark : (following : Behind) (r : Registration) → is_mark following (line (registration_text r)) ≡ false
 not_mark Nothing r = refl
 not_mark Journal r = refl
 
 -- accounts are read, where what stands behind them is
-registrations_again : (behind : Behind) (above : List (List ℕ)) (n next : ℕ) (accounts : List Registration) (rest : List ℕ) (left : List lines.Piece) → AreRegistered above accounts
-    → ((names : List (List ℕ)) (m : ℕ) → m ≡ n + length accounts → read_registrations behind names m (pieces_of rest) ≡ Ok (record { accounts = []; next = next; rest = left }))
-    → read_registrations behind above n (pieces_of (registrations_text accounts ++ rest)) ≡ Ok (record { accounts = accounts; next = next; rest = left })
-registrations_again behind above n next [] rest left right ends = ends above n (omega arith)
-registrations_again behind above n next (r ∷ rs) rest left right ends =
+registrations_again : (following : Behind) (above : List (List ℕ)) (n next : ℕ) (accounts : List Registration) (rest : List ℕ) (left : List lines.Piece) → AreRegistered above accounts
+    → ((names : List (List ℕ)) (m : ℕ) → m ≡ n + length accounts → read_registrations following names m (pieces_of rest) ≡ Ok (record { accounts = []; next = next; rest = left }))
+    → read_registrations following above n (pieces_of (registrations_text accounts ++ rest)) ≡ Ok (record { accounts = accounts; next = next; rest = left })
+registrations_again following above n next [] rest left right ends = ends above n (omega arith)
+registrations_again following above n next (r ∷ rs) rest left right ends =
     let again = registration_again above r right.0 in
-    let others = registrations_again behind (above ++ r.name ∷ []) (n + 1) next rs rest left right.1 (λ names m is. ends names m (omega (arith, is))) in
+    let others = registrations_again following (above ++ r.name ∷ []) (n + 1) next rs rest left right.1 (λ names m is. ends names m (omega (arith, is))) in
     let text : List ℕ = registration_text r ++ 10 ∷ [] in
     let regrouped : registrations_text (r ∷ rs) ++ rest ≡ text ++ (registrations_text rs ++ rest) =
     ap (λ xs. xs ++ rest) (flat_map-cons (λ (x : Registration). registration_text x ++ 10 ∷ []) r rs) ∙ append_assoc text (registrations_text rs) rest in
     let cut : pieces_of (registrations_text (r ∷ rs) ++ rest) ≡ line (registration_text r) ∷ pieces_of (registrations_text rs ++ rest) =
     ap pieces_of regrouped ∙ line_cut_end (registration_text r) (registrations_text rs ++ rest) again.plain.lacks in
-    rw (cut, not_mark behind r, again.read, others) refl
+    rw (cut, not_mark following r, again.read, others) refl
 
 pub accounts_again : (file : AccountsView) → IsAccountsFile file → accounts_reading (accounts_text file) ≡ Ok file
 unfolding accounts_reading read_file
@@ -220,7 +220,7 @@ connect_again last k now bytes h =
         moment.read,
         entropy_again bytes p.1 size,
       ) refl;
-      plain = rw is (plain_append (codes "connect ") fields (plain_from_all (codes "connect ") refl) (plain_behind (decimal k) _ number.word.plain (plain_behind (decimal now) _ moment.word.plain field.plain)));
+      plain = rw is (plain_append (codes "connect ") fields (plain_from_all (codes "connect ") refl) (plain_after (decimal k) _ number.word.plain (plain_after (decimal now) _ moment.word.plain field.plain)));
       goes_on = ap (λ (xs : List ℕ). ends_events (cut_of xs).front) is;
     }
 
@@ -244,7 +244,7 @@ piece_again last k now bytes h =
         moment.read,
         bytes_again bytes p.1,
       ) refl;
-      plain = rw is (plain_append (codes "piece ") fields (plain_from_all (codes "piece ") refl) (plain_behind (decimal k) _ number.word.plain (plain_behind (decimal now) _ moment.word.plain field.plain)));
+      plain = rw is (plain_append (codes "piece ") fields (plain_from_all (codes "piece ") refl) (plain_after (decimal k) _ number.word.plain (plain_after (decimal now) _ moment.word.plain field.plain)));
       goes_on = ap (λ (xs : List ℕ). ends_events (cut_of xs).front) is;
     }
 
@@ -258,7 +258,7 @@ gone_again last k now h =
     let is : event_text (Gone k now) ≡ codes "gone " ++ fields = two (codes "gone ") (decimal k) (decimal now) in
     record {
       read = ap (λ (xs : List ℕ). read_words last (cut_of xs)) is ∙ rw (next_again (decimal k) (decimal now) number.word, last_again (decimal now) moment.word, number.read, moment.read) refl;
-      plain = rw is (plain_append (codes "gone ") fields (plain_from_all (codes "gone ") refl) (plain_behind (decimal k) _ number.word.plain moment.word.plain));
+      plain = rw is (plain_append (codes "gone ") fields (plain_from_all (codes "gone ") refl) (plain_after (decimal k) _ number.word.plain moment.word.plain));
       goes_on = ap (λ (xs : List ℕ). ends_events (cut_of xs).front) is;
     }
 
@@ -281,10 +281,10 @@ ends_read last text spelled ends = rw (spelled, ends) refl
 
 follow_read : (last n : ℕ) (rest : List ℕ) → MayFollow rest → read_events last n (pieces_of rest) ≡ Ok []
 follow_read last n rest (inl none) = rw none refl
-follow_read last n rest (inr behind) =
-    let lacks : Lacks 10 behind.line = lacks_from_all (λ b. not (b == 10)) 10 behind.line refl behind.one_line in
-    let cut : pieces_of rest ≡ line behind.line ∷ pieces_of behind.rest = ap pieces_of behind.whole ∙ line_cut behind.line behind.rest lacks in
-    rw (cut, ends_read last behind.line behind.spelled behind.ends) refl
+follow_read last n rest (inr following) =
+    let lacks : Lacks 10 following.line = lacks_from_all (λ b. not (b == 10)) 10 following.line refl following.one_line in
+    let cut : pieces_of rest ≡ line following.line ∷ pieces_of following.rest = ap pieces_of following.whole ∙ line_cut following.line following.rest lacks in
+    rw (cut, ends_read last following.line following.spelled following.ends) refl
 
 events_again : (last n : ℕ) (events : List EventView) (rest : List ℕ) → AreEvents last events → MayFollow rest → read_events last n (pieces_of (events_text events ++ rest)) ≡ Ok events
 events_again last n [] rest right follow = follow_read last n rest follow

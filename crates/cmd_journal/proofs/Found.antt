@@ -14,7 +14,7 @@ use Rattle.cmd_journal.proofs.ReadFields.{bind_ok, gate, done, ok_is, chosen, wi
 use Rattle.cmd_journal.proofs.HexFields.{bytes_found, entropy_found, some_bytes}
 use Rattle.cmd_journal.specs.AccountsFiles.{AccountsView, AreRegistered, IsAccountsFile, accounts_text, domain_text, is_account_name, is_domain, is_password, may_register, preamble_text, registration_text, registrations_text}
 use Rattle.cmd_journal.specs.Journals.{EventView, Connect, Piece, Gone, AreEvents, InputView, MayFollow, Says, begun_last, ends_events, event_text, events_text, input_text, is_connection, is_moment, journal_header, mark, may_happen}
-use Rattle.cmd_journal.specs.LineReading.{as_some, bytes_in, connection_in, entropy_in, fields_behind, moment_in, read_connect, read_domain, read_event, read_first, read_gone, read_journal_header, read_keep, read_piece, read_registration, read_words}
+use Rattle.cmd_journal.specs.LineReading.{as_some, bytes_in, connection_in, entropy_in, fields_after, moment_in, read_connect, read_domain, read_event, read_first, read_gone, read_journal_header, read_keep, read_piece, read_registration, read_words}
 use Rattle.cmd_journal.specs.Reading.{Accounts, BegunView, PreambleView, accounts_reading, at_end, at_line, if_event, is_mark, missing_line, read_events, read_file, read_preamble, read_registrations, read_version, rerun_reading, with_account, with_event, with_next, ◌>>=◌}
 use Rattle.cmd_journal.specs.declared.accounts_file.Registration.{Registration}
 use Rattle.cmd_journal.specs.declared.accounts_reading.Behind.{Behind}
@@ -144,7 +144,7 @@ with_field word field fields is = rw is refl
 domain_found : (piece : lines.Piece) (name : List ℕ) → read_domain piece ≡ Ok name → IsText piece (domain_text name) × IsTrue (is_domain name)
 unfolding read_domain
 domain_found piece name e =
-    let a = bind_ok (fields_behind (codes "domain") piece) _ name e in
+    let a = bind_ok (fields_after (codes "domain") piece) _ name e in
     let b = bind_ok (last_field a.0) _ name a.2 in
     let c = gate (is_domain b.0) why.Name _ name b.2 in
     let line = line_is (codes "domain") piece a.0 a.1 in
@@ -154,7 +154,7 @@ domain_found piece name e =
 keep_found : (piece : lines.Piece) (keep : ℕ) → read_keep piece ≡ Ok keep → IsText piece (codes "keep " ++ decimal keep) × IsTrue (may_keep (Two keep))
 unfolding read_keep
 keep_found piece keep e =
-    let a = bind_ok (fields_behind (codes "keep") piece) _ keep e in
+    let a = bind_ok (fields_after (codes "keep") piece) _ keep e in
     let b = bind_ok (last_field a.0) _ keep a.2 in
     let n = number_found 1 MOST_KEPT b.0 keep (omega arith) b.2 in
     let line = line_is (codes "keep") piece a.0 a.1 in (
@@ -168,7 +168,7 @@ with_two word one two fields rest is after = rw (is, after) refl
 registration_found : (above : List (List ℕ)) (piece : lines.Piece) (r : Registration) → read_registration above piece ≡ Ok r → IsText piece (registration_text r) × IsTrue (may_register above r)
 unfolding read_registration
 registration_found above piece r e =
-    let a = bind_ok (fields_behind (codes "account") piece) _ r e in
+    let a = bind_ok (fields_after (codes "account") piece) _ r e in
     let b = bind_ok (next_field a.0) _ r a.2 in
     let l = bind_ok (last_field b.0.rest) _ r b.2 in
     let c = gate (is_account_name b.0.front) why.Name _ r l.2 in
@@ -216,14 +216,14 @@ record IsVersion (has_keep : Bool) (name : List ℕ) (pieces : List lines.Piece)
   stands : Stands pieces (keep_text above.version) above.rest
   two : has_keep ≡ is_two above.version
 
-version_found : (behind : Behind) (two : Bool) (domain : List ℕ) (pieces : List lines.Piece) (above : PreambleView) → read_version behind two domain pieces ≡ Ok above → IsVersion two domain pieces above
+version_found : (following : Behind) (two : Bool) (domain : List ℕ) (pieces : List lines.Piece) (above : PreambleView) → read_version following two domain pieces ≡ Ok above → IsVersion two domain pieces above
 unfolding read_version
-version_found behind false domain pieces above e =
+version_found following false domain pieces above e =
     subst (λ (p : PreambleView). IsVersion false domain pieces p) (got_is _ above e)
     (record { keeps = refl; domain = refl; stands = none_stands pieces; two = refl })
-version_found behind true domain pieces above e =
-    let a = step_ok (at_line 3 (with_next read_keep (missing_line behind) pieces)) _ above e in
-    let next = next_ok read_keep (missing_line behind) pieces a.0 (at_line_ok 3 (with_next read_keep (missing_line behind) pieces) a.0 a.1) in
+version_found following true domain pieces above e =
+    let a = step_ok (at_line 3 (with_next read_keep (missing_line following) pieces)) _ above e in
+    let next = next_ok read_keep (missing_line following) pieces a.0 (at_line_ok 3 (with_next read_keep (missing_line following) pieces) a.0 a.1) in
     let keep = keep_found next.piece a.0.0 next.told in
     subst (λ (p : PreambleView). IsVersion true domain pieces p) (got_is _ above a.2)
     (record { keeps = keep.1; domain = refl; stands = one_stands pieces a.0.1 next.piece (codes "keep " ++ decimal a.0.0) next.whole keep.0; two = refl })
@@ -237,14 +237,14 @@ record IsPreamble (pieces : List lines.Piece) (above : PreambleView) : Type 0 wh
   domain : IsTrue (is_domain above.domain)
   stands : Stands pieces (preamble_text above.version above.domain) above.rest
 
-preamble_found : (behind : Behind) (pieces : List lines.Piece) (above : PreambleView) → read_preamble behind pieces ≡ Ok above → IsPreamble pieces above
+preamble_found : (following : Behind) (pieces : List lines.Piece) (above : PreambleView) → read_preamble following pieces ≡ Ok above → IsPreamble pieces above
 unfolding read_preamble
-preamble_found behind pieces above e =
+preamble_found following pieces above e =
     let a = step_ok (at_line 1 (with_next read_first why.Header pieces)) _ above e in
     let first = next_ok read_first why.Header pieces a.0 (at_line_ok 1 (with_next read_first why.Header pieces) a.0 a.1) in
-    let b = step_ok (at_line 2 (with_next read_domain (missing_line behind) a.0.1)) _ above a.2 in
-    let named = next_ok read_domain (missing_line behind) a.0.1 b.0 (at_line_ok 2 (with_next read_domain (missing_line behind) a.0.1) b.0 b.1) in
-    let version = version_found behind a.0.0 b.0.0 b.0.1 above b.2 in
+    let b = step_ok (at_line 2 (with_next read_domain (missing_line following) a.0.1)) _ above a.2 in
+    let named = next_ok read_domain (missing_line following) a.0.1 b.0 (at_line_ok 2 (with_next read_domain (missing_line following) a.0.1) b.0 b.1) in
+    let version = version_found following a.0.0 b.0.0 b.0.1 above b.2 in
     let is_first : IsText first.piece (first_text (is_two above.version)) = subst (λ two. IsText first.piece (first_text two)) version.two (first_found first.piece a.0.0 first.told) in
     let domain = domain_found named.piece b.0.0 named.told in
     let is_domain_line : IsText named.piece (domain_text above.domain) = subst (λ name. IsText named.piece (domain_text name)) version.domain domain.0 in
@@ -269,23 +269,23 @@ abbrev Ends : Behind → List lines.Piece → Type 0
 Ends Nothing rest = rest ≡ []
 Ends Journal rest = Unit {0}
 
-record AreFound (behind : Behind) (above : List (List ℕ)) (pieces : List lines.Piece) (read : Accounts) : Type 0 where
+record AreFound (following : Behind) (above : List (List ℕ)) (pieces : List lines.Piece) (read : Accounts) : Type 0 where
   right : AreRegistered above read.accounts
-  stands : Stands pieces (registrations_text read.accounts ++ end_text behind) read.rest
-  ends : Ends behind read.rest
+  stands : Stands pieces (registrations_text read.accounts ++ end_text following) read.rest
+  ends : Ends following read.rest
 
 account_ok : (r : Registration) (read : Result Accounts InputFault) (all : Accounts) → with_account r read ≡ Ok all → (rest : Accounts) × (read ≡ Ok rest) × (record rest { accounts = r ∷ rest.accounts } ≡ all)
 account_ok r (Ok rest) all e = (rest, refl, got_is _ all e)
 account_ok r (Err d) all e = absurd cc
 
-end_found : (behind : Behind) (above : List (List ℕ)) (n : ℕ) (read : Accounts) → at_end behind n ≡ Ok read → AreFound behind above [] read
+end_found : (following : Behind) (above : List (List ℕ)) (n : ℕ) (read : Accounts) → at_end following n ≡ Ok read → AreFound following above [] read
 end_found Nothing above n read e =
     subst (λ (x : Accounts). AreFound Nothing above [] x) (got_is _ read e)
     (record { right = tt; stands = none_stands []; ends = refl })
 end_found Journal above n read e = absurd cc
 
-mark_found : (behind : Behind) (above : List (List ℕ)) (piece : lines.Piece) (pieces : List lines.Piece) (n : ℕ) → is_mark behind piece ≡ true
-    → AreFound behind above (piece ∷ pieces) (record { accounts = []; next = n; rest = pieces })
+mark_found : (following : Behind) (above : List (List ℕ)) (piece : lines.Piece) (pieces : List lines.Piece) (n : ℕ) → is_mark following piece ≡ true
+    → AreFound following above (piece ∷ pieces) (record { accounts = []; next = n; rest = pieces })
 mark_found Nothing above piece pieces n h = absurd cc
 mark_found Journal above piece pieces n h =
     let parts = and_parts piece.ended (bytes_eq piece.bytes mark) h in
@@ -295,42 +295,42 @@ if_mark : (b : Bool) (x : Accounts) (y : Result Accounts InputFault) (z : Accoun
 if_mark true x y z e = inl (refl, got_is x z e)
 if_mark false x y z e = inr (refl, e)
 
-registrations_found : (behind : Behind) (above : List (List ℕ)) (n : ℕ) (pieces : List lines.Piece) (read : Accounts) → read_registrations behind above n pieces ≡ Ok read → AreFound behind above pieces read
-registrations_found behind above n [] read e = end_found behind above n read e
-registrations_found behind above n (piece ∷ pieces) read e =
-    elim (if_mark (is_mark behind piece) (record { accounts = []; next = n + 1; rest = pieces }) _ read e) [
-      | inl ends ↦ subst (λ (x : Accounts). AreFound behind above (piece ∷ pieces) x) ends.1 (mark_found behind above piece pieces (n + 1) ends.0)
+registrations_found : (following : Behind) (above : List (List ℕ)) (n : ℕ) (pieces : List lines.Piece) (read : Accounts) → read_registrations following above n pieces ≡ Ok read → AreFound following above pieces read
+registrations_found following above n [] read e = end_found following above n read e
+registrations_found following above n (piece ∷ pieces) read e =
+    elim (if_mark (is_mark following piece) (record { accounts = []; next = n + 1; rest = pieces }) _ read e) [
+      | inl ends ↦ subst (λ (x : Accounts). AreFound following above (piece ∷ pieces) x) ends.1 (mark_found following above piece pieces (n + 1) ends.0)
       | inr goes_on ↦
           let a = either_ok (read_registration above piece) _ n read goes_on.1 in
-          let b = account_ok a.0 (read_registrations behind (above ++ a.0.name ∷ []) (n + 1) pieces) read a.2 in
+          let b = account_ok a.0 (read_registrations following (above ++ a.0.name ∷ []) (n + 1) pieces) read a.2 in
           let one = registration_found above piece a.0 a.1 in
-          let others = registrations_found behind (above ++ a.0.name ∷ []) (n + 1) pieces b.0 b.1 in
+          let others = registrations_found following (above ++ a.0.name ∷ []) (n + 1) pieces b.0 b.1 in
           let text : List ℕ = registration_text a.0 ++ 10 ∷ [] in
-          let stands = then_stands (piece ∷ pieces) pieces b.0.rest text (registrations_text b.0.accounts ++ end_text behind)
+          let stands = then_stands (piece ∷ pieces) pieces b.0.rest text (registrations_text b.0.accounts ++ end_text following)
           (one_stands (piece ∷ pieces) pieces piece (registration_text a.0) refl one.0) others.stands in
-          let regrouped : text ++ (registrations_text b.0.accounts ++ end_text behind) ≡ registrations_text (a.0 ∷ b.0.accounts) ++ end_text behind =
-          sym (append_assoc text (registrations_text b.0.accounts) (end_text behind)) ∙ ap (λ xs. xs ++ end_text behind) (sym (flat_map-cons (λ (r : Registration). registration_text r ++ 10 ∷ []) a.0 b.0.accounts)) in
-          subst (λ (x : Accounts). AreFound behind above (piece ∷ pieces) x) b.2
+          let regrouped : text ++ (registrations_text b.0.accounts ++ end_text following) ≡ registrations_text (a.0 ∷ b.0.accounts) ++ end_text following =
+          sym (append_assoc text (registrations_text b.0.accounts) (end_text following)) ∙ ap (λ xs. xs ++ end_text following) (sym (flat_map-cons (λ (r : Registration). registration_text r ++ 10 ∷ []) a.0 b.0.accounts)) in
+          subst (λ (x : Accounts). AreFound following above (piece ∷ pieces) x) b.2
           (record { right = (one.1, others.right); stands = subst (λ xs. Stands (piece ∷ pieces) xs b.0.rest) regrouped stands; ends = others.ends })
     ]
 
-record IsFile (behind : Behind) (pieces : List lines.Piece) (begun : BegunView) : Type 0 where
+record IsFile (following : Behind) (pieces : List lines.Piece) (begun : BegunView) : Type 0 where
   right : IsAccountsFile begun.file
-  stands : Stands pieces (accounts_text begun.file ++ end_text behind) begun.rest
-  ends : Ends behind begun.rest
+  stands : Stands pieces (accounts_text begun.file ++ end_text following) begun.rest
+  ends : Ends following begun.rest
 
-file_found : (behind : Behind) (pieces : List lines.Piece) (begun : BegunView) → read_file behind pieces ≡ Ok begun → IsFile behind pieces begun
+file_found : (following : Behind) (pieces : List lines.Piece) (begun : BegunView) → read_file following pieces ≡ Ok begun → IsFile following pieces begun
 unfolding read_file
-file_found behind pieces begun e =
-    let a = step_ok (read_preamble behind pieces) _ begun e in
-    let b = step_ok (read_registrations behind [] a.0.next a.0.rest) _ begun a.2 in
-    let above = preamble_found behind pieces a.0 a.1 in
-    let read = registrations_found behind [] a.0.next a.0.rest b.0 b.1 in
-    let stands = then_stands pieces a.0.rest b.0.rest (preamble_text a.0.version a.0.domain) (registrations_text b.0.accounts ++ end_text behind) above.stands read.stands in
-    subst (λ (x : BegunView). IsFile behind pieces x) (got_is _ begun b.2)
+file_found following pieces begun e =
+    let a = step_ok (read_preamble following pieces) _ begun e in
+    let b = step_ok (read_registrations following [] a.0.next a.0.rest) _ begun a.2 in
+    let above = preamble_found following pieces a.0 a.1 in
+    let read = registrations_found following [] a.0.next a.0.rest b.0 b.1 in
+    let stands = then_stands pieces a.0.rest b.0.rest (preamble_text a.0.version a.0.domain) (registrations_text b.0.accounts ++ end_text following) above.stands read.stands in
+    subst (λ (x : BegunView). IsFile following pieces x) (got_is _ begun b.2)
     (record {
       right = record { keeps = above.keeps; domain = above.domain; accounts = read.right };
-      stands = subst (λ xs. Stands pieces xs b.0.rest) (sym (append_assoc (preamble_text a.0.version a.0.domain) (registrations_text b.0.accounts) (end_text behind))) stands;
+      stands = subst (λ xs. Stands pieces xs b.0.rest) (sym (append_assoc (preamble_text a.0.version a.0.domain) (registrations_text b.0.accounts) (end_text following))) stands;
       ends = read.ends;
     })
 
@@ -487,8 +487,8 @@ record AreEventsOf (last : ℕ) (pieces : List lines.Piece) (events : List Event
   stands : text_of_pieces pieces ≡ events_text events ++ text_of_pieces rest
   follow : Follow rest
 
-behind_events : (piece : lines.Piece) (pieces : List lines.Piece) → IsSpelled piece → is_one_line piece.bytes ≡ true → ends_events (cut_of piece.bytes).front ≡ true → Follow (piece ∷ pieces)
-behind_events piece pieces is line ends =
+after_events : (piece : lines.Piece) (pieces : List lines.Piece) → IsSpelled piece → is_one_line piece.bytes ≡ true → ends_events (cut_of piece.bytes).front ≡ true → Follow (piece ∷ pieces)
+after_events piece pieces is line ends =
     inr (record { line = piece.bytes; rest = text_of_pieces pieces; whole = ended_text piece piece.bytes (text_of_pieces pieces) is.ended refl; one_line = line; spelled = is.utf8; ends = ends })
 
 event_ok : (event : EventView) (r : Result (List EventView) InputFault) (events : List EventView) → with_event event r ≡ Ok events → (rest : List EventView) × (r ≡ Ok rest) × (event ∷ rest ≡ events)
@@ -504,7 +504,7 @@ one_found : (last n : ℕ) (piece : lines.Piece) (pieces : List lines.Piece) (ev
 one_found last n piece pieces events None line finds told e =
     let is = event_found last piece None told in
     subst (λ (es : List EventView). AreEventsOf last (piece ∷ pieces) es) (got_is [] events e)
-    (record { rest = piece ∷ pieces; right = tt; stands = refl; follow = behind_events piece pieces is.0 line is.1 })
+    (record { rest = piece ∷ pieces; right = tt; stands = refl; follow = after_events piece pieces is.0 line is.1 })
 one_found last n piece pieces events (Some event) line finds told e =
     let is = event_found last piece (Some event) told in
     let b = event_ok event (read_events (begun_last last event) (n + 1) pieces) events e in

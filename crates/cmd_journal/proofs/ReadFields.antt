@@ -5,7 +5,7 @@ use Rattle.std.specs.List.{list_all}
 use Rattle.std.specs.Str.{bytes_eq, is_utf8}
 use Rattle.std.proofs.lemmas.Bool.{cases_Bool, and_parts, eqb-true}
 use Rattle.std.proofs.lemmas.Slice.Eq.{bytes_eq-Decides}
-use Rattle.cmd_journal.specs.LineReading.{fields_behind}
+use Rattle.cmd_journal.specs.LineReading.{fields_after}
 use Rattle.cmd_schedule.specs.Reading.{Piece, Cut, ◌>>=◌, wants, cut_of, not_empty, next_field, last_field}
 use Rattle.cmd_schedule.specs.declared.fault.LineWhy.{LineWhy}
 use Rattle.cmd_schedule.specs.declared.fault.LineWhy.TheVariants as why
@@ -73,8 +73,8 @@ pub record IsLine (word : List ℕ) (piece : Piece) (fields : Option (List ℕ))
   pub spelled : is_utf8 piece.bytes ≡ true
   pub whole : piece.bytes ≡ with_rest word fields
 
-pub line_is : (word : List ℕ) (piece : Piece) (fields : Option (List ℕ)) → fields_behind word piece ≡ Ok fields → IsLine word piece fields
-unfolding fields_behind
+pub line_is : (word : List ℕ) (piece : Piece) (fields : Option (List ℕ)) → fields_after word piece ≡ Ok fields → IsLine word piece fields
+unfolding fields_after
 line_is word piece fields e =
     let a = gate (piece.ended && is_utf8 piece.bytes) why.Ending _ fields e in
     let b = gate (bytes_eq (cut_of piece.bytes).front word) why.Word _ fields a.1 in

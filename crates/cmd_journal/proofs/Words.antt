@@ -22,7 +22,7 @@ use Rattle.cmd_journal.specs.AccountsFiles.{is_account_name, is_domain, is_form,
 use Rattle.cmd_journal.specs.Journals.{are_bytes}
 use Rattle.cmd_journal.specs.LineReading.{is_digit}
 use Rattle.cmd_schedule.proofs.Numbers.{decimal_number, number_digits}
-use Rattle.cmd_schedule.proofs.Words.{Lacks, cut_behind}
+use Rattle.cmd_schedule.proofs.Words.{Lacks, cut_after}
 use Rattle.cmd_schedule.specs.Reading.{last_field, next_field, not_empty}
 use Rattle.cmd_schedule.specs.Grammar as schedules
 
@@ -136,11 +136,11 @@ hex_word bytes some h =
 -- ---- fields that are read
 
 pub next_again : (word rest : List ℕ) → IsWord word → next_field (Some (word ++ 32 ∷ rest)) ≡ Ok (record { front = word; rest = Some rest })
-next_again word rest h = rw (cut_behind word rest h.lacks, h.some) refl
+next_again word rest h = rw (cut_after word rest h.lacks, h.some) refl
 
 pub last_again : (word : List ℕ) → IsWord word → last_field (Some word) ≡ Ok word
 last_again word h = rw (h.some, h.whole) refl
 
 -- a field behind a space
-pub plain_behind : (word rest : List ℕ) → IsPlain word → IsPlain rest → IsPlain (word ++ 32 ∷ rest)
-plain_behind word rest h k = plain_append word (32 ∷ rest) h (plain_append (32 ∷ []) rest (plain_from_all (32 ∷ []) refl) k)
+pub plain_after : (word rest : List ℕ) → IsPlain word → IsPlain rest → IsPlain (word ++ 32 ∷ rest)
+plain_after word rest h k = plain_append word (32 ∷ rest) h (plain_append (32 ∷ []) rest (plain_from_all (32 ∷ []) refl) k)

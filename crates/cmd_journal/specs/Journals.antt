@@ -74,7 +74,7 @@ abbrev pub ends_events : List ℕ → Bool
 ends_events word = bytes_eq word (codes "account") || bytes_eq word (codes "overrun") || bytes_eq word (codes "end")
 
 -- a line that is behind the events, with what follows it
-pub record IsBehindEvents (text : List ℕ) : Type 0 where
+pub record IsAfterEvents (text : List ℕ) : Type 0 where
   pub line : List ℕ
   pub rest : List ℕ
   pub whole : text ≡ line ++ 10 ∷ rest
@@ -102,7 +102,7 @@ input_text input = accounts_text input.accounts ++ (mark ++ 10 ∷ (journal_head
 
 -- what may follow the events: nothing, or lines of which the first is behind the events
 abbrev pub MayFollow : List ℕ → Type 0
-MayFollow text = (text ≡ []) ⊎ IsBehindEvents text
+MayFollow text = (text ≡ []) ⊎ IsAfterEvents text
 
 -- the text says this
 pub record Says (text : List ℕ) (input : InputView) : Type 0 where

@@ -18,8 +18,8 @@ use Rattle.cmd_schedule.specs.Reading as lines
 use Rattle.cmd_schedule.specs.declared.fault.LineWhy.TheVariants as why
 
 -- what follows the first word of a line, which must be this word
-unfoldable pub fields_behind : List ℕ → lines.Piece → Result (Option (List ℕ)) LineWhy
-fields_behind word piece = do
+unfoldable pub fields_after : List ℕ → lines.Piece → Result (Option (List ℕ)) LineWhy
+fields_after word piece = do
   ended ← wants (piece.ended && is_utf8 piece.bytes) why.Ending
   named ← wants (bytes_eq (cut_of piece.bytes).front word) why.Word
   Ok (cut_of piece.bytes).rest
@@ -35,21 +35,21 @@ read_first piece = do
 
 unfoldable pub read_domain : lines.Piece → Result (List ℕ) LineWhy
 read_domain piece = do
-  fields ← fields_behind (codes "domain") piece
+  fields ← fields_after (codes "domain") piece
   name ← last_field fields
   normal ← wants (is_domain name) why.Name
   Ok name
 
 unfoldable pub read_keep : lines.Piece → Result ℕ LineWhy
 read_keep piece = do
-  fields ← fields_behind (codes "keep") piece
+  fields ← fields_after (codes "keep") piece
   field ← last_field fields
   number_within 1 MOST_KEPT field
 
 -- an account, behind those with these names
 unfoldable pub read_registration : List (List ℕ) → lines.Piece → Result Registration LineWhy
 read_registration above piece = do
-  fields ← fields_behind (codes "account") piece
+  fields ← fields_after (codes "account") piece
   name ← next_field fields
   password ← last_field name.rest
   normal ← wants (is_account_name name.front) why.Name

@@ -47,16 +47,16 @@ pub record PreambleView : Type 0 where
 
 -- the lines above the accounts behind the domain's
 unfoldable pub read_version : Behind → Bool → List ℕ → List Piece → Result PreambleView InputFault
-read_version behind false domain pieces = Ok (record { version = One; domain = domain; next = 3; rest = pieces })
-read_version behind true domain pieces = do
-  keep ← at_line 3 (with_next read_keep (missing_line behind) pieces)
+read_version following false domain pieces = Ok (record { version = One; domain = domain; next = 3; rest = pieces })
+read_version following true domain pieces = do
+  keep ← at_line 3 (with_next read_keep (missing_line following) pieces)
   Ok (record { version = Two keep.0; domain = domain; next = 4; rest = keep.1 })
 
 unfoldable pub read_preamble : Behind → List Piece → Result PreambleView InputFault
-read_preamble behind pieces = do
+read_preamble following pieces = do
   first ← at_line 1 (with_next read_first why.Header pieces)
-  domain ← at_line 2 (with_next read_domain (missing_line behind) first.1)
-  read_version behind first.0 domain.0 domain.1
+  domain ← at_line 2 (with_next read_domain (missing_line following) first.1)
+  read_version following first.0 domain.0 domain.1
 
 -- accounts, the number of the next line, and the lines from there on
 pub record Accounts : Type 0 where
@@ -80,11 +80,11 @@ at_end Journal n = Err (BadLine n why.Ending)
 
 -- the accounts from line n on, behind those with these names
 abbrev pub read_registrations : Behind → List (List ℕ) → ℕ → List Piece → Result Accounts InputFault
-read_registrations behind above n [] = at_end behind n
-read_registrations behind above n (piece ∷ pieces) =
-    if is_mark behind piece then Ok (record { accounts = []; next = n + 1; rest = pieces })
+read_registrations following above n [] = at_end following n
+read_registrations following above n (piece ∷ pieces) =
+    if is_mark following piece then Ok (record { accounts = []; next = n + 1; rest = pieces })
     else either
-    (λ r. with_account r (read_registrations behind (above ++ r.name ∷ []) (n + 1) pieces))
+    (λ r. with_account r (read_registrations following (above ++ r.name ∷ []) (n + 1) pieces))
     (λ reason. Err (BadLine n reason))
     (read_registration above piece)
 
@@ -95,9 +95,9 @@ pub record BegunView : Type 0 where
   pub rest : List Piece
 
 unfoldable pub read_file : Behind → List Piece → Result BegunView InputFault
-read_file behind pieces = do
-  above ← read_preamble behind pieces
-  read ← read_registrations behind [] above.next above.rest
+read_file following pieces = do
+  above ← read_preamble following pieces
+  read ← read_registrations following [] above.next above.rest
   Ok (record {
     file = record { version = above.version; domain = above.domain; accounts = read.accounts };
     next = read.next;

@@ -9,7 +9,7 @@ ghost use Rattle.cmd_schedule.specs.declared.fault.LineWhy.TheVariants.{Header};
 use crate::accounts_file::{AccountsFile, Registration, Registrations};
 use crate::fault::{InputFault, LineFault, wants};
 use crate::fields::{is_password, last_field, next_field, number_within};
-use crate::lines::fields_behind;
+use crate::lines::fields_after;
 use crate::names::{is_account_name, is_domain};
 use base_io::{NameIndex, Text};
 use cmd_schedule::{LineWhy, MOST_KEPT, Version, first_line};
@@ -50,10 +50,10 @@ pub struct Begun<'a> {
 }
 
 // Why a line that must be there is missing.
-fn missing_line(behind: Behind) -> LineWhy
-    ensures { result ≡ missing_line behind }
+fn missing_line(following: Behind) -> LineWhy
+    ensures { result ≡ missing_line following }
 {
-    match behind {
+    match following {
         Behind::Nothing => LineWhy::Word,
         Behind::Journal => LineWhy::Ending,
     }
@@ -82,18 +82,18 @@ fn read_first(text: &[u8]) -> Result<(bool, &[u8]), LineFault>
 fn domain_of(alloc: Global, line: &[u8], ended: bool) -> Result<Text, LineFault>
     ensures { Gives (λ name. name) result (read_domain (record { bytes = line.now; ended = ended })) }
 {
-    let name = last_field(fields_behind("domain", line, ended)?)?;
+    let name = last_field(fields_after("domain", line, ended)?)?;
     wants(is_domain(alloc, name)?, LineWhy::Name)?;
     Ok(Text::from_str(alloc, name)?)
 }
 
 /// The domain, and what follows its line.
-fn read_domain(alloc: Global, behind: Behind, text: &[u8]) -> Result<(Text, &[u8]), LineFault>
-    ensures read { Gives (λ domain. (domain.0, pieces_of domain.1.now)) result (with_next read_domain (missing_line behind) (pieces_of text.now)) }
+fn read_domain(alloc: Global, following: Behind, text: &[u8]) -> Result<(Text, &[u8]), LineFault>
+    ensures read { Gives (λ domain. (domain.0, pieces_of domain.1.now)) result (with_next read_domain (missing_line following) (pieces_of text.now)) }
     ensures shorter { IfOk result (λ domain. length domain.1.now < length text.now) }
 {
     if text.is_empty() {
-        return Err(LineFault::Reason(missing_line(behind)));
+        return Err(LineFault::Reason(missing_line(following)));
     }
     let (line, ended, rest) = first_line(text);
     let name = domain_of(alloc, line, ended)?;
@@ -104,18 +104,18 @@ fn read_domain(alloc: Global, behind: Behind, text: &[u8]) -> Result<(Text, &[u8
 fn keep_of(line: &[u8], ended: bool) -> Result<u32, LineFault>
     ensures { Gives (λ keep. keep) result (read_keep (record { bytes = line.now; ended = ended })) }
 {
-    let field = last_field(fields_behind("keep", line, ended)?)?;
+    let field = last_field(fields_after("keep", line, ended)?)?;
     let keep = number_within(1, u64::from(MOST_KEPT), field)?;
     Ok(keep as u32)
 }
 
 /// How many entries archives keep, and what follows the line that says it.
-fn read_keep(behind: Behind, text: &[u8]) -> Result<(u32, &[u8]), LineFault>
-    ensures read { Gives (λ keep. (keep.0, pieces_of keep.1.now)) result (with_next read_keep (missing_line behind) (pieces_of text.now)) }
+fn read_keep(following: Behind, text: &[u8]) -> Result<(u32, &[u8]), LineFault>
+    ensures read { Gives (λ keep. (keep.0, pieces_of keep.1.now)) result (with_next read_keep (missing_line following) (pieces_of text.now)) }
     ensures shorter { IfOk result (λ keep. length keep.1.now < length text.now) }
 {
     if text.is_empty() {
-        return Err(LineFault::Reason(missing_line(behind)));
+        return Err(LineFault::Reason(missing_line(following)));
     }
     let (line, ended, rest) = first_line(text);
     let keep = keep_of(line, ended)?;
@@ -125,12 +125,12 @@ fn read_keep(behind: Behind, text: &[u8]) -> Result<(u32, &[u8]), LineFault>
 /// The lines above the accounts behind the domain's.
 #[tactic(auto, unfolding(crate::specs::Reading::read_version))]
 fn read_version<'a>(
-    behind: Behind,
+    following: Behind,
     has_keep: bool,
     domain: Text,
     text: &'a [u8],
 ) -> Result<Preamble<'a>, InputFault>
-    ensures read { ReadsAs preamble_seen result (read_version behind has_keep domain (pieces_of text.now)) }
+    ensures read { ReadsAs preamble_seen result (read_version following has_keep domain (pieces_of text.now)) }
     ensures counted { IfOk result (λ above. above.next + length above.rest.now ≤ 4 + length text.now) }
 {
     if !has_keep {
@@ -141,7 +141,7 @@ fn read_version<'a>(
             rest: text,
         });
     }
-    match read_keep(behind, text) {
+    match read_keep(following, text) {
         Ok((keep, rest)) => Ok(Preamble {
             version: Version::Two { keep },
             domain,
@@ -155,8 +155,8 @@ fn read_version<'a>(
 
 /// The lines above the accounts.
 #[tactic(auto, unfolding(crate::specs::Reading::read_preamble))]
-fn read_preamble(alloc: Global, behind: Behind, text: &[u8]) -> Result<Preamble<'_>, InputFault>
-    ensures read { ReadsAs preamble_seen result (read_preamble behind (pieces_of text.now)) }
+fn read_preamble(alloc: Global, following: Behind, text: &[u8]) -> Result<Preamble<'_>, InputFault>
+    ensures read { ReadsAs preamble_seen result (read_preamble following (pieces_of text.now)) }
     ensures counted { IfOk result (λ above. above.next + length above.rest.now ≤ 4 + length text.now) }
 {
     let (has_keep, rest) = match read_first(text) {
@@ -164,8 +164,8 @@ fn read_preamble(alloc: Global, behind: Behind, text: &[u8]) -> Result<Preamble<
         Err(LineFault::Reason(why)) => return Err(InputFault::BadLine { line: 1, why }),
         Err(LineFault::NoMemory) => return Err(InputFault::NoMemory),
     };
-    match read_domain(alloc, behind, rest) {
-        Ok((domain, rest)) => read_version(behind, has_keep, domain, rest),
+    match read_domain(alloc, following, rest) {
+        Ok((domain, rest)) => read_version(following, has_keep, domain, rest),
         Err(LineFault::Reason(why)) => Err(InputFault::BadLine { line: 2, why }),
         Err(LineFault::NoMemory) => Err(InputFault::NoMemory),
     }
@@ -184,7 +184,7 @@ fn read_registration(
     ensures named { IfOk result (λ r. above.new ≡ above.old ++ r.name ∷ []) }
     ensures err { OnErr result (above.new ≡ above.old) }
 {
-    let (name, rest) = next_field(fields_behind("account", line, ended)?)?;
+    let (name, rest) = next_field(fields_after("account", line, ended)?)?;
     let password = last_field(rest)?;
     wants(is_account_name(alloc, name)?, LineWhy::Name)?;
     wants(!above.contains(name), LineWhy::Twice)?;
@@ -198,10 +198,10 @@ fn read_registration(
 }
 
 /// Whether the accounts end at a line.
-fn is_mark(behind: Behind, line: &[u8], ended: bool) -> bool
-    ensures { result ≡ is_mark behind (record { bytes = line.now; ended = ended }) }
+fn is_mark(following: Behind, line: &[u8], ended: bool) -> bool
+    ensures { result ≡ is_mark following (record { bytes = line.now; ended = ended }) }
 {
-    match behind {
+    match following {
         Behind::Nothing => false,
         Behind::Journal => ended && line == b"%%".as_slice(),
     }
@@ -210,12 +210,12 @@ fn is_mark(behind: Behind, line: &[u8], ended: bool) -> bool
 /// The accounts from line `number` on.
 fn read_registrations(
     alloc: Global,
-    behind: Behind,
+    following: Behind,
     number: u64,
     text: &[u8],
 ) -> Result<Registered<'_>, InputFault>
     requires { number + length text.now < 2 ^ 64 }
-    ensures read { ReadsAs registered_seen result (read_registrations behind [] number (pieces_of text.now)) }
+    ensures read { ReadsAs registered_seen result (read_registrations following [] number (pieces_of text.now)) }
     ensures counted { IfOk result (λ r. r.next + length r.rest.now ≤ number + length text.now) }
 {
     let mut above = NameIndex::new(alloc);
@@ -224,7 +224,7 @@ fn read_registrations(
     let mut rest = text;
     while !rest.is_empty() {
         let (line, ended, after) = first_line(rest);
-        let ends = is_mark(behind, line, ended);
+        let ends = is_mark(following, line, ended);
         if ends {
             return Ok(Registered {
                 accounts,
@@ -240,7 +240,7 @@ fn read_registrations(
         next += 1;
         rest = after;
     }
-    match behind {
+    match following {
         Behind::Nothing => Ok(Registered {
             accounts,
             next,
@@ -255,15 +255,15 @@ fn read_registrations(
 
 /// An accounts file, to the end of the text, or to the line `%%`.
 #[tactic(auto, unfolding(crate::specs::Reading::read_file))]
-pub fn read_file(alloc: Global, behind: Behind, text: &[u8]) -> Result<Begun<'_>, InputFault>
-    ensures read { ReadsAs begun_seen result (read_file behind (pieces_of text.now)) }
+pub fn read_file(alloc: Global, following: Behind, text: &[u8]) -> Result<Begun<'_>, InputFault>
+    ensures read { ReadsAs begun_seen result (read_file following (pieces_of text.now)) }
     ensures counted { IfOk result (λ begun. begun.next + length begun.rest.now ≤ 4 + length text.now) }
 {
-    let above = match read_preamble(alloc, behind, text) {
+    let above = match read_preamble(alloc, following, text) {
         Ok(above) => above,
         Err(fault) => return Err(fault),
     };
-    let read = match read_registrations(alloc, behind, above.next, above.rest) {
+    let read = match read_registrations(alloc, following, above.next, above.rest) {
         Ok(read) => read,
         Err(fault) => return Err(fault),
     };

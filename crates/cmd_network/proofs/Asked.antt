@@ -4,18 +4,18 @@ use Rattle.std.proofs.lemmas.Result.{on_ok_weaker}
 use Rattle.std.specs.Prelude.{OnOk}
 use Rattle.cl_core.specs.Feeds.{Fed}
 use Rattle.cl_core.specs.UserCalls.{catch_up_answer, catches_up, say_answer, says}
-use Rattle.cl_core.specs.Values.{ClientValue, fed_of, turn_in}
+use Rattle.cl_core.specs.Values.{ClientValue, client_step_in, fed_of}
 use Rattle.cl_core.specs.declared.faults.CatchUpStart.{CatchUpStart}
 use Rattle.cl_core.specs.declared.faults.SayFault.{SayFault}
-use Rattle.cl_handlers.specs.Clients.{ClientView, Turn}
+use Rattle.cl_handlers.specs.Clients.{ClientStep, ClientView}
 use Rattle.cl_handlers.specs.Speech.{in_bytes}
 use Rattle.cl_handlers.specs.declared.events.ClientOut.{ClientOut}
-use Rattle.cmd_network.specs.Devices.{DeviceState, Spoken, after_turn, catch_up_refused, catches_up_by, catches_up_on, refuses, says_by, says_to, say_refused, silent, silent_turn, spoken}
+use Rattle.cmd_network.specs.Devices.{DeviceState, Spoken, after_client_step, catch_up_refused, catches_up_by, catches_up_on, refuses, says_by, says_to, say_refused, silent, silent_client_step, spoken}
 use Rattle.xml_framer.specs.States.{State}
 use Rattle.cmd_report.specs.declared.report.RefusedWhy.{RefusedWhy}
 
 abbrev T : Type 0
-T = Turn (List ℕ) ℕ
+T = ClientStep (List ℕ) ℕ
 
 -- unless memory ran out, the answer is what the client's table says
 pub told : {A E : Type 0} (result answer : Result A E) (none : E) → (result ≡ Err none) ⊎ (result ≡ answer) → (result ≡ Err none → ⊥) → answer ≡ result
@@ -27,28 +27,28 @@ told result answer none (inr is) other = sym is
 abbrev with_parts : DeviceState → Option State → T → Spoken
 with_parts d framer t = spoken (record d { client = record { framer = framer; client = t.client } }) t.out.put
 
-taken : (d : DeviceState) (new : ClientValue) (out : ClientOut) (t : T) → turn_in new out ≡ t → new.framer ≡ d.client.framer
-    → with_parts d new.framer (turn_in new out) ≡ after_turn t d
-taken d new out t is same = ap (λ (framer : Option State). with_parts d framer (turn_in new out)) same ∙ ap (λ (u : T). with_parts d d.client.framer u) is
+taken : (d : DeviceState) (new : ClientValue) (out : ClientOut) (t : T) → client_step_in new out ≡ t → new.framer ≡ d.client.framer
+    → with_parts d new.framer (client_step_in new out) ≡ after_client_step t d
+taken d new out t is same = ap (λ (framer : Option State). with_parts d framer (client_step_in new out)) same ∙ ap (λ (u : T). with_parts d d.client.framer u) is
 
-silent_first : (c : ClientValue) (out : ClientOut) → fed_of c out ≡ silent c → turn_in c out ≡ silent_turn c
+silent_first : (c : ClientValue) (out : ClientOut) → fed_of c out ≡ silent c → client_step_in c out ≡ silent_client_step c
 silent_first c out quiet = ap (λ (f : Fed (List ℕ) ℕ). f.turn) quiet
 
 pub says_taken : (line n : ℕ) (to text : List ℕ) (private : Bool) (d : DeviceState) (new : ClientValue) (before after : ClientOut)
     → fed_of d.client before ≡ silent d.client → say_answer d.client.client text ≡ Ok n
-    → turn_in new after ≡ says in_bytes (turn_in d.client before) to text private → new.framer ≡ d.client.framer
+    → client_step_in new after ≡ says in_bytes (client_step_in d.client before) to text private → new.framer ≡ d.client.framer
     → spoken (record d { client = new }) after.bytes.items ≡ says_to line to text private d
 says_taken line n to text private d new before after quiet answer is same =
-    taken d new after (says in_bytes (silent_turn d.client) to text private)
+    taken d new after (says in_bytes (silent_client_step d.client) to text private)
     (is ∙ ap (λ (t : T). says in_bytes t to text private) (silent_first d.client before quiet)) same
     ∙ sym (ap (λ (r : Result ℕ SayFault). says_by line to text private r d) answer)
 
 pub catches_up_taken : (line most : ℕ) (d : DeviceState) (new : ClientValue) (before after : ClientOut) (done : Unit {0})
     → fed_of d.client before ≡ silent d.client → catch_up_answer d.client.client ≡ Ok done
-    → turn_in new after ≡ catches_up in_bytes (turn_in d.client before) most → new.framer ≡ d.client.framer
+    → client_step_in new after ≡ catches_up in_bytes (client_step_in d.client before) most → new.framer ≡ d.client.framer
     → spoken (record d { client = new }) after.bytes.items ≡ catches_up_on line most d
 catches_up_taken line most d new before after done quiet answer is same =
-    taken d new after (catches_up in_bytes (silent_turn d.client) most)
+    taken d new after (catches_up in_bytes (silent_client_step d.client) most)
     (is ∙ ap (λ (t : T). catches_up in_bytes t most) (silent_first d.client before quiet)) same
     ∙ sym (ap (λ (r : Result (Unit {0}) CatchUpStart). catches_up_by line most r d) answer)
 
@@ -66,12 +66,12 @@ abbrev pub parts : Option State → ClientView (List ℕ) → ClientValue
 parts framer client = record { framer = framer; client = client }
 
 -- it is as it was
-pub still : (old new : ClientValue) (before after : ClientOut) → turn_in new after ≡ turn_in old before → new.framer ≡ old.framer → parts new.framer new.client ≡ old
+pub still : (old new : ClientValue) (before after : ClientOut) → client_step_in new after ≡ client_step_in old before → new.framer ≡ old.framer → parts new.framer new.client ≡ old
 still old new before after is same =
     ap (λ (framer : Option State). parts framer new.client) same ∙ ap (λ (t : T). parts old.framer t.client) is
 
 -- and nothing was put
-pub still_put : (old new : ClientValue) (before after : ClientOut) → fed_of old before ≡ silent old → turn_in new after ≡ turn_in old before → after.bytes.items ≡ []
+pub still_put : (old new : ClientValue) (before after : ClientOut) → fed_of old before ≡ silent old → client_step_in new after ≡ client_step_in old before → after.bytes.items ≡ []
 still_put old new before after quiet is = ap (λ (t : T). t.out.put) (is ∙ silent_first old before quiet)
 
 always : {A E P : Type 0} (r : Result A E) → P → OnOk r P

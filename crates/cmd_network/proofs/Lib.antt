@@ -1,4 +1,4 @@
-pub mod Places
+pub mod Positions
 pub mod Names
 pub mod Asked
 pub mod Puts

@@ -8,9 +8,9 @@ use Rattle.cl_core.specs.declared.faults.CatchUpStart.{CatchUpStart}
 use Rattle.cl_core.specs.declared.faults.CatchUpStart.TheVariants as start
 use Rattle.cl_core.specs.declared.faults.SayFault.{SayFault}
 use Rattle.cl_core.specs.declared.faults.SayFault.TheVariants as say
-use Rattle.cl_handlers.specs.Clients.{Turn}
+use Rattle.cl_handlers.specs.Clients.{ClientStep}
 use Rattle.cl_handlers.specs.Speech.{in_bytes}
-use Rattle.cl_handlers.specs.Turns.{is_apart}
+use Rattle.cl_handlers.specs.ClientSteps.{is_apart}
 use Rattle.xml_framer.specs.Machine.{part_of}
 use Rattle.cmd_report.specs.declared.report.RefusedLine.{RefusedLine}
 use Rattle.cmd_report.specs.declared.report.RefusedWhy.{RefusedWhy}
@@ -36,33 +36,33 @@ spoken device put = record { device = device; put = put }
 
 -- ---- a client that has put nothing and told nothing
 
-abbrev pub silent_turn : ClientValue → Turn (List ℕ) ℕ
-silent_turn c = record { client = c.client; out = record { put = []; events = []; notes = [] } }
+abbrev pub silent_client_step : ClientValue → ClientStep (List ℕ) ℕ
+silent_client_step c = record { client = c.client; out = record { put = []; events = []; notes = [] } }
 
 abbrev pub silent : ClientValue → Fed (List ℕ) ℕ
-silent c = record { framer = c.framer; turn = silent_turn c }
+silent c = record { framer = c.framer; turn = silent_client_step c }
 
-abbrev pub client_behind : Fed (List ℕ) ℕ → ClientValue
-client_behind f = record { framer = f.framer; client = f.turn.client }
+abbrev pub client_after : Fed (List ℕ) ℕ → ClientValue
+client_after f = record { framer = f.framer; client = f.turn.client }
 
 -- the device behind what its client did, and what that put
 abbrev pub after_step : Fed (List ℕ) ℕ → DeviceState → Spoken
-after_step f d = spoken (record d { client = client_behind f }) f.turn.out.put
+after_step f d = spoken (record d { client = client_after f }) f.turn.out.put
 
 -- the same of what leaves the framer as it is
-abbrev pub after_turn : Turn (List ℕ) ℕ → DeviceState → Spoken
-after_turn t d = spoken (record d { client = record d.client { client = t.client } }) t.out.put
+abbrev pub after_client_step : ClientStep (List ℕ) ℕ → DeviceState → Spoken
+after_client_step t d = spoken (record d { client = record d.client { client = t.client } }) t.out.put
 
 -- ---- connections
 
 -- the device dials the connection at a place
 abbrev pub dials_at : List ℕ → ℕ → DeviceState → Spoken
-dials_at entropy place d = after_step (dials in_bytes entropy (silent d.client)) (record d { here = Some place; newest = Some place })
+dials_at entropy position d = after_step (dials in_bytes entropy (silent d.client)) (record d { here = Some position; newest = Some position })
 
 -- the connection at a place is the one that the device has
 abbrev pub has_wire : ℕ → Option ℕ → Bool
-has_wire place None = false
-has_wire place (Some here) = here == place
+has_wire position None = false
+has_wire position (Some here) = here == position
 
 abbrev pub is_left : ClientValue → Bool
 is_left c = is_apart c.client.phase
@@ -77,7 +77,7 @@ hears piece d = spoken (unless_left (after_step (bytes_step in_bytes (silent d.c
 
 -- The end of its connection comes. The device still has that connection.
 abbrev pub loses : DeviceState → DeviceState
-loses d = record d { client = client_behind (leaves (silent d.client)) }
+loses d = record d { client = client_after (leaves (silent d.client)) }
 
 abbrev pub forgets_all : DeviceState → DeviceState
 forgets_all d = record d { client = forgotten d.client; here = None }
@@ -102,7 +102,7 @@ say_refused line say.BadText d = d
 say_refused line say.NoMemory d = d
 
 abbrev pub says_by : ℕ → List ℕ → List ℕ → Bool → Result ℕ SayFault → DeviceState → Spoken
-says_by line to text private (Ok n) d = after_turn (says in_bytes (silent_turn d.client) to text private) d
+says_by line to text private (Ok n) d = after_client_step (says in_bytes (silent_client_step d.client) to text private) d
 says_by line to text private (Err fault) d = spoken (say_refused line fault d) []
 
 -- a message to an address
@@ -116,7 +116,7 @@ catch_up_refused line start.Underway d = refuses line why.Underway d
 catch_up_refused line start.NoMemory d = d
 
 abbrev pub catches_up_by : ℕ → ℕ → Result (Unit {0}) CatchUpStart → DeviceState → Spoken
-catches_up_by line most (Ok done) d = after_turn (catches_up in_bytes (silent_turn d.client) most) d
+catches_up_by line most (Ok done) d = after_client_step (catches_up in_bytes (silent_client_step d.client) most) d
 catches_up_by line most (Err fault) d = spoken (catch_up_refused line fault d) []
 
 -- pages of at most so many results

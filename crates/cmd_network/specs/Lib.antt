@@ -4,7 +4,7 @@ pub use Rattle.cl_core.specs.Values
 pub use Rattle.cl_handlers.specs.Views
 pub use Rattle.xml_framer.specs.States
 pub use Rattle.cmd_report.specs.Reports
-pub mod Places
+pub mod Positions
 pub mod Wires
 pub mod Takes
 pub mod Devices

@@ -3,7 +3,7 @@ use Rattle.std.specs.Prelude.{ℕ, ◌^◌, ◌==◌, Bool, List, unwrap_or}
 use Rattle.std.specs.List.{after_first, before_first}
 use Rattle.im_jid.specs.Cuts.{is_at, is_slash}
 use Rattle.im_payload.specs.Shapes.{number_below}
-use Rattle.cmd_report.specs.Lines.{told_moment}
+use Rattle.cmd_report.specs.Lines.{reported_moment}
 use Rattle.cmd_report.specs.declared.report.TakeLine.{TakeLine}
 use Rattle.cmd_schedule.specs.declared.schedule.Version.{Version}
 
@@ -16,11 +16,11 @@ number_spelled digits = unwrap_or (number_below (2 ^ 64) digits) 0
 
 -- The line of a message that was archived. A device's name is the resource of the address that the message is from, and the
 -- account that of the address that it is to. The origin id has the device's name, the epoch and the number, with dots between.
-abbrev pub take_told : Version → ℕ → List ℕ → List ℕ → List ℕ → TakeLine
-take_told version moment from to origin = record {
+abbrev pub take_reported : Version → ℕ → List ℕ → List ℕ → List ℕ → TakeLine
+take_reported version moment from to origin = record {
   device = after_first is_slash from;
   epoch = number_spelled (before_first is_dot (after_first is_dot origin));
   n = number_spelled (after_first is_dot (after_first is_dot origin));
   account = before_first is_at to;
-  moment = told_moment version moment;
+  moment = reported_moment version moment;
 }

@@ -1,6 +1,6 @@
 -- The connections of a world: which device dialed one, its two pipes, and what ended it first.
 use Rattle.std.specs.Prelude.{ℕ, min, List, length}
-use Rattle.net_pipes.specs.Pipes.{Pipe, closed, cut_to, emptied, empty_pipe, entered, handed, with_end_told}
+use Rattle.net_pipes.specs.Pipes.{Pipe, closed, cut_to, emptied, empty_pipe, entered, handed, with_end_reported}
 use Rattle.cmd_report.specs.declared.report.ConnEnd.{ConnEnd}
 use Rattle.cmd_report.specs.declared.report.ConnEnd.TheVariants as end
 use Rattle.cmd_schedule.specs.declared.schedule.Count.{Count}
@@ -45,11 +45,11 @@ handed_up n w = record w { up = handed n w.up }
 abbrev pub handed_down : ℕ → Wire → Wire
 handed_down n w = record w { down = handed n w.down }
 
-abbrev pub up_end_told : Wire → Wire
-up_end_told w = record w { up = with_end_told w.up }
+abbrev pub up_end_reported : Wire → Wire
+up_end_reported w = record w { up = with_end_reported w.up }
 
-abbrev pub down_end_told : Wire → Wire
-down_end_told w = record w { down = with_end_told w.down }
+abbrev pub down_end_reported : Wire → Wire
+down_end_reported w = record w { down = with_end_reported w.down }
 
 -- how many bytes a line moves: so many where there are, or all
 abbrev pub amount : Count → Pipe → ℕ

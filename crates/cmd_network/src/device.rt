@@ -73,11 +73,11 @@ impl Device {
     }
 
     /// Whether it has the connection at a place.
-    pub fn has_wire(&self, place: usize) -> bool
-        ensures { result ≡ Devices.has_wire place self.now.here }
+    pub fn has_wire(&self, position: usize) -> bool
+        ensures { result ≡ Devices.has_wire position self.now.here }
     {
         match self.here {
-            Some(here) => here == place,
+            Some(here) => here == position,
             None => false,
         }
     }
@@ -101,14 +101,14 @@ impl Device {
         &mut self,
         alloc: Global,
         entropy: &[u8; 24],
-        place: usize,
+        position: usize,
     ) -> Result<Bytes, NoMemory>
-        ensures device { OnOk result (self.new ≡ (dials_at entropy.now place self.old).device) }
-        ensures put { IfOk result (λ put. put.items ≡ (dials_at entropy.now place self.old).put) }
+        ensures device { OnOk result (self.new ≡ (dials_at entropy.now position self.old).device) }
+        ensures put { IfOk result (λ put. put.items ≡ (dials_at entropy.now position self.old).put) }
     {
         let put = dial(alloc, &mut self.client, entropy)?;
-        self.here = Some(place);
-        self.newest = Some(place);
+        self.here = Some(position);
+        self.newest = Some(position);
         Ok(put)
     }
 

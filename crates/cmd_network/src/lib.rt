@@ -14,6 +14,6 @@ mod wires;
 pub use device::Device;
 pub use lines::device_line;
 pub use starting::{account_at_start, device_at_start};
-pub use takes::{before_at, take_told};
+pub use takes::{before_at, take_reported};
 pub use wire::{Wire, amount};
 pub use wires::{cut_wire, leave_wire, put_down_wire, put_up_wire, shut_wire};

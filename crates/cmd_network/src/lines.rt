@@ -2,7 +2,7 @@
 ghost use Rattle.std.specs.Prelude.{◌≡◌, ◌++◌, drop, map, take, IfOk, OnOk};
 ghost use Rattle.cmd_network.specs.DeviceLines;
 ghost use Rattle.cmd_network.specs.DeviceLines.{held_line, mark_of, said_line, underway_lines};
-ghost use Rattle.cmd_report.specs.Lines.{is_break, logged_behind, logged_by, tile_line};
+ghost use Rattle.cmd_report.specs.Lines.{is_break, logged_after, logged_by, tile_line};
 
 use crate::device::Device;
 use crate::takes::before_at;
@@ -94,7 +94,7 @@ fn push_page(
     entries: &[LogEntry],
     broken: bool,
 ) -> Result<(), NoMemory>
-    ensures { OnOk result (lines.new.items ≡ lines.old.items ++ logged_behind broken entries.now) }
+    ensures { OnOk result (lines.new.items ≡ lines.old.items ++ logged_after broken entries.now) }
 {
     let mut broken = broken;
     for logged in entries {
@@ -135,9 +135,9 @@ fn push_pages(
     let mut rest = entries;
     let mut before = 0u64;
     for tile in tiles {
-        let (page, behind) = split_entries(rest, tile.count);
+        let (page, following) = split_entries(rest, tile.count);
         push_page(alloc, lines, page, is_break(before, &tile.after))?;
-        rest = behind;
+        rest = following;
         before = before.saturating_add(tile.count);
     }
     push_page(alloc, lines, rest, false)

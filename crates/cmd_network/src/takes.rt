@@ -2,8 +2,8 @@
 ghost use Rattle.std.specs.Prelude.{◌≡◌, IfOk};
 ghost use Rattle.std.specs.List.{after_first, before_first};
 ghost use Rattle.im_jid.specs.Cuts.{is_at, is_slash};
-ghost use Rattle.cmd_report.specs.Lines.{told_moment};
-ghost use Rattle.cmd_network.specs.Takes.{is_dot, number_spelled, take_told};
+ghost use Rattle.cmd_report.specs.Lines.{reported_moment};
+ghost use Rattle.cmd_network.specs.Takes.{is_dot, number_spelled, take_reported};
 
 use base_io::{NoMemory, Text};
 use cmd_report::TakeLine;
@@ -24,20 +24,20 @@ fn number_spelled(digits: &str) -> u64
 // What stands before the first dot, and what behind it.
 fn split_dot(text: &str) -> (&str, &str)
     ensures before { result.0.now ≡ before_first is_dot text.now }
-    ensures behind { result.1.now ≡ after_first is_dot text.now }
+    ensures following { result.1.now ≡ after_first is_dot text.now }
 {
     match text.split_once('.') {
-        Some((before, behind)) => (before, behind),
+        Some((before, following)) => (before, following),
         None => (text, &text[text.len()..]),
     }
 }
 
 // What stands behind the first `/`.
-fn behind_slash(text: &str) -> &str
+fn after_slash(text: &str) -> &str
     ensures { result.now ≡ after_first is_slash text.now }
 {
     match text.split_once('/') {
-        Some((_, behind)) => behind,
+        Some((_, following)) => following,
         None => &text[text.len()..],
     }
 }
@@ -53,8 +53,8 @@ pub fn before_at(text: &str) -> &str
 }
 
 // The moment of a take, which version 1 doesn't tell.
-fn told_moment(version: Version, moment: u64) -> Option<u64>
-    ensures { result ≡ told_moment version moment }
+fn reported_moment(version: Version, moment: u64) -> Option<u64>
+    ensures { result ≡ reported_moment version moment }
 {
     match version {
         Version::One => None,
@@ -63,7 +63,7 @@ fn told_moment(version: Version, moment: u64) -> Option<u64>
 }
 
 /// The line of a message that was archived, by its addresses and its origin id.
-pub fn take_told(
+pub fn take_reported(
     alloc: Global,
     version: Version,
     moment: u64,
@@ -71,15 +71,15 @@ pub fn take_told(
     to: &str,
     origin: &str,
 ) -> Result<TakeLine, NoMemory>
-    ensures { IfOk result (λ line. line ≡ take_told version moment from.now to.now origin.now) }
+    ensures { IfOk result (λ line. line ≡ take_reported version moment from.now to.now origin.now) }
 {
     let (_, numbers) = split_dot(origin);
     let (epoch, n) = split_dot(numbers);
     Ok(TakeLine {
-        device: Text::from_str(alloc, behind_slash(from))?,
+        device: Text::from_str(alloc, after_slash(from))?,
         epoch: number_spelled(epoch),
         n: number_spelled(n),
         account: Text::from_str(alloc, before_at(to))?,
-        moment: told_moment(version, moment),
+        moment: reported_moment(version, moment),
     })
 }

@@ -4,7 +4,7 @@ ghost use Rattle.cl_core.specs.Feeds.{bytes_step};
 ghost use Rattle.cl_core.specs.UserCalls.{closes, dials};
 ghost use Rattle.cl_core.specs.Values.{ClientValue, fed_of};
 ghost use Rattle.cl_handlers.specs.Speech.{in_bytes};
-ghost use Rattle.cmd_network.specs.Devices.{client_behind, silent};
+ghost use Rattle.cmd_network.specs.Devices.{client_after, silent};
 
 use base_io::{Bytes, NoMemory};
 use cl_core::{Client, ClientOut, Events};
@@ -26,7 +26,7 @@ pub(crate) fn dial(
     client: &mut Client,
     entropy: &[u8; 24],
 ) -> Result<Bytes, NoMemory>
-    ensures client { OnOk result (client.new ≡ client_behind (dials in_bytes entropy.now (silent client.old))) }
+    ensures client { OnOk result (client.new ≡ client_after (dials in_bytes entropy.now (silent client.old))) }
     ensures put { IfOk result (λ put. put.items ≡ (dials in_bytes entropy.now (silent client.old)).turn.out.put) }
 {
     let mut out = silence(alloc);
@@ -36,7 +36,7 @@ pub(crate) fn dial(
 
 /// Bytes of the server come.
 pub(crate) fn feed(alloc: Global, client: &mut Client, piece: &[u8]) -> Result<Bytes, NoMemory>
-    ensures client { OnOk result (client.new ≡ client_behind (bytes_step in_bytes (silent client.old) piece.now)) }
+    ensures client { OnOk result (client.new ≡ client_after (bytes_step in_bytes (silent client.old) piece.now)) }
     ensures put { IfOk result (λ put. put.items ≡ (bytes_step in_bytes (silent client.old) piece.now).turn.out.put) }
 {
     let mut out = silence(alloc);
@@ -46,7 +46,7 @@ pub(crate) fn feed(alloc: Global, client: &mut Client, piece: &[u8]) -> Result<B
 
 /// The stream is closed.
 pub(crate) fn close(alloc: Global, client: &mut Client) -> Result<Bytes, NoMemory>
-    ensures client { OnOk result (client.new ≡ client_behind (closes in_bytes (silent client.old))) }
+    ensures client { OnOk result (client.new ≡ client_after (closes in_bytes (silent client.old))) }
     ensures put { IfOk result (λ put. put.items ≡ (closes in_bytes (silent client.old)).turn.out.put) }
 {
     let mut out = silence(alloc);

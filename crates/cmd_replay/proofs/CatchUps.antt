@@ -6,7 +6,7 @@ use Rattle.std.proofs.lemmas.List.Concat.{flat_map-append}
 use Rattle.mam_archive.specs.Entries.{AreKept, EntryView}
 use Rattle.cmd_direct.proofs.NextPages.{next_page_is}
 use Rattle.cmd_direct.specs.Direct.{catch_up, next_page}
-use Rattle.cmd_direct.specs.NextPages.{kept_behind, last_logged, purged}
+use Rattle.cmd_direct.specs.NextPages.{kept_after, last_logged, purged}
 use Rattle.mam_log.specs.LogPages.{LogPage, last_id, log_of, tile_of}
 use Rattle.mam_log.specs.Views.{LogView}
 use Rattle.mam_pages.specs.Kept.{kept_by}
@@ -44,7 +44,7 @@ catch_up_logged (suc turns) keep most last owner kept pages log known cap is ord
     next_page_is keep (last_logged log.entries) last most owner kept pages known cap (last_within last log.entries order)
     (ap last_id (sym is.entries) ∙ last_id_is last log.entries order) in
     let next = turn_taken pages log (turn_of most last kept log) is in
-    rw page (cond_pair (λ p l. IsLogOf p l) (leb (length (kept_behind (last_logged log.entries) last kept)) most) _ _ _ _
+    rw page (cond_pair (λ p l. IsLogOf p l) (leb (length (kept_after (last_logged log.entries) last kept)) most) _ _ _ _
     (λ complete. next)
     (λ more. catch_up_logged turns keep most last owner kept (pages ++ turn_of most last kept log ∷ []) (with_turn log (turn_of most last kept log))
     known cap next (turn_in_order keep most last kept log known order)))
@@ -53,32 +53,32 @@ pub log_after_in_order : (turns keep most last : ℕ) (kept : List EntryView) (l
     IsInOrder last (log_after turns most last kept log).entries
 log_after_in_order zero keep most last kept log known order = order
 log_after_in_order (suc turns) keep most last kept log known order =
-    cond_both (leb (length (kept_behind (last_logged log.entries) last kept)) most) _ _ (λ (l : LogView). IsInOrder last l.entries)
+    cond_both (leb (length (kept_after (last_logged log.entries) last kept)) most) _ _ (λ (l : LogView). IsInOrder last l.entries)
     (λ complete. turn_in_order keep most last kept log known order)
     (λ more. log_after_in_order turns keep most last kept (with_turn log (turn_of most last kept log)) known (turn_in_order keep most last kept log known order))
 
 -- how much is left after a page that isn't complete
 turn_leaves : (keep most last : ℕ) (kept : List EntryView) (log : LogView) → AreKept keep last kept → 1 ≤ most →
-    leb (length (kept_behind (last_logged log.entries) last kept)) most ≡ false →
-    length (kept_behind (last_logged (with_turn log (turn_of most last kept log)).entries) last kept) + most ≡ length (kept_behind (last_logged log.entries) last kept)
+    leb (length (kept_after (last_logged log.entries) last kept)) most ≡ false →
+    length (kept_after (last_logged (with_turn log (turn_of most last kept log)).entries) last kept) + most ≡ length (kept_after (last_logged log.entries) last kept)
 turn_leaves keep most last kept log known low more =
-    let many : most < length (kept_behind (last_logged log.entries) last kept) = leb-false _ _ more in
+    let many : most < length (kept_after (last_logged log.entries) last kept) = leb-false _ _ more in
     let ends = last_after keep last most kept log.entries known low (omega arith) in
-    let before : length (kept_behind (last_logged log.entries) last kept) ≡ length kept - (last_logged log.entries - purged last kept) =
+    let before : length (kept_after (last_logged log.entries) last kept) ≡ length kept - (last_logged log.entries - purged last kept) =
     length-drop (last_logged log.entries - purged last kept) kept in
-    let after : length (kept_behind (last_logged (with_turn log (turn_of most last kept log)).entries) last kept)
+    let after : length (kept_after (last_logged (with_turn log (turn_of most last kept log)).entries) last kept)
     ≡ length kept - (last_logged (with_turn log (turn_of most last kept log)).entries - purged last kept) =
     length-drop (last_logged (with_turn log (turn_of most last kept log)).entries - purged last kept) kept in
     omega (arith, after, before, ends, many)
 
 -- so many turns are enough, and more change nothing
 turns_enough : (turns others keep most last : ℕ) (kept : List EntryView) (log : LogView) → AreKept keep last kept → 1 ≤ most →
-    length (kept_behind (last_logged log.entries) last kept) < turns → length (kept_behind (last_logged log.entries) last kept) < others →
+    length (kept_after (last_logged log.entries) last kept) < turns → length (kept_after (last_logged log.entries) last kept) < others →
     log_after turns most last kept log ≡ log_after others most last kept log
 turns_enough zero others keep most last kept log known low enough also = absurd (omega arith)
 turns_enough (suc turns) zero keep most last kept log known low enough also = absurd (omega arith)
 turns_enough (suc turns) (suc others) keep most last kept log known low enough also =
-    cond_pair (λ (a b : LogView). a ≡ b) (leb (length (kept_behind (last_logged log.entries) last kept)) most) _ _ _ _
+    cond_pair (λ (a b : LogView). a ≡ b) (leb (length (kept_after (last_logged log.entries) last kept)) most) _ _ _ _
     (λ complete. refl)
     (λ more.
     let size = turn_leaves keep most last kept log known low more in
@@ -87,25 +87,25 @@ turns_enough (suc turns) (suc others) keep most last kept log known low enough a
 -- a turn of a catch-up
 caught_up_turn : (keep most last : ℕ) (kept : List EntryView) (log : LogView) → AreKept keep last kept → 1 ≤ most →
     caught_up most last kept log
-    ≡ cond (leb (length (kept_behind (last_logged log.entries) last kept)) most)
+    ≡ cond (leb (length (kept_after (last_logged log.entries) last kept)) most)
     (with_turn log (turn_of most last kept log))
     (caught_up most last kept (with_turn log (turn_of most last kept log)))
 caught_up_turn keep most last kept log known low =
     ap (λ n. log_after n most last kept log) (add-one (length kept))
-    ∙ (cond_pair (λ (a b : LogView). a ≡ b) (leb (length (kept_behind (last_logged log.entries) last kept)) most) _ _ _ _
+    ∙ (cond_pair (λ (a b : LogView). a ≡ b) (leb (length (kept_after (last_logged log.entries) last kept)) most) _ _ _ _
     (λ complete. refl)
     (λ more.
     let size = turn_leaves keep most last kept log known low more in
-    let whole : length (kept_behind (last_logged log.entries) last kept) ≡ length kept - (last_logged log.entries - purged last kept) = length-drop (last_logged log.entries - purged last kept) kept in
+    let whole : length (kept_after (last_logged log.entries) last kept) ≡ length kept - (last_logged log.entries - purged last kept) = length-drop (last_logged log.entries - purged last kept) kept in
     (turns_enough (length kept) (length kept + 1) keep most last kept (with_turn log (turn_of most last kept log)) known low (omega (arith, size)) (omega (arith, size)))))
 
 -- one turn of the loop, which goes on where the page isn't complete
 pub turn_kept : (keep most last : ℕ) (kept : List EntryView) (log next whole : LogView) (complete : Bool) → AreKept keep last kept → 1 ≤ most →
     caught_up most last kept log ≡ whole → next ≡ with_turn log (turn_of most last kept log) →
-    complete ≡ leb (length (kept_behind (last_logged log.entries) last kept)) most →
+    complete ≡ leb (length (kept_after (last_logged log.entries) last kept)) most →
     cond (not complete) (caught_up most last kept next) next ≡ whole
 turn_kept keep most last kept log next whole complete known low rest is tells =
-    rw (is, tells) (swapped (leb (length (kept_behind (last_logged log.entries) last kept)) most) _ _ ∙ sym (caught_up_turn keep most last kept log known low) ∙ rest)
+    rw (is, tells) (swapped (leb (length (kept_after (last_logged log.entries) last kept)) most) _ _ ∙ sym (caught_up_turn keep most last kept log known low) ∙ rest)
   where
     swapped : (b : Bool) (x y : LogView) → cond (not b) y x ≡ cond b x y
     swapped true x y = refl
@@ -113,8 +113,8 @@ turn_kept keep most last kept log next whole complete known low rest is tells =
 
 pub turn_smaller : (keep most last : ℕ) (kept : List EntryView) (log next : LogView) (complete : Bool) → AreKept keep last kept → 1 ≤ most →
     next ≡ with_turn log (turn_of most last kept log) →
-    complete ≡ leb (length (kept_behind (last_logged log.entries) last kept)) most →
-    cond (not complete) (length (kept_behind (last_logged next.entries) last kept) + 1) 0 < length (kept_behind (last_logged log.entries) last kept) + 1
+    complete ≡ leb (length (kept_after (last_logged log.entries) last kept)) most →
+    cond (not complete) (length (kept_after (last_logged next.entries) last kept) + 1) 0 < length (kept_after (last_logged log.entries) last kept) + 1
 turn_smaller keep most last kept log next true known low is tells = omega arith
 turn_smaller keep most last kept log next false known low is tells =
     rw is (omega (arith, turn_leaves keep most last kept log known low (sym tells)))

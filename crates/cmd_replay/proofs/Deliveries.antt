@@ -10,39 +10,39 @@ use Rattle.std.specs.Str.{bytes_eq}
 use Rattle.mam_archive.proofs.Newest.{newest-push}
 use Rattle.mam_archive.specs.Entries.{EntryView, newest, numbered}
 use Rattle.cmd_replay.proofs.HomeLists.{appended_length}
-use Rattle.base_io.proofs.NamePlaces.{is_some-place_of, place_of-push, stands_there}
+use Rattle.base_io.proofs.NamePositions.{is_some-position_of, position_of-push, stands_there}
 use Rattle.cmd_report.proofs.TakenArchives.{archive_push}
 use Rattle.cmd_report.specs.Takes.{Take, archive_of, concerns, entry_of}
-use Rattle.base_io.specs.Names.{is_among, place_of}
+use Rattle.base_io.specs.Names.{is_among, position_of}
 use Rattle.cmd_replay.specs.Homes.{Home, appended, appended_at, delivered, home_at}
 use Rattle.cmd_schedule.specs.Standing.{AreOnce}
 use Rattle.base_lemmas.proofs.Bytes.{bytes_eq-from_other}
 
 -- the name stands at its place
-pub named_at : (name : List ℕ) (names : List (List ℕ)) (i : ℕ) → place_of name names ≡ Some i → (i < length names) × (slice_get names i ≡ Some name)
+pub named_at : (name : List ℕ) (names : List (List ℕ)) (i : ℕ) → position_of name names ≡ Some i → (i < length names) × (slice_get names i ≡ Some name)
 named_at name names i is =
-    subst (λ (place : Option ℕ). IfSome place (λ j. (j < length names) × (slice_get names j ≡ Some name))) is (stands_there name names)
+    subst (λ (position : Option ℕ). IfSome position (λ j. (j < length names) × (slice_get names j ≡ Some name))) is (stands_there name names)
 
-pub among_placed : (name : List ℕ) (names : List (List ℕ)) (i : ℕ) → place_of name names ≡ Some i → is_among name names ≡ true
-among_placed name names i is = sym (is_some-place_of name names) ∙ ap is_some is
+pub among_placed : (name : List ℕ) (names : List (List ℕ)) (i : ℕ) → position_of name names ≡ Some i → is_among name names ≡ true
+among_placed name names i is = sym (is_some-position_of name names) ∙ ap is_some is
 
-pub not_placed : (name : List ℕ) (names : List (List ℕ)) → place_of name names ≡ None → is_among name names ≡ false
-not_placed name names is = sym (is_some-place_of name names) ∙ ap is_some is
+pub not_placed : (name : List ℕ) (names : List (List ℕ)) → position_of name names ≡ None → is_among name names ≡ false
+not_placed name names is = sym (is_some-position_of name names) ∙ ap is_some is
 
 pub once_among : (names : List (List ℕ)) (k : ℕ) (d : List ℕ) → AreOnce names → k < length names → is_among (get_or names k d) names ≡ true
 once_among names k d once within = among_placed (get_or names k d) names k (once.first k (get_or names k d) (slice_get-get_or names k d within))
 
 -- a name at another place is another name
-pub names_apart : (names : List (List ℕ)) (k i : ℕ) (name d : List ℕ) → AreOnce names → k < length names → place_of name names ≡ Some i → k ≢ i →
+pub names_apart : (names : List (List ℕ)) (k i : ℕ) (name d : List ℕ) → AreOnce names → k < length names → position_of name names ≡ Some i → k ≢ i →
     get_or names k d ≢ name
 names_apart names k i name d once within is apart same =
-    let here : place_of (get_or names k d) names ≡ Some k = once.first k (get_or names k d) (slice_get-get_or names k d within) in
-    apart (same_Some k i (sym here ∙ ap (λ n. place_of n names) same ∙ is))
+    let here : position_of (get_or names k d) names ≡ Some k = once.first k (get_or names k d) (slice_get-get_or names k d within) in
+    apart (same_Some k i (sym here ∙ ap (λ n. position_of n names) same ∙ is))
 
 -- whether a name stands at a place is whether the place is its own
-pub place_test : (names : List (List ℕ)) (k i : ℕ) (name d : List ℕ) → AreOnce names → k < length names → place_of name names ≡ Some i →
+pub position_test : (names : List (List ℕ)) (k i : ℕ) (name d : List ℕ) → AreOnce names → k < length names → position_of name names ≡ Some i →
     bytes_eq (get_or names k d) name ≡ eqb k i
-place_test names k i name d once within is =
+position_test names k i name d once within is =
     elim (cases_eq k i) [
       | inl same ↦
           let there : get_or names k d ≡ name = ap (λ j. get_or names j d) same ∙ get_or_from_slice_get names i name d (named_at name names i is).1 in
@@ -54,7 +54,7 @@ place_test names k i name d once within is =
 pub once_push : (names : List (List ℕ)) (name : List ℕ) → AreOnce names → is_among name names ≡ false → AreOnce (names ++ name ∷ [])
 once_push names name once new = record { first = first }
   where
-    first : (k : ℕ) (other : List ℕ) → slice_get (names ++ name ∷ []) k ≡ Some other → place_of other (names ++ name ∷ []) ≡ Some k
+    first : (k : ℕ) (other : List ℕ) → slice_get (names ++ name ∷ []) k ≡ Some other → position_of other (names ++ name ∷ []) ≡ Some k
     first k other is =
         let within : k < length (names ++ name ∷ []) = slice_get_within (names ++ name ∷ []) k other is in
         let at : get_or (names ++ name ∷ []) k other ≡ other = get_or_from_slice_get (names ++ name ∷ []) k other other is in
@@ -62,15 +62,15 @@ once_push names name once new = record { first = first }
           | inl front ↦
               let here : slice_get names k ≡ Some other =
               slice_get-get_or names k other front ∙ ap Some (sym (get_or_append_left names (name ∷ []) other k front) ∙ at) in
-              let place : place_of other names ≡ Some k = once.first k other here in
+              let position : position_of other names ≡ Some k = once.first k other here in
               let apart : bytes_eq name other ≡ false = false_from_ne_true (bytes_eq name other) (λ same.
-              false≢true (sym new ∙ ap (λ n. is_among n names) ((bytes_eq-Decides name other).0 same) ∙ among_placed other names k place)) in
-              place_of-push name names new other ∙ ap (λ b. cond b (Some (length names)) (place_of other names)) apart ∙ place
+              false≢true (sym new ∙ ap (λ n. is_among n names) ((bytes_eq-Decides name other).0 same) ∙ among_placed other names k position)) in
+              position_of-push name names new other ∙ ap (λ b. cond b (Some (length names)) (position_of other names)) apart ∙ position
           | inr past ↦
               let last : length names ≡ k = omega (arith, length_push names name) in
               let same : name ≡ other = sym (get_or_push names name other k last) ∙ at in
-              place_of-push name names new other
-              ∙ ap (λ b. cond b (Some (length names)) (place_of other names)) ((bytes_eq-Decides name other).1 same)
+              position_of-push name names new other
+              ∙ ap (λ b. cond b (Some (length names)) (position_of other names)) ((bytes_eq-Decides name other).1 same)
               ∙ ap Some last
         ]
 
@@ -143,7 +143,7 @@ once_or false b x y same = rw same refl
 
 -- the accounts after one take more
 pub delivered_takes : (keep : ℕ) (accounts : List (List ℕ)) (takes : List Take) (take : Take) (from to : ℕ) → 1 ≤ keep → AreOnce accounts →
-    place_of take.account accounts ≡ Some from → place_of take.to accounts ≡ Some to →
+    position_of take.account accounts ≡ Some from → position_of take.to accounts ≡ Some to →
     delivered keep from to (entry_of take) (map (home_at keep takes) accounts) ≡ map (home_at keep (takes ++ take ∷ [])) accounts
 delivered_takes keep accounts takes take from to some once sender recipient =
     elim (cases_eq from to) [
@@ -181,8 +181,8 @@ delivered_takes keep accounts takes take from to some once sender recipient =
         ≡ get_or (map (home_at keep (takes ++ take ∷ [])) accounts) k d
     ends k d inside =
         ap (λ b. cond (b || eqb k to) (appended keep (entry_of take) (home_at keep takes (get_or accounts k []))) (home_at keep takes (get_or accounts k [])))
-        (sym (place_test accounts k from take.account [] once inside sender))
+        (sym (position_test accounts k from take.account [] once inside sender))
         ∙ ap (λ b. cond (bytes_eq (get_or accounts k []) take.account || b) (appended keep (entry_of take) (home_at keep takes (get_or accounts k []))) (home_at keep takes (get_or accounts k [])))
-        (sym (place_test accounts k to take.to [] once inside recipient))
+        (sym (position_test accounts k to take.to [] once inside recipient))
         ∙ sym (home_push keep (get_or accounts k []) takes take some)
         ∙ sym (get_or-map (home_at keep (takes ++ take ∷ [])) accounts k [] d inside)

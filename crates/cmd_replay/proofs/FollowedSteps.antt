@@ -29,7 +29,7 @@ use Rattle.cmd_direct.specs.Direct.{catch_up, kept_after, pages_after, pages_of,
 use Rattle.cmd_report.specs.Addresses.{bare_address}
 use Rattle.cmd_report.specs.Lines.{take_line}
 use Rattle.cmd_schedule.specs.Grammar.{is_name, is_text, may_stand}
-use Rattle.base_io.specs.Names.{is_among, place_of}
+use Rattle.base_io.specs.Names.{is_among, position_of}
 use Rattle.cmd_replay.specs.Homes.{Home, delivered, empty_home, home_at, names_of}
 use Rattle.cmd_replay.specs.Messages.{homes_after, said_by, sent_of, take_by, takes_after}
 use Rattle.cmd_replay.specs.Runs.{HasCaughtUp, HasDeclared, HasFollowed, HasSent, HasTicked, IsAfter, IsDevice, IsReady, IsReadyDevice, IsUnused, MayFollow}
@@ -79,7 +79,7 @@ module _ (version : Version) where
       IsDevice (keep_of version) all before old → IsDevice (keep_of version) all (before ++ step ∷ []) new
   device_after all before step old new named owned housed home said log order is = record {
     account = owned ∙ is.account ∙ sym home ∙ ap (home_of (before ++ step ∷ [])) (sym named);
-    place = ap (λ a. place_of a (accounts_of all)) owned ∙ is.place ∙ ap Some (sym housed);
+    position = ap (λ a. position_of a (accounts_of all)) owned ∙ is.position ∙ ap Some (sym housed);
     said = said ∙ ap (λ t. t ++ said_at old.name before step) is.said ∙ sym (along_push (said_at old.name) [] before step)
         ∙ ap (λ n. along (said_at n) [] (before ++ step ∷ [])) (sym named);
     log = subst (λ pages. IsLogOf pages new.log) (sym (pages_push (keep_of version) all before old.name step) ∙ ap (λ n. pages_of (keep_of version) all n (before ++ step ∷ [])) (sym named)) log;
@@ -142,20 +142,20 @@ module _ (version : Version) where
 
   -- the device at another place has another name
   pub name_elsewhere : (all before : List Step) (run : Run) (k i : ℕ) (d : DeviceState) (name : List ℕ) → IsAfter version all before run → k < length run.devices.items →
-      place_of name run.index ≡ Some i → k ≢ i → (get_or run.devices.items k d).name ≢ name
+      position_of name run.index ≡ Some i → k ≢ i → (get_or run.devices.items k d).name ≢ name
   name_elsewhere all before run k i d name is within at apart same =
       let here : get_or (devices_of before) k [] ≡ (get_or run.devices.items k d).name =
       ap (λ ns. get_or ns k []) (sym is.names) ∙ get_or-map (λ (e : DeviceState). e.name) run.devices.items k d [] within in
       let size : length (devices_of before) ≡ length run.devices.items = ap length (sym is.names) ∙ length-map run.devices.items (λ (e : DeviceState). e.name) in
-      names_apart (devices_of before) k i name [] is.once (omega arith) (ap (place_of name) (sym is.index) ∙ at) apart (here ∙ same)
+      names_apart (devices_of before) k i name [] is.once (omega arith) (ap (position_of name) (sym is.index) ∙ at) apart (here ∙ same)
 
   -- the device at a name's place has the name
   pub name_here : (all before : List Step) (run : Run) (i : ℕ) (device : DeviceState) (name : List ℕ) → IsAfter version all before run →
-      place_of name run.index ≡ Some i → slice_get run.devices.items i ≡ Some device → device.name ≡ name
+      position_of name run.index ≡ Some i → slice_get run.devices.items i ≡ Some device → device.name ≡ name
   name_here all before run i device name is at there =
       let within = slice_get_within run.devices.items i device there in
       let read : get_or run.devices.items i device ≡ device = get_or_from_slice_get run.devices.items i device device there in
-      let stands = named_at name (devices_of before) i (ap (place_of name) (sym is.index) ∙ at) in
+      let stands = named_at name (devices_of before) i (ap (position_of name) (sym is.index) ∙ at) in
       sym (ap (λ (d : DeviceState). d.name) read)
       ∙ sym (get_or-map (λ (e : DeviceState). e.name) run.devices.items i device [] within)
       ∙ ap (λ ns. get_or ns i []) is.names
@@ -179,7 +179,7 @@ module _ (version : Version) where
   pub home_is : (all before : List Step) (run : Run) (device : DeviceState) (d : Home) → IsAfter version all before run → IsDevice (keep_of version) all before device →
       get_or run.accounts.homes device.home d ≡ home_at (keep_of version) (takes_of all before) device.account
   home_is all before run device d is one =
-      let stands = named_at device.account (accounts_of all) device.home one.place in
+      let stands = named_at device.account (accounts_of all) device.home one.position in
       ap (λ homes. get_or homes device.home d) is.homes
       ∙ get_or-map (home_at (keep_of version) (takes_of all before)) (accounts_of all) device.home [] d stands.0
       ∙ ap (home_at (keep_of version) (takes_of all before)) (get_or_from_slice_get (accounts_of all) device.home device.account [] stands.1)
@@ -194,7 +194,7 @@ module _ (version : Version) where
       devices : All (IsReadyDevice run.accounts.homes) run.devices.items
       devices = All-weaker (IsDevice (keep_of version) all before) (IsReadyDevice run.accounts.homes) (λ (device : DeviceState) one. record {
         sent = let count = device_sent all before device one in omega (arith, sent_few device.name before);
-        home = let stands = named_at device.account (accounts_of all) device.home one.place in
+        home = let stands = named_at device.account (accounts_of all) device.home one.position in
             omega (arith, ap length is.homes, length-map (accounts_of all) (home_at (keep_of version) (takes_of all before)));
         closed = one.log.closed;
         in_order = λ (d : Home). subst (λ n. IsInOrder n device.log.entries) (sym (ap (λ (h : Home). h.last) (home_is all before run device d is one))) one.in_order;
@@ -278,7 +278,7 @@ module _ (version : Version) where
       newest : IsDevice (keep_of version) all (before ++ DeviceStep name account ∷ []) made.new
       newest = record {
         account = made.owned ∙ sym owner ∙ ap (home_of (before ++ DeviceStep name account ∷ [])) (sym made.named);
-        place = ap (λ a. place_of a (accounts_of all)) made.owned ∙ ap (place_of account) (sym (run_names all before run is)) ∙ made.placed;
+        position = ap (λ a. position_of a (accounts_of all)) made.owned ∙ ap (position_of account) (sym (run_names all before run is)) ∙ made.placed;
         said = made.said ∙ sym unsaid.said ∙ ap (λ n. along (said_at n) [] (before ++ DeviceStep name account ∷ [])) (sym made.named);
         log = subst (λ pages. IsLogOf pages made.new.log) (sym unsaid.pages ∙ ap (λ n. pages_of (keep_of version) all n (before ++ DeviceStep name account ∷ [])) (sym made.named))
             (record { entries = ap (λ (l : LogView). l.entries) made.log; tiles = ap (λ (l : LogView). l.tiles) made.log; closed = ap (λ (l : LogView). l.page) made.log });
@@ -299,10 +299,10 @@ module _ (version : Version) where
       homes ≡ map (home_at (keep_of version) (takes_of all before)) (accounts_of all) → lines ≡ map (take_line version) (takes_of all before) →
       (homes_after (keep_of version) (moment_after before) device to text homes ≡ map (home_at (keep_of version) (takes_of all (before ++ step ∷ []))) (accounts_of all))
       × (takes_after version (moment_after before) device to text homes lines ≡ map (take_line version) (takes_of all (before ++ step ∷ [])))
-  message_taken all before step device name to text homes lines some once says is named held told = go (place_of to (accounts_of all)) refl
+  message_taken all before step device name to text homes lines some once says is named held told = go (position_of to (accounts_of all)) refl
     where
-      spot : place_of to (names_of homes) ≡ place_of to (accounts_of all)
-      spot = ap (λ hs. place_of to (names_of hs)) held ∙ ap (place_of to) (homes_named (takes_of all before) (accounts_of all))
+      spot : position_of to (names_of homes) ≡ position_of to (accounts_of all)
+      spot = ap (λ hs. position_of to (names_of hs)) held ∙ ap (position_of to) (homes_named (takes_of all before) (accounts_of all))
 
       take_with : List ℕ → List ℕ → ℕ → Take
       take_with sender account count =
@@ -314,51 +314,51 @@ module _ (version : Version) where
           ∙ ap (λ a. take_with device.name a (sent_by device.name before)) (sym is.account)
           ∙ ap (take_with device.name device.account) (sym (device_sent all before device is))
 
-      go : (place : Option ℕ) → place_of to (accounts_of all) ≡ place →
+      go : (position : Option ℕ) → position_of to (accounts_of all) ≡ position →
           (homes_after (keep_of version) (moment_after before) device to text homes ≡ map (home_at (keep_of version) (takes_of all (before ++ step ∷ []))) (accounts_of all))
           × (takes_after version (moment_after before) device to text homes lines ≡ map (take_line version) (takes_of all (before ++ step ∷ [])))
       go None none =
           let lost : take_at all before step ≡ [] = says.takes all before ∙ rw (not_placed to (accounts_of all) none) refl in
           let same : takes_of all (before ++ step ∷ []) ≡ takes_of all before = no_take all before step lost in (
-            ap (λ p. option_map_or (λ place. delivered (keep_of version) device.home place (entry_of (take_by (moment_after before) device to text)) homes) p homes) (spot ∙ none)
+            ap (λ p. option_map_or (λ position. delivered (keep_of version) device.home position (entry_of (take_by (moment_after before) device to text)) homes) p homes) (spot ∙ none)
                 ∙ held ∙ ap (λ ts. map (home_at (keep_of version) ts) (accounts_of all)) (sym same),
-            ap (λ p. option_map_or (λ place. lines ++ take_line version (take_by (moment_after before) device to text) ∷ []) p lines) (spot ∙ none)
+            ap (λ p. option_map_or (λ position. lines ++ take_line version (take_by (moment_after before) device to text) ∷ []) p lines) (spot ∙ none)
                 ∙ told ∙ ap (map (take_line version)) (sym same),
           )
-      go (Some place) there =
+      go (Some position) there =
           let one : take_at all before step ≡ take_by (moment_after before) device to text ∷ [] =
           says.takes all before
-          ∙ ap (λ b. cond b (take_with name (home_of before name) (sent_by name before) ∷ []) []) (among_placed to (accounts_of all) place there)
+          ∙ ap (λ b. cond b (take_with name (home_of before name) (sent_by name before) ∷ []) []) (among_placed to (accounts_of all) position there)
           ∙ ap (λ t. t ∷ []) take_is in
           let more : takes_of all (before ++ step ∷ []) ≡ takes_of all before ++ take_by (moment_after before) device to text ∷ [] =
           takes_push all before step ∙ ap (λ ts. takes_of all before ++ ts) one in (
-            ap (λ p. option_map_or (λ place. delivered (keep_of version) device.home place (entry_of (take_by (moment_after before) device to text)) homes) p homes) (spot ∙ there)
-                ∙ ap (delivered (keep_of version) device.home place (entry_of (take_by (moment_after before) device to text))) held
-                ∙ delivered_takes (keep_of version) (accounts_of all) (takes_of all before) (take_by (moment_after before) device to text) device.home place some once is.place there
+            ap (λ p. option_map_or (λ position. delivered (keep_of version) device.home position (entry_of (take_by (moment_after before) device to text)) homes) p homes) (spot ∙ there)
+                ∙ ap (delivered (keep_of version) device.home position (entry_of (take_by (moment_after before) device to text))) held
+                ∙ delivered_takes (keep_of version) (accounts_of all) (takes_of all before) (take_by (moment_after before) device to text) device.home position some once is.position there
                 ∙ ap (λ ts. map (home_at (keep_of version) ts) (accounts_of all)) (sym more),
-            ap (λ p. option_map_or (λ place. lines ++ take_line version (take_by (moment_after before) device to text) ∷ []) p lines) (spot ∙ there)
+            ap (λ p. option_map_or (λ position. lines ++ take_line version (take_by (moment_after before) device to text) ∷ []) p lines) (spot ∙ there)
                 ∙ ap (λ ls. ls ++ take_line version (take_by (moment_after before) device to text) ∷ []) told
                 ∙ sym (map_push (take_line version) (takes_of all before) (take_by (moment_after before) device to text))
                 ∙ ap (map (take_line version)) (sym more),
           )
 
   -- the devices after a step that names the one at a place
-  pub devices_after : (all before : List Step) (step : Step) (run : Run) (place : ℕ) (old new : DeviceState) → IsAfter version all before run →
-      slice_get run.devices.items place ≡ Some old → IsDevice (keep_of version) all (before ++ step ∷ []) new →
-      ((k : ℕ) (d : DeviceState) → k < length run.devices.items → k ≢ place → IsDevice (keep_of version) all (before ++ step ∷ []) (get_or run.devices.items k d)) →
-      All (IsDevice (keep_of version) all (before ++ step ∷ [])) (set run.devices.items place new)
-  devices_after all before step run place old new is there one others k d within =
-      let inside = slice_get_within run.devices.items place old there in
-      let size = length-set run.devices.items place new in
-      elim (cases_eq k place) [
-        | inl same ↦ subst (λ (v : DeviceState). IsDevice (keep_of version) all (before ++ step ∷ []) v) (sym (ap (λ j. get_or (set run.devices.items place new) j d) same ∙ get_or-set_same run.devices.items place new d inside)) one
-        | inr apart ↦ subst (λ (v : DeviceState). IsDevice (keep_of version) all (before ++ step ∷ []) v) (sym (get_or-set_other run.devices.items place k new d apart)) (others k d (omega arith) apart)
+  pub devices_after : (all before : List Step) (step : Step) (run : Run) (position : ℕ) (old new : DeviceState) → IsAfter version all before run →
+      slice_get run.devices.items position ≡ Some old → IsDevice (keep_of version) all (before ++ step ∷ []) new →
+      ((k : ℕ) (d : DeviceState) → k < length run.devices.items → k ≢ position → IsDevice (keep_of version) all (before ++ step ∷ []) (get_or run.devices.items k d)) →
+      All (IsDevice (keep_of version) all (before ++ step ∷ [])) (set run.devices.items position new)
+  devices_after all before step run position old new is there one others k d within =
+      let inside = slice_get_within run.devices.items position old there in
+      let size = length-set run.devices.items position new in
+      elim (cases_eq k position) [
+        | inl same ↦ subst (λ (v : DeviceState). IsDevice (keep_of version) all (before ++ step ∷ []) v) (sym (ap (λ j. get_or (set run.devices.items position new) j d) same ∙ get_or-set_same run.devices.items position new d inside)) one
+        | inr apart ↦ subst (λ (v : DeviceState). IsDevice (keep_of version) all (before ++ step ∷ []) v) (sym (get_or-set_other run.devices.items position k new d apart)) (others k d (omega arith) apart)
       ]
 
-  names_after : (run : Run) (place : ℕ) (old new : DeviceState) → slice_get run.devices.items place ≡ Some old → new.name ≡ old.name →
-      map (λ (d : DeviceState). d.name) (set run.devices.items place new) ≡ map (λ (d : DeviceState). d.name) run.devices.items
-  names_after run place old new there named =
-      map-set_same (λ (d : DeviceState). d.name) run.devices.items place new old (named ∙ ap (λ (d : DeviceState). d.name) (sym (get_or_from_slice_get run.devices.items place old old there)))
+  names_after : (run : Run) (position : ℕ) (old new : DeviceState) → slice_get run.devices.items position ≡ Some old → new.name ≡ old.name →
+      map (λ (d : DeviceState). d.name) (set run.devices.items position new) ≡ map (λ (d : DeviceState). d.name) run.devices.items
+  names_after run position old new there named =
+      map-set_same (λ (d : DeviceState). d.name) run.devices.items position new old (named ∙ ap (λ (d : DeviceState). d.name) (sym (get_or_from_slice_get run.devices.items position old old there)))
 
   after_say : (all before : List Step) (step : Step) (name to text : List ℕ) (run next : Run) → 1 ≤ keep_of version → AreOnce (accounts_of all) → Says step name to text → IsAfter version all before run →
       is_among name (devices_of before) ≡ true → HasSent run next name to text → IsAfter version all (before ++ step ∷ []) next
@@ -373,9 +373,9 @@ module _ (version : Version) where
         ∙ ap (λ v. takes_after v run.clock.moment sent.old to text run.accounts.homes run.takes.items) is.version_is
         ∙ ap (λ m. takes_after version m sent.old to text run.accounts.homes run.takes.items) is.moment ∙ done.1;
     index = sent.index ∙ is.index ∙ sym (no_device before step says.no_device);
-    names = ap (map (λ (d : DeviceState). d.name)) sent.devices ∙ names_after run sent.place sent.old sent.new sent.there sent.said.name ∙ is.names ∙ sym (no_device before step says.no_device);
+    names = ap (map (λ (d : DeviceState). d.name)) sent.devices ∙ names_after run sent.position sent.old sent.new sent.there sent.said.name ∙ is.names ∙ sym (no_device before step says.no_device);
     devices = subst (λ (ds : List DeviceState). All (IsDevice (keep_of version) all (before ++ step ∷ [])) ds) (sym sent.devices)
-        (devices_after all before step run sent.place sent.old sent.new is sent.there one others);
+        (devices_after all before step run sent.position sent.old sent.new is sent.there one others);
     once = subst AreOnce (sym (no_device before step says.no_device)) is.once;
     unused = λ other absent.
         let fresh : is_among other (devices_of before) ≡ false = ap (is_among other) (sym (no_device before step says.no_device)) ∙ absent in
@@ -384,10 +384,10 @@ module _ (version : Version) where
   }
     where
       was : IsDevice (keep_of version) all before sent.old
-      was = device_here all before run sent.place sent.old is sent.there
+      was = device_here all before run sent.position sent.old is sent.there
 
       named : sent.old.name ≡ name
-      named = name_here all before run sent.place sent.old name is sent.named sent.there
+      named = name_here all before run sent.position sent.old name is sent.named sent.there
 
       done : (homes_after (keep_of version) (moment_after before) sent.old to text run.accounts.homes ≡ map (home_at (keep_of version) (takes_of all (before ++ step ∷ []))) (accounts_of all))
           × (takes_after version (moment_after before) sent.old to text run.accounts.homes run.takes.items ≡ map (take_line version) (takes_of all (before ++ step ∷ [])))
@@ -413,10 +413,10 @@ module _ (version : Version) where
           (order_after sent.old.account (takes_of all before) (take_at all before step) sent.old.log was.in_order)))
           was
 
-      others : (k : ℕ) (d : DeviceState) → k < length run.devices.items → k ≢ sent.place → IsDevice (keep_of version) all (before ++ step ∷ []) (get_or run.devices.items k d)
+      others : (k : ℕ) (d : DeviceState) → k < length run.devices.items → k ≢ sent.position → IsDevice (keep_of version) all (before ++ step ∷ []) (get_or run.devices.items k d)
       others k d within apart =
           let far : bytes_eq (get_or run.devices.items k d).name name ≡ false =
-          bytes_eq-from_other (get_or run.devices.items k d).name name (name_elsewhere all before run k sent.place d name is within sent.named apart) in
+          bytes_eq-from_other (get_or run.devices.items k d).name name (name_elsewhere all before run k sent.position d name is within sent.named apart) in
           device_stays all before step (get_or run.devices.items k d)
           (home_known before step (get_or run.devices.items k d).name (name_known all before run k d is within))
           (says.said (get_or run.devices.items k d).name before ∙ rw far refl) (says.pages (keep_of version) all before (get_or run.devices.items k d).name _) (is.devices k d within)
@@ -430,9 +430,9 @@ module _ (version : Version) where
     homes = made.homes ∙ is.homes ∙ ap (λ ts. map (home_at (keep_of version) ts) (accounts_of all)) (sym (no_take all before (Catchup name most) refl));
     takes = made.takes ∙ is.takes ∙ ap (map (take_line version)) (sym (no_take all before (Catchup name most) refl));
     index = made.index ∙ is.index ∙ sym (no_device before (Catchup name most) refl);
-    names = ap (map (λ (d : DeviceState). d.name)) made.devices ∙ names_after run made.place made.old made.new made.there made.same.0 ∙ is.names ∙ sym (no_device before (Catchup name most) refl);
+    names = ap (map (λ (d : DeviceState). d.name)) made.devices ∙ names_after run made.position made.old made.new made.there made.same.0 ∙ is.names ∙ sym (no_device before (Catchup name most) refl);
     devices = subst (λ (ds : List DeviceState). All (IsDevice (keep_of version) all (before ++ Catchup name most ∷ [])) ds) (sym made.devices)
-        (devices_after all before (Catchup name most) run made.place made.old made.new is made.there one others);
+        (devices_after all before (Catchup name most) run made.position made.old made.new is made.there one others);
     once = subst AreOnce (sym (no_device before (Catchup name most) refl)) is.once;
     unused = λ other absent.
         let fresh : is_among other (devices_of before) ≡ false = ap (is_among other) (sym (no_device before (Catchup name most) refl)) ∙ absent in
@@ -441,10 +441,10 @@ module _ (version : Version) where
   }
     where
       was : IsDevice (keep_of version) all before made.old
-      was = device_here all before run made.place made.old is made.there
+      was = device_here all before run made.position made.old is made.there
 
       named : made.old.name ≡ name
-      named = name_here all before run made.place made.old name is made.named made.there
+      named = name_here all before run made.position made.old name is made.named made.there
 
       hit : bytes_eq made.old.name name ≡ true
       hit = ap (λ n. bytes_eq n name) named ∙ bytes_eq-self name
@@ -488,10 +488,10 @@ module _ (version : Version) where
           (made.same.3 ∙ sym (append-nil made.old.said.items))
           logged orders was
 
-      others : (k : ℕ) (d : DeviceState) → k < length run.devices.items → k ≢ made.place → IsDevice (keep_of version) all (before ++ Catchup name most ∷ []) (get_or run.devices.items k d)
+      others : (k : ℕ) (d : DeviceState) → k < length run.devices.items → k ≢ made.position → IsDevice (keep_of version) all (before ++ Catchup name most ∷ []) (get_or run.devices.items k d)
       others k d within apart =
           let far : bytes_eq (get_or run.devices.items k d).name name ≡ false =
-          bytes_eq-from_other (get_or run.devices.items k d).name name (name_elsewhere all before run k made.place d name is within made.named apart) in
+          bytes_eq-from_other (get_or run.devices.items k d).name name (name_elsewhere all before run k made.position d name is within made.named apart) in
           device_stays all before (Catchup name most) (get_or run.devices.items k d)
           (home_known before (Catchup name most) (get_or run.devices.items k d).name (name_known all before run k d is within))
           refl (rw far refl) (is.devices k d within)

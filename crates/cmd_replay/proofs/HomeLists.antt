@@ -82,9 +82,9 @@ pub few_of_view : (keep : ℕ) (items : List Account) (view : HomesView) → rec
     All (λ (home : Home). home.last < 4294967295) (map home_of_account items)
 few_of_view keep items view is few = subst (λ (homes : List Home). All (λ (home : Home). home.last < 4294967295) homes) (sym (ap (λ (v : HomesView). v.homes) is)) few
 
-pub place_in_view : (keep : ℕ) (items : List Account) (view : HomesView) (i : ℕ) → record { keep = keep; homes = map home_of_account items; rooms = map room_of_account items } ≡ view →
+pub position_in_view : (keep : ℕ) (items : List Account) (view : HomesView) (i : ℕ) → record { keep = keep; homes = map home_of_account items; rooms = map room_of_account items } ≡ view →
     i < length view.homes → i < length items
-place_in_view keep items view i is there =
+position_in_view keep items view i is there =
     let same : length (map home_of_account items) ≡ length view.homes = ap (λ (v : HomesView). length v.homes) is in
     let size : length (map home_of_account items) ≡ length items = length-map items home_of_account in
     omega arith

@@ -8,9 +8,9 @@ use Rattle.mam_archive.proofs.NumberedEntries.{FollowFrom, follow_drop}
 use Rattle.mam_archive.specs.Entries.{AreKept, EntryView}
 use Rattle.mam_archive.specs.Ids.{id_of}
 use Rattle.base_lemmas.proofs.Bytes.{bytes_eq-from_other}
-use Rattle.cmd_direct.proofs.NextPages.{id_behind, kept_follow}
+use Rattle.cmd_direct.proofs.NextPages.{id_after, kept_follow}
 use Rattle.cmd_direct.specs.Direct.{as_logged}
-use Rattle.cmd_direct.specs.NextPages.{kept_behind, last_logged, purged}
+use Rattle.cmd_direct.specs.NextPages.{kept_after, last_logged, purged}
 use Rattle.mam_log.specs.LogPages.{ids_of, last_id}
 use Rattle.mam_log.specs.Views.{first_repeat}
 use Rattle.mam_log.specs.declared.log_entry.LogEntry.{LogEntry}
@@ -102,12 +102,12 @@ last_named : (n : ℕ) (l : LogEntry) (ls : List LogEntry) → AllByRecursion Ha
 last_named n l [] all = ap Some all.0
 last_named n l (m ∷ ls) all = last_named l.entry.number m ls all.1
 
-positive : (n : ℕ) → 1 ≤ n → Some (id_of n) ≡ id_behind n
+positive : (n : ℕ) → 1 ≤ n → Some (id_of n) ≡ id_after n
 positive zero some = absurd (omega arith)
 positive (suc n) some = refl
 
 -- its id is that of its number
-pub last_id_is : (last : ℕ) (logged : List LogEntry) → IsInOrder last logged → last_id logged ≡ id_behind (last_logged logged)
+pub last_id_is : (last : ℕ) (logged : List LogEntry) → IsInOrder last logged → last_id logged ≡ id_after (last_logged logged)
 last_id_is last [] is = refl
 last_id_is last (l ∷ ls) is =
     let low : 0 < l.entry.number = is.rise.0 in
@@ -140,55 +140,55 @@ last_follows n s (e ∷ []) some follow = omega (arith, follow.0)
 last_follows n s (e ∷ f ∷ es) some follow = let rest : last_number_or e.number (f ∷ es) + 1 ≡ suc s + length (f ∷ es) = last_follows e.number (suc s) (f ∷ es) (omega arith) follow.1 in omega arith
 
 -- the kept entries behind a number go on from it, or from the first one kept
-pub behind_follows : (keep n last : ℕ) (kept : List EntryView) → AreKept keep last kept → FollowFrom (purged last kept + 1 + (n - purged last kept)) (kept_behind n last kept)
-behind_follows keep n last kept known = follow_drop (n - purged last kept) (purged last kept + 1) kept (kept_follow keep last kept known)
+pub after_follows : (keep n last : ℕ) (kept : List EntryView) → AreKept keep last kept → FollowFrom (purged last kept + 1 + (n - purged last kept)) (kept_after n last kept)
+after_follows keep n last kept known = follow_drop (n - purged last kept) (purged last kept + 1) kept (kept_follow keep last kept known)
 
 pub page_rises : (keep n last most : ℕ) (kept : List EntryView) → AreKept keep last kept → n ≤ last →
-    Rises n last (map logged_number (map as_logged (take most (kept_behind n last kept))))
+    Rises n last (map logged_number (map as_logged (take most (kept_after n last kept))))
 page_rises keep n last most kept known within =
-    rw (numbers_logged (take most (kept_behind n last kept)))
-    (follow_rises n (purged last kept + 1 + (n - purged last kept)) last (take most (kept_behind n last kept))
+    rw (numbers_logged (take most (kept_after n last kept)))
+    (follow_rises n (purged last kept + 1 + (n - purged last kept)) last (take most (kept_after n last kept))
     (omega arith)
-    (omega (arith, length-take most (kept_behind n last kept), length-drop (n - purged last kept) kept, known.within))
-    (follow_take (purged last kept + 1 + (n - purged last kept)) most (kept_behind n last kept) (behind_follows keep n last kept known)))
+    (omega (arith, length-take most (kept_after n last kept), length-drop (n - purged last kept) kept, known.within))
+    (follow_take (purged last kept + 1 + (n - purged last kept)) most (kept_after n last kept) (after_follows keep n last kept known)))
 
 -- the log with a page at its end is in order
 pub in_order_more : (keep last most : ℕ) (kept : List EntryView) (logged : List LogEntry) → AreKept keep last kept → IsInOrder last logged →
-    IsInOrder last (logged ++ map as_logged (take most (kept_behind (last_logged logged) last kept)))
+    IsInOrder last (logged ++ map as_logged (take most (kept_after (last_logged logged) last kept)))
 in_order_more keep last most kept logged known is = record {
-  ids = all_append HasItsId logged (map as_logged (take most (kept_behind (last_logged logged) last kept))) is.ids (ids_logged (take most (kept_behind (last_logged logged) last kept)));
-  rise = rw (map-append logged_number logged (map as_logged (take most (kept_behind (last_logged logged) last kept))))
-      (rises_append 0 last (map logged_number logged) (map logged_number (map as_logged (take most (kept_behind (last_logged logged) last kept)))) is.rise
-      (subst (λ n. Rises n last (map logged_number (map as_logged (take most (kept_behind (last_logged logged) last kept))))) (last_is logged)
+  ids = all_append HasItsId logged (map as_logged (take most (kept_after (last_logged logged) last kept))) is.ids (ids_logged (take most (kept_after (last_logged logged) last kept)));
+  rise = rw (map-append logged_number logged (map as_logged (take most (kept_after (last_logged logged) last kept))))
+      (rises_append 0 last (map logged_number logged) (map logged_number (map as_logged (take most (kept_after (last_logged logged) last kept)))) is.rise
+      (subst (λ n. Rises n last (map logged_number (map as_logged (take most (kept_after (last_logged logged) last kept))))) (last_is logged)
       (page_rises keep (last_logged logged) last most kept known (last_within last logged is))));
 }
 
 -- and none of its ids stands twice
 pub page_is_new : (keep last most : ℕ) (kept : List EntryView) (logged : List LogEntry) → AreKept keep last kept → IsInOrder last logged →
-    first_repeat (ids_of logged) (ids_of (map as_logged (take most (kept_behind (last_logged logged) last kept)))) ≡ None
+    first_repeat (ids_of logged) (ids_of (map as_logged (take most (kept_after (last_logged logged) last kept)))) ≡ None
 page_is_new keep last most kept logged known is =
-    let page = map as_logged (take most (kept_behind (last_logged logged) last kept)) in
+    let page = map as_logged (take most (kept_after (last_logged logged) last kept)) in
     let all = in_order_more keep last most kept logged known is in
-    rw (ids_are logged is.ids, ids_are (map as_logged (take most (kept_behind (last_logged logged) last kept))) (ids_logged (take most (kept_behind (last_logged logged) last kept))))
-    (none_repeats last (map logged_number logged) (map logged_number (map as_logged (take most (kept_behind (last_logged logged) last kept))))
+    rw (ids_are logged is.ids, ids_are (map as_logged (take most (kept_after (last_logged logged) last kept))) (ids_logged (take most (kept_after (last_logged logged) last kept))))
+    (none_repeats last (map logged_number logged) (map logged_number (map as_logged (take most (kept_after (last_logged logged) last kept))))
     (omega (arith, known.most))
-    (subst (Rises 0 last) (map-append logged_number logged (map as_logged (take most (kept_behind (last_logged logged) last kept)))) all.rise))
+    (subst (Rises 0 last) (map-append logged_number logged (map as_logged (take most (kept_after (last_logged logged) last kept)))) all.rise))
 
 -- the log's last number after a page that has entries
 pub last_after : (keep last most : ℕ) (kept : List EntryView) (logged : List LogEntry) → AreKept keep last kept →
-    1 ≤ most → 1 ≤ length (kept_behind (last_logged logged) last kept) →
-    last_logged (logged ++ map as_logged (take most (kept_behind (last_logged logged) last kept)))
-    ≡ purged last kept + (last_logged logged - purged last kept) + min most (length (kept_behind (last_logged logged) last kept))
+    1 ≤ most → 1 ≤ length (kept_after (last_logged logged) last kept) →
+    last_logged (logged ++ map as_logged (take most (kept_after (last_logged logged) last kept)))
+    ≡ purged last kept + (last_logged logged - purged last kept) + min most (length (kept_after (last_logged logged) last kept))
 last_after keep last most kept logged known low some =
-    let page = take most (kept_behind (last_logged logged) last kept) in
-    let size : length (take most (kept_behind (last_logged logged) last kept)) ≡ min most (length (kept_behind (last_logged logged) last kept)) = length-take most (kept_behind (last_logged logged) last kept) in
-    let follow = follow_take (purged last kept + 1 + (last_logged logged - purged last kept)) most (kept_behind (last_logged logged) last kept) (behind_follows keep (last_logged logged) last kept known) in
-    let ends : last_number_or (last_logged logged) (take most (kept_behind (last_logged logged) last kept)) + 1
-    ≡ purged last kept + 1 + (last_logged logged - purged last kept) + length (take most (kept_behind (last_logged logged) last kept)) =
-    last_follows (last_logged logged) (purged last kept + 1 + (last_logged logged - purged last kept)) (take most (kept_behind (last_logged logged) last kept)) (omega arith) follow in
-    ap (λ es. last_number_or 0 es) (map-append logged_entry logged (map as_logged (take most (kept_behind (last_logged logged) last kept))))
-    ∙ joined 0 (map logged_entry logged) (map logged_entry (map as_logged (take most (kept_behind (last_logged logged) last kept))))
-    ∙ ap (last_number_or (last_logged logged)) (entries_logged (take most (kept_behind (last_logged logged) last kept)))
+    let page = take most (kept_after (last_logged logged) last kept) in
+    let size : length (take most (kept_after (last_logged logged) last kept)) ≡ min most (length (kept_after (last_logged logged) last kept)) = length-take most (kept_after (last_logged logged) last kept) in
+    let follow = follow_take (purged last kept + 1 + (last_logged logged - purged last kept)) most (kept_after (last_logged logged) last kept) (after_follows keep (last_logged logged) last kept known) in
+    let ends : last_number_or (last_logged logged) (take most (kept_after (last_logged logged) last kept)) + 1
+    ≡ purged last kept + 1 + (last_logged logged - purged last kept) + length (take most (kept_after (last_logged logged) last kept)) =
+    last_follows (last_logged logged) (purged last kept + 1 + (last_logged logged - purged last kept)) (take most (kept_after (last_logged logged) last kept)) (omega arith) follow in
+    ap (λ es. last_number_or 0 es) (map-append logged_entry logged (map as_logged (take most (kept_after (last_logged logged) last kept))))
+    ∙ joined 0 (map logged_entry logged) (map logged_entry (map as_logged (take most (kept_after (last_logged logged) last kept))))
+    ∙ ap (last_number_or (last_logged logged)) (entries_logged (take most (kept_after (last_logged logged) last kept)))
     ∙ omega arith
   where
     joined : (n : ℕ) (es fs : List EntryView) → last_number_or n (es ++ fs) ≡ last_number_or (last_number_or n es) fs

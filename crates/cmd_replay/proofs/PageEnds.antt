@@ -10,16 +10,16 @@ use Rattle.mam_archive.proofs.NumberedEntries.{FollowFrom}
 use Rattle.mam_archive.specs.Entries.{AreKept, EntryView}
 use Rattle.mam_archive.specs.Ids.{id_of}
 use Rattle.base_lemmas.proofs.Bytes.{bytes_eq-self}
-use Rattle.cmd_direct.proofs.NextPages.{id_behind}
+use Rattle.cmd_direct.proofs.NextPages.{id_after}
 use Rattle.cmd_direct.specs.Direct.{as_logged}
-use Rattle.cmd_direct.specs.NextPages.{cut_at, is_purged, kept_behind, last_logged, purged}
+use Rattle.cmd_direct.specs.NextPages.{cut_at, is_purged, kept_after, last_logged, purged}
 use Rattle.mam_log.specs.LogPages.{last_id}
 use Rattle.mam_log.specs.Views.{LogView, OpenPage, advance_of, after_fin, fin_answer, outcome_of, page_for, same_id, with_result}
 use Rattle.mam_log.specs.declared.log_entry.LogEntry.{LogEntry}
 use Rattle.mam_pages.specs.Cuts.{fin_of}
 use Rattle.mam_pages.specs.Spans.{number_of_entry, numbers_of}
 use Rattle.mam_pages.specs.declared.fin.Fin.{Fin}
-use Rattle.cmd_replay.proofs.InOrder.{behind_follows, last_id_is, page_is_new}
+use Rattle.cmd_replay.proofs.InOrder.{after_follows, last_id_is, page_is_new}
 use Rattle.cmd_replay.specs.Turns.{IsInOrder, opened, turn_of, with_results, with_turn}
 
 same_id_itself : (id : Option (List ℕ)) → same_id id id ≡ true
@@ -63,38 +63,38 @@ page_advances most left page false low results is =
 pub page_ends_well : (keep last most : ℕ) (kept : List EntryView) (queryid : List ℕ) (after : Option (List ℕ)) (log now : LogView) (fin : Fin) →
     AreKept keep last kept → 1 ≤ most → IsInOrder last log.entries →
     fin ≡ fin_of (cut_at (last_logged log.entries) most last kept) →
-    now ≡ opened queryid most after log (map as_logged (take most (kept_behind (last_logged log.entries) last kept))) →
+    now ≡ opened queryid most after log (map as_logged (take most (kept_after (last_logged log.entries) last kept))) →
     fin_answer now queryid fin ≡ Ok (outcome_of fin.complete)
 page_ends_well keep last most kept queryid after log now fin known low order told opens =
-    let page = take most (kept_behind (last_logged log.entries) last kept) in
+    let page = take most (kept_after (last_logged log.entries) last kept) in
     let named : bytes_eq queryid queryid ≡ true = bytes_eq-self queryid in
-    let ends : fin.last ≡ last_id (map as_logged (take most (kept_behind (last_logged log.entries) last kept))) =
-    ap (λ (f : Fin). f.last) told ∙ last_of_page (take most (kept_behind (last_logged log.entries) last kept)) in
-    let ids : same_id fin.last (last_id (map as_logged (take most (kept_behind (last_logged log.entries) last kept)))) ≡ true =
-    rw ends (same_id_itself (last_id (map as_logged (take most (kept_behind (last_logged log.entries) last kept))))) in
+    let ends : fin.last ≡ last_id (map as_logged (take most (kept_after (last_logged log.entries) last kept))) =
+    ap (λ (f : Fin). f.last) told ∙ last_of_page (take most (kept_after (last_logged log.entries) last kept)) in
+    let ids : same_id fin.last (last_id (map as_logged (take most (kept_after (last_logged log.entries) last kept)))) ≡ true =
+    rw ends (same_id_itself (last_id (map as_logged (take most (kept_after (last_logged log.entries) last kept))))) in
     let new = page_is_new keep last most kept log.entries known order in
-    rw opens (rw (named, ids, new) (page_advances most (kept_behind (last_logged log.entries) last kept)
-    (record { queryid = queryid; max = most; after = after; results = map as_logged (take most (kept_behind (last_logged log.entries) last kept)) })
+    rw opens (rw (named, ids, new) (page_advances most (kept_after (last_logged log.entries) last kept)
+    (record { queryid = queryid; max = most; after = after; results = map as_logged (take most (kept_after (last_logged log.entries) last kept)) })
     fin.complete low refl (ap (λ (f : Fin). f.complete) told)))
 
 -- what a page was asked for behind: nothing where its archive has purged the log's last entry, or there is none
-asked_behind : (n last : ℕ) (kept : List EntryView) → cond (is_purged n last kept) None (id_behind n) ≡ cond (leb n (purged last kept)) None (Some (id_of n))
-asked_behind zero last kept = let low : leb zero (purged last kept) ≡ true = le-leb zero (purged last kept) (omega arith) in rw low refl
-asked_behind (suc n) last kept = refl
+asked_after : (n last : ℕ) (kept : List EntryView) → cond (is_purged n last kept) None (id_after n) ≡ cond (leb n (purged last kept)) None (Some (id_of n))
+asked_after zero last kept = let low : leb zero (purged last kept) ≡ true = le-leb zero (purged last kept) (omega arith) in rw low refl
+asked_after (suc n) last kept = refl
 
 -- and its entries and its tile join the log
 pub page_taken_over : (keep last most : ℕ) (kept : List EntryView) (queryid : List ℕ) (anew : Bool) (log now next : LogView) (fin : Fin) →
     AreKept keep last kept → IsInOrder last log.entries →
     fin ≡ fin_of (cut_at (last_logged log.entries) most last kept) →
     anew ≡ is_purged (last_logged log.entries) last kept →
-    now ≡ opened queryid most (cond anew None (last_id log.entries)) log (map as_logged (take most (kept_behind (last_logged log.entries) last kept))) →
+    now ≡ opened queryid most (cond anew None (last_id log.entries)) log (map as_logged (take most (kept_after (last_logged log.entries) last kept))) →
     next ≡ after_fin now fin → next ≡ with_turn log (turn_of most last kept log)
 page_taken_over keep last most kept queryid anew log now next fin known order told purges opens over =
-    let page = map as_logged (take most (kept_behind (last_logged log.entries) last kept)) in
+    let page = map as_logged (take most (kept_after (last_logged log.entries) last kept)) in
     let after : cond anew None (last_id log.entries) ≡ cond (leb (last_logged log.entries) (purged last kept)) None (Some (id_of (last_logged log.entries))) =
     ap (λ b. cond b None (last_id log.entries)) purges
     ∙ ap (cond (is_purged (last_logged log.entries) last kept) None) (last_id_is last log.entries order)
-    ∙ asked_behind (last_logged log.entries) last kept in
+    ∙ asked_after (last_logged log.entries) last kept in
     over
     ∙ ap (λ l. after_fin l fin) (opens ∙ ap (λ a. opened queryid most a log page) after)
     ∙ ap (after_fin (opened queryid most (cond (leb (last_logged log.entries) (purged last kept)) None (Some (id_of (last_logged log.entries)))) log page)) told
@@ -155,51 +155,51 @@ number_following s (e ∷ es) (suc i) d follow low = omega (arith, number_follow
 
 -- the number at a place of a page, and where its entry stands in the archive
 pub number_at : (keep n last most at : ℕ) (kept : List EntryView) (numbers : List ℕ) → AreKept keep last kept →
-    numbers ≡ numbers_of (take most (kept_behind n last kept)) → at < length numbers →
+    numbers ≡ numbers_of (take most (kept_after n last kept)) → at < length numbers →
     (get_or numbers at 0 ≡ purged last kept + 1 + (n - purged last kept) + at) × (at < most) × (n - purged last kept + at < length kept)
 number_at keep n last most at kept numbers known are there =
-    let page = take most (kept_behind n last kept) in
-    let size : length numbers ≡ length (take most (kept_behind n last kept)) = ap length are ∙ length-map (take most (kept_behind n last kept)) number_of_entry in
-    let short : length (take most (kept_behind n last kept)) ≡ min most (length (kept_behind n last kept)) = length-take most (kept_behind n last kept) in
-    let rest : length (kept_behind n last kept) ≡ length kept - (n - purged last kept) = length-drop (n - purged last kept) kept in
-    let read : get_or numbers at 0 ≡ (get_or (kept_behind n last kept) at any_entry).number =
+    let page = take most (kept_after n last kept) in
+    let size : length numbers ≡ length (take most (kept_after n last kept)) = ap length are ∙ length-map (take most (kept_after n last kept)) number_of_entry in
+    let short : length (take most (kept_after n last kept)) ≡ min most (length (kept_after n last kept)) = length-take most (kept_after n last kept) in
+    let rest : length (kept_after n last kept) ≡ length kept - (n - purged last kept) = length-drop (n - purged last kept) kept in
+    let read : get_or numbers at 0 ≡ (get_or (kept_after n last kept) at any_entry).number =
     ap (λ ns. get_or ns at 0) are
-    ∙ get_or-map number_of_entry (take most (kept_behind n last kept)) at any_entry 0 (omega arith)
-    ∙ ap number_of_entry (get_or-take most (kept_behind n last kept) at any_entry (omega arith)) in
-    let number : (get_or (kept_behind n last kept) at any_entry).number ≡ purged last kept + 1 + (n - purged last kept) + at =
-    number_following (purged last kept + 1 + (n - purged last kept)) (kept_behind n last kept) at any_entry (behind_follows keep n last kept known) (omega arith) in
+    ∙ get_or-map number_of_entry (take most (kept_after n last kept)) at any_entry 0 (omega arith)
+    ∙ ap number_of_entry (get_or-take most (kept_after n last kept) at any_entry (omega arith)) in
+    let number : (get_or (kept_after n last kept) at any_entry).number ≡ purged last kept + 1 + (n - purged last kept) + at =
+    number_following (purged last kept + 1 + (n - purged last kept)) (kept_after n last kept) at any_entry (after_follows keep n last kept known) (omega arith) in
     (read ∙ number, omega arith, omega arith)
 
 -- a result more in the open page
 pub result_taken : (keep n last most at : ℕ) (kept : List EntryView) (numbers : List ℕ) (log now next : LogView) →
-    AreKept keep last kept → numbers ≡ numbers_of (take most (kept_behind n last kept)) → at < length numbers →
-    now ≡ with_results log (map as_logged (take at (kept_behind n last kept))) →
+    AreKept keep last kept → numbers ≡ numbers_of (take most (kept_after n last kept)) → at < length numbers →
+    now ≡ with_results log (map as_logged (take at (kept_after n last kept))) →
     ((d : EntryView) → next ≡ with_result now (as_logged (get_or kept (get_or numbers at 0 + length kept - 1 - last) d))) →
-    next ≡ with_results log (map as_logged (take (at + 1) (kept_behind n last kept)))
+    next ≡ with_results log (map as_logged (take (at + 1) (kept_after n last kept)))
 result_taken keep n last most at kept numbers log now next known are there is taken =
-    let place = number_at keep n last most at kept numbers known are there in
-    let spot : get_or numbers at 0 + length kept - 1 - last ≡ n - purged last kept + at = omega (arith, place.0, known.within) in
-    let rest : length (kept_behind n last kept) ≡ length kept - (n - purged last kept) = length-drop (n - purged last kept) kept in
-    let entry : get_or kept (n - purged last kept + at) any_entry ≡ get_or (kept_behind n last kept) at any_entry = sym (get_or-drop (n - purged last kept) kept at any_entry) in
+    let position = number_at keep n last most at kept numbers known are there in
+    let spot : get_or numbers at 0 + length kept - 1 - last ≡ n - purged last kept + at = omega (arith, position.0, known.within) in
+    let rest : length (kept_after n last kept) ≡ length kept - (n - purged last kept) = length-drop (n - purged last kept) kept in
+    let entry : get_or kept (n - purged last kept + at) any_entry ≡ get_or (kept_after n last kept) at any_entry = sym (get_or-drop (n - purged last kept) kept at any_entry) in
     taken any_entry
     ∙ ap (λ i. with_result now (as_logged (get_or kept i any_entry))) spot
     ∙ ap (λ e. with_result now (as_logged e)) entry
-    ∙ ap (λ l. with_result l (as_logged (get_or (kept_behind n last kept) at any_entry))) is
-    ∙ result_added log (map as_logged (take at (kept_behind n last kept))) (as_logged (get_or (kept_behind n last kept) at any_entry))
+    ∙ ap (λ l. with_result l (as_logged (get_or (kept_after n last kept) at any_entry))) is
+    ∙ result_added log (map as_logged (take at (kept_after n last kept))) (as_logged (get_or (kept_after n last kept) at any_entry))
     ∙ ap (with_results log)
-    (sym (map_push as_logged (take at (kept_behind n last kept)) (get_or (kept_behind n last kept) at any_entry))
-    ∙ ap (map as_logged) (sym (take_more (kept_behind n last kept) at any_entry (omega (arith, place.2)))))
+    (sym (map_push as_logged (take at (kept_after n last kept)) (get_or (kept_after n last kept) at any_entry))
+    ∙ ap (map as_logged) (sym (take_more (kept_after n last kept) at any_entry (omega (arith, position.2)))))
 
 -- with all results of the page
 pub results_taken : (n last most at : ℕ) (kept : List EntryView) (numbers : List ℕ) (log now : LogView) →
-    numbers ≡ numbers_of (take most (kept_behind n last kept)) → at ≡ length numbers →
-    now ≡ with_results log (map as_logged (take at (kept_behind n last kept))) →
-    now ≡ with_results log (map as_logged (take most (kept_behind n last kept)))
+    numbers ≡ numbers_of (take most (kept_after n last kept)) → at ≡ length numbers →
+    now ≡ with_results log (map as_logged (take at (kept_after n last kept))) →
+    now ≡ with_results log (map as_logged (take most (kept_after n last kept)))
 results_taken n last most at kept numbers log now are end is =
-    let size : at ≡ length (take most (kept_behind n last kept)) =
-    end ∙ ap length are ∙ length-map (take most (kept_behind n last kept)) number_of_entry in
-    is ∙ ap (λ k. with_results log (map as_logged (take k (kept_behind n last kept)))) size
-    ∙ ap (λ es. with_results log (map as_logged es)) (take_whole most (kept_behind n last kept))
+    let size : at ≡ length (take most (kept_after n last kept)) =
+    end ∙ ap length are ∙ length-map (take most (kept_after n last kept)) number_of_entry in
+    is ∙ ap (λ k. with_results log (map as_logged (take k (kept_after n last kept)))) size
+    ∙ ap (λ es. with_results log (map as_logged es)) (take_whole most (kept_after n last kept))
   where
     take_whole : (k : ℕ) (xs : List EntryView) → take (length (take k xs)) xs ≡ take k xs
     take_whole zero xs = refl
@@ -207,8 +207,8 @@ results_taken n last most at kept numbers log now are end is =
     take_whole (suc k) (x ∷ xs) = ap (λ t. x ∷ t) (take_whole k xs)
 
 -- an entry that was copied with its id is the one at its number's place, as it is logged
-pub result_copied : (archive : List EntryView) (place : ℕ) (e copy d : EntryView) (id : List ℕ) → slice_get archive place ≡ Some e → copy ≡ e → id ≡ id_of e.number →
-    (let logged : LogEntry = record { id = id; entry = copy } in logged) ≡ as_logged (get_or archive place d)
-result_copied archive place e copy d id there same is =
+pub result_copied : (archive : List EntryView) (position : ℕ) (e copy d : EntryView) (id : List ℕ) → slice_get archive position ≡ Some e → copy ≡ e → id ≡ id_of e.number →
+    (let logged : LogEntry = record { id = id; entry = copy } in logged) ≡ as_logged (get_or archive position d)
+result_copied archive position e copy d id there same is =
     ap (λ i. let logged : LogEntry = record { id = i; entry = copy } in logged) (is ∙ ap (λ (v : EntryView). id_of v.number) (sym same))
-    ∙ ap as_logged (same ∙ sym (get_or_from_slice_get archive place e d there))
+    ∙ ap as_logged (same ∙ sym (get_or_from_slice_get archive position e d there))

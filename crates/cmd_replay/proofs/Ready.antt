@@ -13,8 +13,8 @@ pub OnOk_then : {T E : Type 0} (r : Result T E) {P Q : Type 0} → OnOk r P → 
 OnOk_then (Ok x) p f = f p
 OnOk_then (Err e) p f = tt
 
-pub place_ready : (run : Run) (i : ℕ) → IsReady run → i < length run.index → i < length run.devices.items
-place_ready run i ready there =
+pub position_ready : (run : Run) (i : ℕ) → IsReady run → i < length run.index → i < length run.devices.items
+position_ready run i ready there =
     let same : length run.index ≡ length (map (λ (d : DeviceState). d.name) run.devices.items) = ap length ready.names in
     let size : length (map (λ (d : DeviceState). d.name) run.devices.items) ≡ length run.devices.items = length-map run.devices.items (λ (d : DeviceState). d.name) in
     omega arith
@@ -22,11 +22,11 @@ place_ready run i ready there =
 pub device_ready : (run : Run) (i : ℕ) (device : DeviceState) → IsReady run → i < length run.index → device ≡ get_or run.devices.items i device →
     IsReadyDevice run.accounts.homes device
 device_ready run i device ready there is =
-    subst (λ (d : DeviceState). IsReadyDevice run.accounts.homes d) (sym is) (ready.devices i device (place_ready run i ready there))
+    subst (λ (d : DeviceState). IsReadyDevice run.accounts.homes d) (sym is) (ready.devices i device (position_ready run i ready there))
 
 pub device_there : (run : Run) (i : ℕ) (device : DeviceState) → IsReady run → i < length run.index → device ≡ get_or run.devices.items i device →
     slice_get run.devices.items i ≡ Some device
-device_there run i device ready there is = slice_get_read run.devices.items (length run.devices.items) i device refl (place_ready run i ready there) is
+device_there run i device ready there is = slice_get_read run.devices.items (length run.devices.items) i device refl (position_ready run i ready there) is
 
 pub order_ready : (run : Run) (i : ℕ) (device : DeviceState) (last : ℕ) → IsReady run → i < length run.index → device ≡ get_or run.devices.items i device →
     ((d : Home) → last ≡ (get_or run.accounts.homes device.home d).last) → IsInOrder last device.log.entries

@@ -40,9 +40,9 @@ appended keep entry home = record home { last = home.last + 1; entries = newest 
 
 -- with an entry at the end of the archive at a place
 abbrev pub appended_at : ℕ → ℕ → EntryView → List Home → List Home
-appended_at keep place entry [] = []
+appended_at keep position entry [] = []
 appended_at keep zero entry (home ∷ homes) = appended keep entry home ∷ homes
-appended_at keep (suc place) entry (home ∷ homes) = home ∷ appended_at keep place entry homes
+appended_at keep (suc position) entry (home ∷ homes) = home ∷ appended_at keep position entry homes
 
 -- an entry goes to the archives at two places, or once where they are the same
 abbrev pub delivered : ℕ → ℕ → ℕ → EntryView → List Home → List Home

@@ -4,7 +4,7 @@ use Rattle.std.specs.Option.{option_map_or}
 use Rattle.cmd_report.specs.Takes.{Take, entry_of}
 use Rattle.cmd_report.specs.Lines.{take_line}
 use Rattle.cmd_replay.specs.Homes.{Home, delivered, names_of}
-use Rattle.base_io.specs.Names.{place_of}
+use Rattle.base_io.specs.Names.{position_of}
 use Rattle.cmd_report.specs.declared.report.SaidLine.{SaidLine}
 use Rattle.cmd_report.specs.declared.report.SaidMark.TheVariants.{Acknowledged}
 use Rattle.cmd_report.specs.declared.report.TakeLine.{TakeLine}
@@ -27,12 +27,12 @@ said_by device to text = record { epoch = 1; n = sent_of device + 1; state = Ack
 -- the accounts after the device's next message, which goes nowhere where no account has the name
 abbrev pub homes_after : ℕ → ℕ → DeviceState → List ℕ → List ℕ → List Home → List Home
 homes_after keep moment device to text homes =
-    option_map_or (λ place. delivered keep device.home place (entry_of (take_by moment device to text)) homes) (place_of to (names_of homes)) homes
+    option_map_or (λ position. delivered keep device.home position (entry_of (take_by moment device to text)) homes) (position_of to (names_of homes)) homes
 
 -- the takes after it
 abbrev pub takes_after : Version → ℕ → DeviceState → List ℕ → List ℕ → List Home → List TakeLine → List TakeLine
 takes_after version moment device to text homes lines =
-    option_map_or (λ place. lines ++ take_line version (take_by moment device to text) ∷ []) (place_of to (names_of homes)) lines
+    option_map_or (λ position. lines ++ take_line version (take_by moment device to text) ∷ []) (position_of to (names_of homes)) lines
 
 -- the device after it
 pub record HasSaid (before after : DeviceState) (to text : List ℕ) : Type 0 where

@@ -7,7 +7,7 @@ use Rattle.cmd_schedule.specs.declared.schedule.Version.{Version}
 use Rattle.cmd_report.specs.Takes.{archive_of}
 use Rattle.cmd_direct.specs.Direct.{pages_of, said_at, takes_of}
 use Rattle.cmd_report.specs.Lines.{take_line}
-use Rattle.base_io.specs.Names.{is_among, place_of}
+use Rattle.base_io.specs.Names.{is_among, position_of}
 use Rattle.cmd_replay.specs.Homes.{Home, home_at, names_of}
 use Rattle.cmd_replay.specs.Messages.{HasSaid, homes_after, sent_of, takes_after}
 use Rattle.cmd_schedule.specs.Standing.{AreOnce}
@@ -20,7 +20,7 @@ use Rattle.cmd_schedule.specs.declared.schedule.Step.TheVariants.{Account, Devic
 -- a device after the first steps of a schedule whose archives keep so many
 pub record IsDevice (keep : ℕ) (all before : List Step) (device : DeviceState) : Type 0 where
   pub account : device.account ≡ home_of before device.name
-  pub place : place_of device.account (accounts_of all) ≡ Some device.home
+  pub position : position_of device.account (accounts_of all) ≡ Some device.home
   pub said : device.said.items ≡ along (said_at device.name) [] before
   pub log : IsLogOf (pages_of keep all device.name before) device.log
   pub in_order : IsInOrder (length (archive_of device.account (takes_of all before))) device.log.entries
@@ -82,19 +82,19 @@ pub record HasDeclared (before after : Run) (name account : List ℕ) : Type 0 w
   pub takes : after.takes.items ≡ before.takes.items
   pub named : new.name ≡ name
   pub owned : new.account ≡ account
-  pub placed : place_of account (names_of before.accounts.homes) ≡ Some new.home
+  pub placed : position_of account (names_of before.accounts.homes) ≡ Some new.home
   pub said : new.said.items ≡ []
   pub log : new.log ≡ empty_log
 
 -- a device said something
 pub record HasSent (before after : Run) (name to text : List ℕ) : Type 0 where
   pub frame : HasKept before after
-  pub place : ℕ
+  pub position : ℕ
   pub old : DeviceState
   pub new : DeviceState
-  pub named : place_of name before.index ≡ Some place
-  pub there : slice_get before.devices.items place ≡ Some old
-  pub devices : after.devices.items ≡ slice_set before.devices.items place new
+  pub named : position_of name before.index ≡ Some position
+  pub there : slice_get before.devices.items position ≡ Some old
+  pub devices : after.devices.items ≡ slice_set before.devices.items position new
   pub index : after.index ≡ before.index
   pub said : HasSaid old new to text
   pub homes : after.accounts.homes ≡ homes_after before.accounts.keep before.clock.moment old to text before.accounts.homes
@@ -107,12 +107,12 @@ HasLog old new = (new.name ≡ old.name) × (new.account ≡ old.account) × (ne
 -- a device caught up on its account's archive
 pub record HasCaughtUp (before after : Run) (name : List ℕ) (most : ℕ) : Type 0 where
   pub frame : HasKept before after
-  pub place : ℕ
+  pub position : ℕ
   pub old : DeviceState
   pub new : DeviceState
-  pub named : place_of name before.index ≡ Some place
-  pub there : slice_get before.devices.items place ≡ Some old
-  pub devices : after.devices.items ≡ slice_set before.devices.items place new
+  pub named : position_of name before.index ≡ Some position
+  pub there : slice_get before.devices.items position ≡ Some old
+  pub devices : after.devices.items ≡ slice_set before.devices.items position new
   pub index : after.index ≡ before.index
   pub homes : after.accounts.homes ≡ before.accounts.homes
   pub takes : after.takes.items ≡ before.takes.items

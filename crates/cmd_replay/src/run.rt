@@ -66,13 +66,13 @@ impl Run {
         requires known { is_among device.now self.old.index ≡ true }
         ensures { OnOk result (HasSent self.old self.new device.now to.now text.now) }
     {
-        let Some(place) = self.index.find(device) else {
+        let Some(position) = self.index.find(device) else {
             unreachable!()
         };
         messages::say(
             alloc,
             self.clock,
-            &mut self.devices[place],
+            &mut self.devices[position],
             &mut self.accounts,
             &mut self.takes,
             to,
@@ -87,10 +87,10 @@ impl Run {
         requires most { (1 ≤ most) × (most ≤ 100) }
         ensures { OnOk result (HasCaughtUp self.old self.new device.now most) }
     {
-        let Some(place) = self.index.find(device) else {
+        let Some(position) = self.index.find(device) else {
             unreachable!()
         };
-        let device = &mut self.devices[place];
+        let device = &mut self.devices[position];
         pages::catch_up(
             alloc,
             &mut device.log,

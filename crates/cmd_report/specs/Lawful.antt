@@ -10,7 +10,7 @@ use Rattle.cmd_report.specs.Takes.{Take, archive_of}
 use Rattle.cmd_report.specs.Lines.{entry_line}
 use Rattle.cmd_schedule.specs.Contents.{accounts_of, is_account, is_catchup_of, owned_in}
 use Rattle.base_io.specs.Names.{is_among}
-use Rattle.cmd_report.specs.Worlds.{World}
+use Rattle.cmd_report.specs.Worlds.{ReportWorld}
 use Rattle.cmd_report.specs.Reports.{AccountView, DeviceView, ReportView}
 use Rattle.cmd_schedule.specs.Schedules.{ScheduleView, steps_of}
 use Rattle.cmd_report.specs.EntryLines.{EntryLineView}
@@ -99,13 +99,13 @@ abbrev pub FollowsSubmission : SaidLine → SaidLine → Type 0
 FollowsSubmission before said =
     ((said.epoch ≡ before.epoch) × (said.n ≡ before.n + 1)) ⊎ ((before.epoch < said.epoch) × (said.n ≡ 1))
 
-abbrev pub AreNumberedBehind : SaidLine → List SaidLine → Type 0
-AreNumberedBehind before [] = Unit {0}
-AreNumberedBehind before (said ∷ rest) = FollowsSubmission before said × AreNumberedBehind said rest
+abbrev pub AreNumberedAfter : SaidLine → List SaidLine → Type 0
+AreNumberedAfter before [] = Unit {0}
+AreNumberedAfter before (said ∷ rest) = FollowsSubmission before said × AreNumberedAfter said rest
 
 abbrev pub AreSubmissions : List SaidLine → Type 0
 AreSubmissions [] = Unit {0}
-AreSubmissions (said ∷ rest) = (said.n ≡ 1) × AreNumberedBehind said rest
+AreSubmissions (said ∷ rest) = (said.n ≡ 1) × AreNumberedAfter said rest
 
 -- the first of the submissions is this message, and the others are so
 abbrev pub BeginsSaid : List ℕ → List ℕ → (List SaidLine → Type 0) → List SaidLine → Type 0
@@ -245,9 +245,9 @@ Passes k before after = (before ≤ k) × (k < after)
 
 -- Page k of the device is complete with a TOTAL: it is no less than the archive's length when the page was asked
 -- for, and no more than its length when the page had been taken over.
-abbrev pub IsFresh : List World → DeviceView → ℕ → ℕ → Type 0
+abbrev pub IsFresh : List ReportWorld → DeviceView → ℕ → ℕ → Type 0
 IsFresh worlds device k total =
-    (i j : ℕ) (asking asked taking taken : World)
+    (i j : ℕ) (asking asked taking taken : ReportWorld)
     → slice_get worlds i ≡ Some asking → slice_get worlds (i + 1) ≡ Some asked
     → Passes k (asking.asked device.name) (asked.asked device.name)
     → slice_get worlds j ≡ Some taking → slice_get worlds (j + 1) ≡ Some taken
@@ -255,12 +255,12 @@ IsFresh worlds device k total =
     → (length (asking.archive device.account) ≤ total) × (total ≤ length (taken.archive device.account))
 
 -- the last world has as many pages of the device as the report
-abbrev pub EndsWith : List World → DeviceView → Type 0
+abbrev pub EndsWith : List ReportWorld → DeviceView → Type 0
 EndsWith [] device = ⊥
 EndsWith (world ∷ []) device = length (world.pages device.name) ≡ length device.pages
 EndsWith (world ∷ next ∷ worlds) device = EndsWith (next ∷ worlds) device
 
-pub record ArePages (worlds : List World) (schedule : ScheduleView) (device : DeviceView) : Type 0 where
+pub record ArePages (worlds : List ReportWorld) (schedule : ScheduleView) (device : DeviceView) : Type 0 where
   pub tiles : AreTiles [] device.pages device.logged
   pub distinct : EachPair (λ a b. a.entry.id ≢ b.entry.id) device.logged
   pub fresh : (k total : ℕ) (page : PageLine) → slice_get device.pages k ≡ Some page → page.total ≡ Some total → IsFresh worlds device k total
@@ -268,12 +268,12 @@ pub record ArePages (worlds : List World) (schedule : ScheduleView) (device : De
   -- in a direct run each catch-up came to a complete page
   pub answered : schedule.wire ≡ false → count_by (λ page. is_some page.total) device.pages ≡ count_by (is_catchup_of device.name) (steps_of schedule.lines)
 
-pub record IsPaged (worlds : List World) (schedule : ScheduleView) (report : ReportView) : Type 0 where
+pub record IsPaged (worlds : List ReportWorld) (schedule : ScheduleView) (report : ReportView) : Type 0 where
   pub whole : IsOfSchedule schedule report
   pub pages : AllByRecursion (ArePages worlds schedule) report.devices
 
 -- the report keeps all five laws, where these were the worlds before the first move and after each move
-pub record IsLawful (worlds : List World) (schedule : ScheduleView) (report : ReportView) : Type 0 where
+pub record IsLawful (worlds : List ReportWorld) (schedule : ScheduleView) (report : ReportView) : Type 0 where
   pub taken : IsTakenRight schedule report
   pub in_order : IsOnceInOrder schedule report
   pub acknowledged : IsAcknowledgedRight schedule report

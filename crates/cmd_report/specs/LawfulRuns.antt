@@ -13,7 +13,7 @@ use Rattle.cmd_report.specs.Lawful.{AreOutcomes, AreSubmissions, EachPair, EndsW
 use Rattle.cmd_report.specs.Lines.{entry_line, is_break}
 use Rattle.cmd_report.specs.Reports.{AccountView, DeviceView, ReportView}
 use Rattle.cmd_report.specs.Takes.{Take, archive_of}
-use Rattle.cmd_report.specs.Worlds.{World}
+use Rattle.cmd_report.specs.Worlds.{ReportWorld}
 use Rattle.cmd_report.specs.declared.report.LoggedLine.{LoggedLine}
 use Rattle.cmd_report.specs.declared.report.PageLine.{PageLine}
 use Rattle.cmd_report.specs.declared.report.TakeLine.{TakeLine}
@@ -67,16 +67,16 @@ pub record IsTakenAndKept (keep : ℕ) (schedule : ScheduleView) (report : Repor
 -- Law 4: each log is runs of its account's history, broken only where entries were purged.
 
 -- behind an entry, numbers rise, and without a break they are consecutive
-abbrev pub AreRunsBehind : EntryView → List EntryView → List LoggedLine → Type 0
-AreRunsBehind before [] [] = Unit {0}
-AreRunsBehind before (e ∷ es) (l ∷ ls) =
-    (before.number < e.number) × (l.broken ≡ false → e.number ≡ before.number + 1) × AreRunsBehind e es ls
-AreRunsBehind before [] (l ∷ ls) = ⊥
-AreRunsBehind before (e ∷ es) [] = ⊥
+abbrev pub AreRunsAfter : EntryView → List EntryView → List LoggedLine → Type 0
+AreRunsAfter before [] [] = Unit {0}
+AreRunsAfter before (e ∷ es) (l ∷ ls) =
+    (before.number < e.number) × (l.broken ≡ false → e.number ≡ before.number + 1) × AreRunsAfter e es ls
+AreRunsAfter before [] (l ∷ ls) = ⊥
+AreRunsAfter before (e ∷ es) [] = ⊥
 
 abbrev pub AreRuns : List EntryView → List LoggedLine → Type 0
 AreRuns [] [] = Unit {0}
-AreRuns (e ∷ es) (l ∷ ls) = (l.broken ≡ false) × AreRunsBehind e es ls
+AreRuns (e ∷ es) (l ∷ ls) = (l.broken ≡ false) × AreRunsAfter e es ls
 AreRuns [] (l ∷ ls) = ⊥
 AreRuns (e ∷ es) [] = ⊥
 
@@ -147,9 +147,9 @@ pub record EndsWhole (keep : ℕ) (history : List EntryView) (logged : List Logg
 
 -- The last entry logged with page k is no older than the archive's last when the page was asked for, and no newer than its
 -- last when the page had been taken over.
-abbrev pub IsFreshTo : List World → DeviceView → ℕ → ℕ → Type 0
+abbrev pub IsFreshTo : List ReportWorld → DeviceView → ℕ → ℕ → Type 0
 IsFreshTo worlds device k last =
-    (i j : ℕ) (asking asked taking taken : World)
+    (i j : ℕ) (asking asked taking taken : ReportWorld)
     → slice_get worlds i ≡ Some asking → slice_get worlds (i + 1) ≡ Some asked
     → Passes k (asking.asked device.name) (asked.asked device.name)
     → slice_get worlds j ≡ Some taking → slice_get worlds (j + 1) ≡ Some taken
@@ -157,18 +157,18 @@ IsFreshTo worlds device k last =
     → (last_number (asking.archive device.account) ≤ last) × (last ≤ last_number (taken.archive device.account))
 
 -- when page k had been taken over, this number was purged
-abbrev pub IsPurgedBy : List World → DeviceView → ℕ → ℕ → Type 0
+abbrev pub IsPurgedBy : List ReportWorld → DeviceView → ℕ → ℕ → Type 0
 IsPurgedBy worlds device k last =
-    (j : ℕ) (taking taken : World)
+    (j : ℕ) (taking taken : ReportWorld)
     → slice_get worlds j ≡ Some taking → slice_get worlds (j + 1) ≡ Some taken
     → Passes k (length (taking.pages device.name)) (length (taken.pages device.name))
     → last < first_number (taken.archive device.account)
 
 -- Page k begins with the oldest entry that the archive kept: this number wasn't purged when the page was asked for, and
 -- all below it were when the page had been taken over.
-abbrev pub IsOldestKept : List World → DeviceView → ℕ → ℕ → Type 0
+abbrev pub IsOldestKept : List ReportWorld → DeviceView → ℕ → ℕ → Type 0
 IsOldestKept worlds device k first =
-    (i j : ℕ) (asking asked taking taken : World)
+    (i j : ℕ) (asking asked taking taken : ReportWorld)
     → slice_get worlds i ≡ Some asking → slice_get worlds (i + 1) ≡ Some asked
     → Passes k (asking.asked device.name) (asked.asked device.name)
     → slice_get worlds j ≡ Some taking → slice_get worlds (j + 1) ≡ Some taken
@@ -176,22 +176,22 @@ IsOldestKept worlds device k first =
     → (first_number (asking.archive device.account) ≤ first) × (first ≤ first_number (taken.archive device.account))
 
 -- when page k was asked for, this number wasn't purged
-abbrev pub IsKeptWhenAsked : List World → DeviceView → ℕ → ℕ → Type 0
+abbrev pub IsKeptWhenAsked : List ReportWorld → DeviceView → ℕ → ℕ → Type 0
 IsKeptWhenAsked worlds device k last =
-    (i : ℕ) (asking asked : World)
+    (i : ℕ) (asking asked : ReportWorld)
     → slice_get worlds i ≡ Some asking → slice_get worlds (i + 1) ≡ Some asked
     → Passes k (asking.asked device.name) (asked.asked device.name)
     → first_number (asking.archive device.account) ≤ last
 
 -- when page k had been taken over, the archive had given this number
-abbrev pub IsGivenBy : List World → DeviceView → ℕ → ℕ → Type 0
+abbrev pub IsGivenBy : List ReportWorld → DeviceView → ℕ → ℕ → Type 0
 IsGivenBy worlds device k last =
-    (j : ℕ) (taking taken : World)
+    (j : ℕ) (taking taken : ReportWorld)
     → slice_get worlds j ≡ Some taking → slice_get worlds (j + 1) ≡ Some taken
     → Passes k (length (taking.pages device.name)) (length (taken.pages device.name))
     → last ≤ last_number (taken.archive device.account)
 
-pub record ArePagesOfRuns (keep : ℕ) (worlds : List World) (schedule : ScheduleView) (history : List EntryView) (device : DeviceView) : Type 0 where
+pub record ArePagesOfRuns (keep : ℕ) (worlds : List ReportWorld) (schedule : ScheduleView) (history : List EntryView) (device : DeviceView) : Type 0 where
   pub tiles : AreTilesOfRuns [] device.pages device.logged
   pub distinct : EachPair (λ a b. a.entry.id ≢ b.entry.id) device.logged
   pub complete : (k total : ℕ) (page : PageLine) → slice_get device.pages k ≡ Some page → page.total ≡ Some total → EndsWhole keep history (logged_before (k + 1) device) total
@@ -203,7 +203,7 @@ pub record ArePagesOfRuns (keep : ℕ) (worlds : List World) (schedule : Schedul
   pub oldest : (k first : ℕ) (page : PageLine) → slice_get device.pages k ≡ Some page → page.after ≡ None →
       IsFirstNumber (lines_of_page k device) first → IsOldestKept worlds device k first
   -- the entry behind which a page was asked for was kept
-  pub behind : (k last : ℕ) (page : PageLine) → slice_get device.pages k ≡ Some page → 1 ≤ last →
+  pub following : (k last : ℕ) (page : PageLine) → slice_get device.pages k ≡ Some page → 1 ≤ last →
       IsLastNumber page.after last → IsKeptWhenAsked worlds device k last
   -- no page, complete or not, brings an entry that wasn't taken yet
   pub known : (k last : ℕ) (page : PageLine) → slice_get device.pages k ≡ Some page →
@@ -212,23 +212,23 @@ pub record ArePagesOfRuns (keep : ℕ) (worlds : List World) (schedule : Schedul
   -- in a direct run each catch-up came to a complete page
   pub answered : schedule.wire ≡ false → count_by (λ page. is_some page.total) device.pages ≡ count_by (is_catchup_of device.name) (steps_of schedule.lines)
 
-pub record IsPagedInRuns (keep : ℕ) (worlds : List World) (schedule : ScheduleView) (report : ReportView) : Type 0 where
+pub record IsPagedInRuns (keep : ℕ) (worlds : List ReportWorld) (schedule : ScheduleView) (report : ReportView) : Type 0 where
   pub whole : IsOfSchedule schedule report
   pub pages : AllByRecursion (λ d. ArePagesOfRuns keep worlds schedule (history_of report d.account) d) report.devices
 
 -- the report keeps all five laws, where these were the worlds before the first move and after each move
-pub record IsLawfulKeeping (keep : ℕ) (worlds : List World) (schedule : ScheduleView) (report : ReportView) : Type 0 where
+pub record IsLawfulKeeping (keep : ℕ) (worlds : List ReportWorld) (schedule : ScheduleView) (report : ReportView) : Type 0 where
   pub taken : IsTakenAndKept keep schedule report
   pub in_order : IsOnceInOrder schedule report
   pub acknowledged : IsAcknowledgedRight schedule report
   pub logged : IsLoggedInRuns keep schedule report
   pub paged : IsPagedInRuns keep worlds schedule report
 
-abbrev pub KeepsLawsOf : Version → List World → ScheduleView → ReportView → Type 0
+abbrev pub KeepsLawsOf : Version → List ReportWorld → ScheduleView → ReportView → Type 0
 KeepsLawsOf One worlds schedule report = IsLawful worlds schedule report
 KeepsLawsOf (Two keep) worlds schedule report = IsLawfulKeeping keep worlds schedule report
 
 -- the report has the form of the schedule's version, and keeps the five laws of that version
-pub record KeepsLaws (worlds : List World) (schedule : ScheduleView) (report : ReportView) : Type 0 where
+pub record KeepsLaws (worlds : List ReportWorld) (schedule : ScheduleView) (report : ReportView) : Type 0 where
   pub form : IsInForm schedule.version report
   pub laws : KeepsLawsOf schedule.version worlds schedule report

@@ -3,7 +3,7 @@
 ghost use Rattle.std.specs.Prelude.{◌≡◌, ◌++◌, false, length, map, take, drop, IfOk, OnOk};
 ghost use Rattle.std.specs.Vec.Iter.{into_iter_items, into_iter_len};
 ghost use Rattle.cmd_report.specs.EntryLines.{line_under};
-ghost use Rattle.cmd_report.specs.Lines.{entry_line, is_break, logged_behind, logged_by, logged_line, tile_line};
+ghost use Rattle.cmd_report.specs.Lines.{entry_line, is_break, logged_after, logged_by, logged_line, tile_line};
 
 use crate::report::{EntryLine, EntryLines, LoggedLine, LoggedLines, PageLine, PageLines};
 use base_io::{Copied, ListOf, NoMemory, Text};
@@ -79,7 +79,7 @@ fn push_page(
 ) -> Result<(), NoMemory>
     requires { into_iter_len entries.old ≡ length (into_iter_items entries.old) }
     ensures counted { OnOk result (into_iter_len entries.new ≡ length (into_iter_items entries.new)) }
-    ensures lines { OnOk result (lines.new.items ≡ lines.old.items ++ logged_behind broken (take count (into_iter_items entries.old))) }
+    ensures lines { OnOk result (lines.new.items ≡ lines.old.items ++ logged_after broken (take count (into_iter_items entries.old))) }
     ensures rest { OnOk result (into_iter_items entries.new ≡ drop count (into_iter_items entries.old)) }
 {
     let mut broken = broken;

@@ -31,7 +31,7 @@ use Rattle.cmd_schedule.specs.Reading.{Piece, pieces_of, wants}
 use Rattle.cmd_schedule.specs.declared.fault.LineWhy.TheVariants as why
 use Rattle.cmd_schedule.specs.declared.fault.ScheduleFault.{ScheduleFault}
 use Rattle.cmd_schedule.specs.declared.schedule.Version.{Version}
-use Rattle.cmd_schedule.proofs.Words.{piece_behind}
+use Rattle.cmd_schedule.proofs.Words.{piece_after}
 
 -- from here on, whatever the line's number, this text is read as the rest of this report
 abbrev Reads : SoFarView → List ℕ → ReportView → Type 0
@@ -41,14 +41,14 @@ next_again : (so_far further : SoFarView) (line : ReportLine) (bytes : List ℕ)
     → read_next so_far (record { bytes = bytes; ended = true }) ≡ Ok further
 unfolding read_next
 next_again so_far further line bytes going again added =
-    let behind : wants (not so_far.ended) why.Word ≡ Ok true = rw going refl in
-    rw (is_utf8-from_IsUtf8 bytes again.plain.spelled, behind, again.read) added
+    let what_follows : wants (not so_far.ended) why.Word ≡ Ok true = rw going refl in
+    rw (is_utf8-from_IsUtf8 bytes again.plain.spelled, what_follows, again.read) added
 
 -- one line more
 step : (so_far further : SoFarView) (line : ReportLine) (bytes text rest : List ℕ) (report : ReportView) → text ≡ bytes ++ 10 ∷ rest
     → so_far.ended ≡ false → IsAgain so_far.version line bytes → add_line so_far line ≡ Ok further → Reads further rest report → Reads so_far text report
 step so_far further line bytes text rest report is going again added reads n =
-    let parts : pieces_of text ≡ record { bytes = bytes; ended = true } ∷ pieces_of rest = ap pieces_of is ∙ piece_behind bytes rest again.plain.lacks in
+    let parts : pieces_of text ≡ record { bytes = bytes; ended = true } ∷ pieces_of rest = ap pieces_of is ∙ piece_after bytes rest again.plain.lacks in
     rw (parts, next_again so_far further line bytes going again added) (reads (n + 1))
 
 -- lines of one kind, each of which adds to one list
@@ -59,9 +59,9 @@ module _ {A : Type 0} where
   each text told P report one before [] rest all reads = subst (λ (ys : List A). Reads (told ys) rest report) (append-nil before) reads
   each text told P report one before (x ∷ xs) rest all reads =
       let later : Reads (told ((before ++ x ∷ []) ++ xs)) rest report = subst (λ (ys : List A). Reads (told ys) rest report) (sym (append_assoc before (x ∷ []) xs)) reads in
-      let behind = one before x (flat_map text xs ++ rest) all.0 (each text told P report one (before ++ x ∷ []) xs rest all.1 later) in
+      let what_follows = one before x (flat_map text xs ++ rest) all.0 (each text told P report one (before ++ x ∷ []) xs rest all.1 later) in
       let whole : flat_map text (x ∷ xs) ++ rest ≡ text x ++ (flat_map text xs ++ rest) = ap (λ (ys : List ℕ). ys ++ rest) (flat_map-cons text x xs) ∙ append_assoc (text x) (flat_map text xs) rest in
-      subst (λ (ys : List ℕ). Reads (told before) ys report) (sym whole) behind
+      subst (λ (ys : List ℕ). Reads (told before) ys report) (sym whole) what_follows
 
 -- ---- devices
 
@@ -315,5 +315,5 @@ unfolding report_reading
 report_again r h =
     let headed = heading_again r.version r.wire h.keeps in
     let parts : pieces_of (text_of r) ≡ record { bytes = header_text r.version r.wire; ended = true } ∷ pieces_of (lines_text r) =
-    ap pieces_of (text_apart r) ∙ piece_behind (header_text r.version r.wire) (lines_text r) headed.plain.lacks in
+    ap pieces_of (text_apart r) ∙ piece_after (header_text r.version r.wire) (lines_text r) headed.plain.lacks in
     rw (parts, first_again r.version r.wire headed) (lines_again r h 2)

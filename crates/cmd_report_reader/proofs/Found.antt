@@ -95,8 +95,8 @@ record IsBegun (line : List ℕ) (s : SoFarView) : Type 0 where
   text : told_text s ≡ line ++ 10 ∷ []
   going : s.ended ≡ false
 
-behind_name : (name : List ℕ) (rest : Option (List ℕ)) (after : List ℕ) → name ≡ codes "xmpp-report" → rest ≡ Some after → with_rest name rest ≡ codes "xmpp-report " ++ after
-behind_name name rest after is then = rw (is, then) refl
+after_name : (name : List ℕ) (rest : Option (List ℕ)) (after : List ℕ) → name ≡ codes "xmpp-report" → rest ≡ Some after → with_rest name rest ≡ codes "xmpp-report " ++ after
+after_name name rest after is then = rw (is, then) refl
 
 heading_found : (line : List ℕ) (s : SoFarView) → read_heading line ≡ Ok s → IsBegun line s
 unfolding read_heading
@@ -107,7 +107,7 @@ heading_found line s e =
     let v = version_found d.0 s d.2 in
     let name = (bytes_eq-Decides b.0.front (codes "xmpp-report")).0 c.0 in
     let whole : line ≡ with_rest b.0.front b.0.rest = same_Some line (with_rest b.0.front b.0.rest) (next_is (Some line) b.0 b.1) in
-    let header : line ≡ header_text s.version s.wire = whole ∙ behind_name b.0.front b.0.rest (with_rest d.0.front d.0.rest) name (next_is b.0.rest d.0 d.1) ∙ sym v.text in
+    let header : line ≡ header_text s.version s.wire = whole ∙ after_name b.0.front b.0.rest (with_rest d.0.front d.0.rest) name (next_is b.0.rest d.0 d.1) ∙ sym v.text in
     record { text = v.bare ∙ ap (λ (xs : List ℕ). xs ++ 10 ∷ []) (sym header); going = v.going }
 
 -- ---- the lines behind it

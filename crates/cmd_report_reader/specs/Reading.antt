@@ -59,7 +59,7 @@ read_first piece = do
 unfoldable pub read_next : SoFarView → Piece → Result SoFarView LineWhy
 read_next so_far piece = do
   whole ← wants (spelled piece) why.Ending
-  behind ← wants (not so_far.ended) why.Word
+  what_follows ← wants (not so_far.ended) why.Word
   line ← read_words so_far.version (cut_of piece.bytes)
   add_line so_far line
 

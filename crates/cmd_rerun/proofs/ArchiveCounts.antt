@@ -11,12 +11,12 @@ use Rattle.cmd_journal.specs.AccountsFiles.{AccountsView}
 use Rattle.cmd_journal.specs.Journals.{Connect, EventView, Gone, InputView, Piece}
 use Rattle.cmd_journal.specs.declared.accounts_file.Registration.{Registration}
 use Rattle.cmd_journal.specs.Texts.{NamedView}
-use Rattle.sm_live.specs.Sessions.{told_of, waits, with_session, without}
-use Rattle.sm_live.specs.declared.told.Told.{Told}
+use Rattle.sm_live.specs.Sessions.{info_of, waits, with_session, without}
+use Rattle.sm_live.specs.declared.told.SessionInfo.{SessionInfo}
 use Rattle.im_replies.specs.Streams.{error_item}
 use Rattle.im_replies.specs.declared.conditions.StreamCondition.TheVariants.{ResourceConstraint}
-use Rattle.srv_state.specs.State.{Hall, Kept, Step, archive_at}
-use Rattle.srv_state.specs.Steps.{Act, Acknowledge, Archive, Ask, Bind, Close, Copy, Enable, Enter, Fail, Handle, Present, Resume, Say, Send, Tell, act, acted, appended, archived_in, ask_where, in_sessions, is_due, overflow, part_where, put_where, queue, send_told}
+use Rattle.srv_state.specs.State.{Kept, ServerState, Step, archive_at}
+use Rattle.srv_state.specs.Steps.{Act, Acknowledge, Archive, Ask, Bind, Close, Copy, Enable, Enter, Fail, Handle, Present, Resume, Say, Send, Tell, act, acted, appended, archived_in, ask_where, in_sessions, is_due, overflow, part_where, put_where, queue, send_by_info}
 use Rattle.srv_state.specs.Streams.{standing_at}
 use Rattle.cmd_rerun.specs.Reruns.{Run, accounts_at, after_event, after_events, archives_after, named_archives, run_at_start}
 use Rattle.cmd_schedule.specs.Schedules.{keep_of}
@@ -26,7 +26,7 @@ use Rattle.srv_core.specs.Table.{after_item, after_items, at_open}
 use Rattle.xml_writer.specs.Items.{ItemOut, written_item}
 
 abbrev count : {A : Type 0} → Step A → ℕ
-count s = length s.hall.archives
+count s = length s.server_state.archives
 
 -- ---- the small steps
 
@@ -47,15 +47,15 @@ same_ask_where say n o false s = refl
 same_ask_where say n None true s = refl
 same_ask_where say n (Some k) true s = refl
 
-same_queue : {A : Type 0} (say : ItemOut → A) (n : ℕ) (a : A) (t : Told) (s : Step A) → count (queue say n a t s) ≡ count s
+same_queue : {A : Type 0} (say : ItemOut → A) (n : ℕ) (a : A) (t : SessionInfo) (s : Step A) → count (queue say n a t s) ≡ count s
 same_queue say n a t s =
     same_ask_where say n t.conn (is_due t) (put_where t.conn a (in_sessions (with_session n (waits a)) s))
     ∙ same_put_where t.conn a (in_sessions (with_session n (waits a)) s)
 
-same_overflow : {A : Type 0} (say : ItemOut → A) (n : ℕ) (t : Told) (s : Step A) → count (overflow say n t s) ≡ count s
+same_overflow : {A : Type 0} (say : ItemOut → A) (n : ℕ) (t : SessionInfo) (s : Step A) → count (overflow say n t s) ≡ count s
 same_overflow say n t s = same_part_where say t.conn (say (error_item ResourceConstraint)) (in_sessions (without n) s)
 
-same_send : {A : Type 0} (say : ItemOut → A) (n : ℕ) (a : A) (o : Option Told) (s : Step A) → count (send_told say n a o s) ≡ count s
+same_send : {A : Type 0} (say : ItemOut → A) (n : ℕ) (a : A) (o : Option SessionInfo) (s : Step A) → count (send_by_info say n a o s) ≡ count s
 same_send say n a None s = refl
 same_send say n a (Some t) s =
     same_if (not t.counted) (put_where t.conn a s) (cond (t.waiting == MOST_UNACKNOWLEDGED) (overflow say n t s) (queue say n a t s)) (count s)
@@ -63,7 +63,7 @@ same_send say n a (Some t) s =
     (same_if (t.waiting == MOST_UNACKNOWLEDGED) (overflow say n t s) (queue say n a t s) (count s) (same_overflow say n t s) (same_queue say n a t s))
 
 -- an archive takes an entry and stays where it is
-same_archived : {A : Type 0} (e : EntryView) (account : ℕ) (o : Option Kept) (h : Hall A) → length (archived_in e account o h).archives ≡ length h.archives
+same_archived : {A : Type 0} (e : EntryView) (account : ℕ) (o : Option Kept) (h : ServerState A) → length (archived_in e account o h).archives ≡ length h.archives
 same_archived e account None h = refl
 same_archived e account (Some kept) h = length-set h.archives account (appended e kept)
 
@@ -80,8 +80,8 @@ same_act say (Ask n on) s = refl
 same_act say (Handle n) s = refl
 same_act say (Present n available priority) s = refl
 same_act say (Copy n on) s = refl
-same_act say (Send n a) s = same_send say n a (told_of n s.hall.sessions) s
-same_act say (Archive account e) s = same_archived e account (archive_at account s.hall) s.hall
+same_act say (Send n a) s = same_send say n a (info_of n s.server_state.sessions) s
+same_act say (Archive account e) s = same_archived e account (archive_at account s.server_state) s.server_state
 same_act say (Tell from to origin) s = refl
 
 same_acted : {A : Type 0} (say : ItemOut → A) (acts : List (Act A)) (s : Step A) → count (acted say acts s) ≡ count s
@@ -92,11 +92,11 @@ same_acted say (a ∷ more) s = same_acted say more (act say a s) ∙ same_act s
 
 same_items : {A : Type 0} (say : ItemOut → A) (k : ℕ) (items : List Item) (s : Step A) → count (after_items say k items s) ≡ count s
 same_items say k [] s = refl
-same_items say k (i ∷ items) s = same_items say k items (after_item say k i s) ∙ same_acted say (at_open say k i (standing_at k s.hall) s.hall) s
+same_items say k (i ∷ items) s = same_items say k items (after_item say k i s) ∙ same_acted say (at_open say k i (standing_at k s.server_state) s.server_state) s
 
 same_fault : {A : Type 0} (say : ItemOut → A) (k : ℕ) (o : Option Fault) (s : Step A) → count (after_fault say k o s) ≡ count s
 same_fault say k None s = refl
-same_fault say k (Some f) s = same_acted say (at_fault say k f (standing_at k s.hall) s.hall) s
+same_fault say k (Some f) s = same_acted say (at_fault say k f (standing_at k s.server_state) s.server_state) s
 
 same_turn : {A : Type 0} (say : ItemOut → A) (k : ℕ) (t : Turn) (s : Step A) → count (after_turn say k t s) ≡ count s
 same_turn say k t s = same_fault say k t.state.fault (after_items say k t.items s) ∙ same_items say k t.items s
@@ -105,12 +105,12 @@ same_piece : {A : Type 0} (say : ItemOut → A) (k : ℕ) (piece : List ℕ) (o 
 same_piece say k piece None s = refl
 same_piece say k piece (Some f) s = same_turn say k (turn_of piece f) s
 
-same_event : (event : EventView) (r : Run) → length (after_event event r).server.hall.archives ≡ length r.server.hall.archives
+same_event : (event : EventView) (r : Run) → length (after_event event r).server.server_state.archives ≡ length r.server.server_state.archives
 same_event (Connect k now entropy) r = refl
-same_event (Piece k now bytes) r = same_piece written_item k bytes (framer_at k r.server.framers) (begun now r.server.hall r.outs)
+same_event (Piece k now bytes) r = same_piece written_item k bytes (framer_at k r.server.framers) (begun now r.server.server_state r.outs)
 same_event (Gone k now) r = refl
 
-same_events : (events : List EventView) (r : Run) → length (after_events events r).server.hall.archives ≡ length r.server.hall.archives
+same_events : (events : List EventView) (r : Run) → length (after_events events r).server.server_state.archives ≡ length r.server.server_state.archives
 same_events [] r = refl
 same_events (event ∷ events) r = same_events events (after_event event r) ∙ same_event event r
 
@@ -129,5 +129,5 @@ names_of_all (r ∷ rs) (kept ∷ archives) many =
 pub accounts_told : (input : InputView) → map (λ (a : NamedView). a.name) (archives_after input) ≡ map (λ (r : Registration). r.name) input.accounts.accounts
 accounts_told input =
     let file = input.accounts in
-    names_of_all file.accounts (after_events input.events (run_at_start file)).server.hall.archives
+    names_of_all file.accounts (after_events input.events (run_at_start file)).server.server_state.archives
     (same_events input.events (run_at_start file) ∙ as_many_archives file.domain (keep_of file.version) file.accounts)

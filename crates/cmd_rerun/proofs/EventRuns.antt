@@ -1,7 +1,7 @@
 -- What an event makes of a server and its outputs.
 use Rattle.std.proofs.Common.{◌≡◌, ℕ, List, [], ◌∷◌, ap, subst, sym, ◌∙◌}
 use Rattle.srv_state.specs.Seen.{outs_of}
-use Rattle.srv_state.specs.State.{Hall, Out}
+use Rattle.srv_state.specs.State.{Out, ServerState}
 use Rattle.srv_state.specs.declared.output.Output.{Output}
 use Rattle.cmd_journal.specs.AccountsFiles.{AccountsView}
 use Rattle.cmd_journal.specs.Journals.{EventView, Piece}
@@ -9,10 +9,10 @@ use Rattle.cmd_rerun.specs.Reruns.{AreFresh, IsFresh, Run, after_event, after_ev
 use Rattle.srv_core.specs.Events.{Framers, IsAfterBytes, Whole, after_bytes, dropped, fed, framer_at, news, whole}
 use Rattle.xml_writer.specs.Items.{written_item}
 
-abbrev made : Hall (List ℕ) → Framers → List (Out (List ℕ)) → Run
+abbrev made : ServerState (List ℕ) → Framers → List (Out (List ℕ)) → Run
 made h framers outs = record { server = whole h framers; outs = outs }
 
-run_is : (h i : Hall (List ℕ)) (f g : Framers) (a b : List (Out (List ℕ))) → h ≡ i → f ≡ g → a ≡ b → made h f a ≡ made i g b
+run_is : (h i : ServerState (List ℕ)) (f g : Framers) (a b : List (Out (List ℕ))) → h ≡ i → f ≡ g → a ≡ b → made h f a ≡ made i g b
 run_is h i f g a b p q r = ap (λ x. made x f a) p ∙ ap (λ x. made i x a) q ∙ ap (λ x. made i g x) r
 
 -- the bytes of an event
@@ -20,8 +20,8 @@ pub piece_is : (k : ℕ) (bytes : List ℕ) (now : ℕ) (old new : Whole (List �
     → run_of new new_outs ≡ after_event (Piece k now bytes) (run_of old outs)
 piece_is k bytes now old new outs new_outs is =
     let done = after_bytes written_item k bytes now old (outs_of outs) in
-    run_is new.hall done.hall new.framers (dropped (news (outs_of outs) done.outs) (fed k bytes (framer_at k old.framers) old.framers)) (outs_of new_outs) done.outs
-    is.hall (is.framers_are ∙ ap (λ (o : List (Out (List ℕ))). dropped (news (outs_of outs) o) (fed k bytes (framer_at k old.framers) old.framers)) is.outputs) is.outputs
+    run_is new.server_state done.server_state new.framers (dropped (news (outs_of outs) done.outs) (fed k bytes (framer_at k old.framers) old.framers)) (outs_of new_outs) done.outs
+    is.server_state (is.framers_are ∙ ap (λ (o : List (Out (List ℕ))). dropped (news (outs_of outs) o) (fed k bytes (framer_at k old.framers) old.framers)) is.outputs) is.outputs
 
 -- ---- one event after another
 

@@ -21,13 +21,13 @@ line_more made more o left due is was =
 -- ---- archives
 
 -- what is left from a place on
-left_behind : {A : Type 0} (xs : List A) (i : ℕ) (x : A) → slice_get xs i ≡ Some x → drop i xs ≡ x ∷ drop (suc i) xs
-left_behind [] i x at = absurd (cc at)
-left_behind (y ∷ xs) zero x at = let same : y ≡ x = cc at in ap (λ z. z ∷ xs) same
-left_behind (y ∷ xs) (suc i) x at = left_behind xs i x at
+left_after : {A : Type 0} (xs : List A) (i : ℕ) (x : A) → slice_get xs i ≡ Some x → drop i xs ≡ x ∷ drop (suc i) xs
+left_after [] i x at = absurd (cc at)
+left_after (y ∷ xs) zero x at = let same : y ≡ x = cc at in ap (λ z. z ∷ xs) same
+left_after (y ∷ xs) (suc i) x at = left_after xs i x at
 
 left_at : {A : Type 0} (xs : List A) (i : ℕ) (x : A) → slice_get xs i ≡ Some x → drop i xs ≡ x ∷ drop (i + 1) xs
-left_at xs i x at = let next : i + 1 ≡ suc i = omega arith in rw next (left_behind xs i x at)
+left_at xs i x at = let next : i + 1 ≡ suc i = omega arith in rw next (left_after xs i x at)
 
 none_left : {A : Type 0} (xs : List A) (i : ℕ) → slice_get xs i ≡ None → drop i xs ≡ []
 none_left [] zero at = refl

@@ -17,13 +17,13 @@ use Rattle.xml_framer.specs.States as framing
 use Rattle.xml_framer.specs.States.{Turn}
 use Rattle.cmd_journal.specs.AccountsFiles.{AccountsView}
 use Rattle.cmd_journal.specs.Journals.{AreEvents, Connect, EventView, Gone, Piece, are_bytes, begun_last, is_connection, is_moment, may_happen}
-use Rattle.sm_live.specs.Sessions.{told_of, waits, with_session, without}
-use Rattle.sm_live.specs.declared.told.Told.{Told}
+use Rattle.sm_live.specs.Sessions.{info_of, waits, with_session, without}
+use Rattle.sm_live.specs.declared.told.SessionInfo.{SessionInfo}
 use Rattle.im_replies.specs.Streams.{error_item}
 use Rattle.im_replies.specs.declared.conditions.StreamCondition.TheVariants.{ResourceConstraint}
 use Rattle.srv_state.specs.Moments.{fresh_conn}
-use Rattle.srv_state.specs.State.{Hall, Kept, Out, Put, Shut, Step, Took, archive_at, changed, conn_at, is_number}
-use Rattle.srv_state.specs.Steps.{Act, Acknowledge, Archive, Ask, Bind, Close, Copy, Enable, Enter, Fail, Handle, Present, Resume, Say, Send, Tell, act, acted, after_failure, archived_in, ask_where, in_phase, in_sessions, is_due, overflow, part_where, put_where, queue, send_told}
+use Rattle.srv_state.specs.State.{Kept, Out, Put, ServerState, Shut, Step, Took, archive_at, changed, conn_at, is_number}
+use Rattle.srv_state.specs.Steps.{Act, Acknowledge, Archive, Ask, Bind, Close, Copy, Enable, Enter, Fail, Handle, Present, Resume, Say, Send, Tell, act, acted, after_failure, archived_in, ask_where, in_phase, in_sessions, is_due, overflow, part_where, put_where, queue, send_by_info}
 use Rattle.srv_state.specs.Streams.{standing_at}
 use Rattle.srv_state.specs.declared.connection.Connection.{Connection}
 use Rattle.cmd_rerun.specs.Reruns.{AreFresh, IsFresh, Run, after_event, run_at_start}
@@ -87,7 +87,7 @@ absent_above last k (e ∷ es) above below =
 -- ---- the small steps
 
 abbrev IsBelow : {A : Type 0} → ℕ → Step A → Type 0
-IsBelow last s = Below last s.hall.conns
+IsBelow last s = Below last s.server_state.conns
 
 step_if : {A : Type 0} (last : ℕ) (b : Bool) (t u : Step A) → IsBelow last t → IsBelow last u → IsBelow last (cond b t u)
 step_if last true t u p q = p
@@ -103,38 +103,38 @@ below_put_where last (Some k) a s below = below
 
 below_part_where : {A : Type 0} (say : ItemOut → A) (last : ℕ) (o : Option ℕ) (error : A) (s : Step A) → IsBelow last s → IsBelow last (part_where say o error s)
 below_part_where say last None error s below = below
-below_part_where say last (Some k) error s below = below_removed last (is_number k) s.hall.conns below
+below_part_where say last (Some k) error s below = below_removed last (is_number k) s.server_state.conns below
 
 below_ask_where : {A : Type 0} (say : ItemOut → A) (last n : ℕ) (o : Option ℕ) (b : Bool) (s : Step A) → IsBelow last s → IsBelow last (ask_where say n o b s)
 below_ask_where say last n o false s below = below
 below_ask_where say last n None true s below = below
 below_ask_where say last n (Some k) true s below = below
 
-below_queue : {A : Type 0} (say : ItemOut → A) (last n : ℕ) (a : A) (t : Told) (s : Step A) → IsBelow last s → IsBelow last (queue say n a t s)
+below_queue : {A : Type 0} (say : ItemOut → A) (last n : ℕ) (a : A) (t : SessionInfo) (s : Step A) → IsBelow last s → IsBelow last (queue say n a t s)
 below_queue say last n a t s below =
     below_ask_where say last n t.conn (is_due t) (put_where t.conn a (in_sessions (with_session n (waits a)) s))
     (below_put_where last t.conn a (in_sessions (with_session n (waits a)) s) below)
 
-below_overflow : {A : Type 0} (say : ItemOut → A) (last n : ℕ) (t : Told) (s : Step A) → IsBelow last s → IsBelow last (overflow say n t s)
+below_overflow : {A : Type 0} (say : ItemOut → A) (last n : ℕ) (t : SessionInfo) (s : Step A) → IsBelow last s → IsBelow last (overflow say n t s)
 below_overflow say last n t s below =
     below_part_where say last t.conn (say (error_item ResourceConstraint)) (in_sessions (without n) s) below
 
-below_send : {A : Type 0} (say : ItemOut → A) (last n : ℕ) (a : A) (o : Option Told) (s : Step A) → IsBelow last s → IsBelow last (send_told say n a o s)
+below_send : {A : Type 0} (say : ItemOut → A) (last n : ℕ) (a : A) (o : Option SessionInfo) (s : Step A) → IsBelow last s → IsBelow last (send_by_info say n a o s)
 below_send say last n a None s below = below
 below_send say last n a (Some t) s below =
     step_if last (not t.counted) (put_where t.conn a s) (cond (t.waiting == MOST_UNACKNOWLEDGED) (overflow say n t s) (queue say n a t s)) (below_put_where last t.conn a s below)
     (step_if last (t.waiting == MOST_UNACKNOWLEDGED) (overflow say n t s) (queue say n a t s) (below_overflow say last n t s below) (below_queue say last n a t s below))
 
-below_archived : {A : Type 0} (last : ℕ) (e : EntryView) (account : ℕ) (o : Option Kept) (h : Hall A) → Below last h.conns → Below last (archived_in e account o h).conns
+below_archived : {A : Type 0} (last : ℕ) (e : EntryView) (account : ℕ) (o : Option Kept) (h : ServerState A) → Below last h.conns → Below last (archived_in e account o h).conns
 below_archived last e account None h below = below
 below_archived last e account (Some kept) h below = below
 
 -- one step makes no connection
 below_act : {A : Type 0} (say : ItemOut → A) (last : ℕ) (a : Act A) (s : Step A) → IsBelow last s → IsBelow last (act say a s)
 below_act say last (Say k a) s below = below
-below_act say last (Close k) s below = below_removed last (is_number k) s.hall.conns below
-below_act say last (Enter k phase) s below = below_changed last k (in_phase phase) (conn_at k s.hall) s.hall.conns below
-below_act say last (Fail k left) s below = below_changed last k (after_failure left) (conn_at k s.hall) s.hall.conns below
+below_act say last (Close k) s below = below_removed last (is_number k) s.server_state.conns below
+below_act say last (Enter k phase) s below = below_changed last k (in_phase phase) (conn_at k s.server_state) s.server_state.conns below
+below_act say last (Fail k left) s below = below_changed last k (after_failure left) (conn_at k s.server_state) s.server_state.conns below
 below_act say last (Bind account resource k) s below = below
 below_act say last (Resume previd account h k) s below = below
 below_act say last (Enable n resume) s below = below
@@ -143,8 +143,8 @@ below_act say last (Ask n on) s below = below
 below_act say last (Handle n) s below = below
 below_act say last (Present n available priority) s below = below
 below_act say last (Copy n on) s below = below
-below_act say last (Send n a) s below = below_send say last n a (told_of n s.hall.sessions) s below
-below_act say last (Archive account e) s below = below_archived last e account (archive_at account s.hall) s.hall below
+below_act say last (Send n a) s below = below_send say last n a (info_of n s.server_state.sessions) s below
+below_act say last (Archive account e) s below = below_archived last e account (archive_at account s.server_state) s.server_state below
 below_act say last (Tell from to origin) s below = below
 
 below_acted : {A : Type 0} (say : ItemOut → A) (last : ℕ) (acts : List (Act A)) (s : Step A) → IsBelow last s → IsBelow last (acted say acts s)
@@ -156,11 +156,11 @@ below_acted say last (a ∷ more) s below = below_acted say last more (act say a
 below_items : {A : Type 0} (say : ItemOut → A) (last k : ℕ) (items : List Item) (s : Step A) → IsBelow last s → IsBelow last (after_items say k items s)
 below_items say last k [] s below = below
 below_items say last k (i ∷ items) s below =
-    below_items say last k items (after_item say k i s) (below_acted say last (at_open say k i (standing_at k s.hall) s.hall) s below)
+    below_items say last k items (after_item say k i s) (below_acted say last (at_open say k i (standing_at k s.server_state) s.server_state) s below)
 
 below_fault : {A : Type 0} (say : ItemOut → A) (last k : ℕ) (o : Option Fault) (s : Step A) → IsBelow last s → IsBelow last (after_fault say k o s)
 below_fault say last k None s below = below
-below_fault say last k (Some f) s below = below_acted say last (at_fault say k f (standing_at k s.hall) s.hall) s below
+below_fault say last k (Some f) s below = below_acted say last (at_fault say k f (standing_at k s.server_state) s.server_state) s below
 
 below_turn : {A : Type 0} (say : ItemOut → A) (last k : ℕ) (t : Turn) (s : Step A) → IsBelow last s → IsBelow last (after_turn say k t s)
 below_turn say last k t s below = below_fault say last k t.state.fault (after_items say k t.items s) (below_items say last k t.items s below)
@@ -186,7 +186,7 @@ below_dropped last (o ∷ outs) framers below = below_dropped last outs (dropped
 
 -- no connection and no framer has a number above the last
 abbrev IsUnder : {A : Type 0} → ℕ → Whole A → Type 0
-IsUnder last w = Below last w.hall.conns × Below last w.framers
+IsUnder last w = Below last w.server_state.conns × Below last w.framers
 
 comes_next : (last k moment : ℕ) (entropy : List ℕ) → IsTrue (may_happen last (Connect k moment entropy)) → last < k
 comes_next last k moment entropy may =
@@ -198,7 +198,7 @@ comes_next last k moment entropy may =
 fresh_event : (last : ℕ) (event : EventView) (w : Whole (List ℕ)) → IsTrue (may_happen last event) → IsUnder last w → IsFresh event w
 fresh_event last (Connect k now entropy) w may under =
     let next = comes_next last k now entropy may in
-    (absent_above last k w.hall.conns next under.0, absent_above last k w.framers next under.1)
+    (absent_above last k w.server_state.conns next under.0, absent_above last k w.framers next under.1)
 fresh_event last (Piece k now bytes) w may under = tt
 fresh_event last (Gone k now) w may under = tt
 
@@ -206,17 +206,17 @@ under_event : (last : ℕ) (event : EventView) (r : Run) → IsTrue (may_happen 
 under_event last (Connect k now entropy) r may under =
     let next = comes_next last k now entropy may in
     let more : last ≤ k = omega (arith, next) in (
-      below_inserted k k (fresh_conn entropy) r.server.hall.conns (omega arith) (below_more last k r.server.hall.conns more under.0),
+      below_inserted k k (fresh_conn entropy) r.server.server_state.conns (omega arith) (below_more last k r.server.server_state.conns more under.0),
       below_inserted k k (framing.from_start server_limits) r.server.framers (omega arith) (below_more last k r.server.framers more under.1),
     )
 under_event last (Piece k now bytes) r may under =
     let framer = framer_at k r.server.framers in (
-      below_piece written_item last k bytes framer (begun now r.server.hall r.outs) under.0,
+      below_piece written_item last k bytes framer (begun now r.server.server_state r.outs) under.0,
       below_dropped last (news r.outs (after_bytes written_item k bytes now r.server r.outs).outs) (fed k bytes framer r.server.framers)
           (below_fed last k bytes framer r.server.framers under.1),
     )
 under_event last (Gone k now) r may under =
-    (below_removed last (is_number k) r.server.hall.conns under.0, below_removed last (is_number k) r.server.framers under.1)
+    (below_removed last (is_number k) r.server.server_state.conns under.0, below_removed last (is_number k) r.server.framers under.1)
 
 events_fresh : (last : ℕ) (events : List EventView) (r : Run) → AreEvents last events → IsUnder last r.server → AreFresh events r
 events_fresh last [] r are under = tt

@@ -9,7 +9,7 @@ use Rattle.sm_acks.specs.declared.end.TooHigh.{TooHigh as TooHighCount}
 use Rattle.mam_archive.specs.Entries.{EntryView, entry_numbered}
 use Rattle.srv_state.specs.Handling.{counting}
 use Rattle.srv_state.specs.Logins.{answering, at_challenge, at_login, at_login_other, beginning, failing, negotiation_at}
-use Rattle.srv_state.specs.State.{Hall, Kept, archive_at, bare_address, session_address}
+use Rattle.srv_state.specs.State.{Kept, ServerState, archive_at, bare_address, session_address}
 use Rattle.srv_state.specs.Steps.{Act, Bind, Close, Resume, Say}
 use Rattle.srv_state.specs.Streams.{answering_header, at_any, at_header, awaits_header, closing, ending, ending_in, field_condition, header_condition, header_in, opening, parting, parting_where}
 use Rattle.srv_state.specs.Words.{word_of}
@@ -26,8 +26,8 @@ use Rattle.im_forwarding.specs.Results.{AskerView}
 use Rattle.xml_framer.specs.declared.fault.Fault.{Fault}
 use Rattle.xml_framer.specs.declared.items.Item.{Item}
 use Rattle.xml_framer.specs.declared.items.Item.TheVariants as item
-use Rattle.sm_live.specs.Sessions.{Session, ack_answer, ended_of, is_too_high, number_of, resume_answer, resume_ok, send_count, session_at, session_named, session_of, session_resumed, told, told_of}
-use Rattle.sm_live.specs.declared.told.Told.{Told}
+use Rattle.sm_live.specs.Sessions.{Session, ack_answer, ended_of, info_of, is_too_high, number_of, resume_answer, resume_ok, send_count, session_at, session_named, session_of, session_resumed, told}
+use Rattle.sm_live.specs.declared.told.SessionInfo.{SessionInfo}
 use Rattle.srv_login.specs.Headers.{header_answer}
 use Rattle.srv_login.specs.Negotiations.{LoginView, auth_answer, final_answer}
 use Rattle.srv_login.specs.declared.header_judgement.HeaderAnswer.{HeaderAnswer}
@@ -102,8 +102,8 @@ abbrev pub Enters : {A : Type 0} → ℕ → List (Session A) → List (Act A) �
 Enters j ss [] = ⊥
 Enters j ss (a ∷ more) = IsEntry j ss a × AreAllowed j ss more
 
-abbrev pub Fine : {A : Type 0} → ℕ → List (Session A) → List (Act A) → Type 0
-Fine j ss acts = AreAllowed j ss acts ⊎ Enters j ss acts
+abbrev pub Bounded : {A : Type 0} → ℕ → List (Session A) → List (Act A) → Type 0
+Bounded j ss acts = AreAllowed j ss acts ⊎ Enters j ss acts
 
 module _ {A : Type 0} (say : ItemOut → A) (j : ℕ) (ss : List (Session A)) where
   allowed_if : (b : Bool) (xs ys : List (Act A)) → AreAllowed j ss xs → AreAllowed j ss ys → AreAllowed j ss (cond b xs ys)
@@ -118,17 +118,17 @@ module _ {A : Type 0} (say : ItemOut → A) (j : ℕ) (ss : List (Session A)) wh
   closing_allowed : AreAllowed j ss (closing say j)
   closing_allowed = (inl refl, (inl refl, tt))
 
-  ending_at : (c : StreamCondition) (s : Stage) (entropy : List ℕ) (h : Hall A) → AreAllowed j ss (ending_in say j c s entropy h)
+  ending_at : (c : StreamCondition) (s : Stage) (entropy : List ℕ) (h : ServerState A) → AreAllowed j ss (ending_in say j c s entropy h)
   ending_at c stage.Start entropy h = (inl refl, (inl refl, (inl refl, (inl refl, tt))))
   ending_at c stage.Login entropy h = (inl refl, (inl refl, (inl refl, tt)))
   ending_at c stage.Challenge entropy h = (inl refl, (inl refl, (inl refl, tt)))
   ending_at c (stage.Restart account) entropy h = (inl refl, (inl refl, (inl refl, tt)))
   ending_at c (stage.Ready account) entropy h = (inl refl, (inl refl, (inl refl, tt)))
 
-  ending_allowed : (c : StreamCondition) (st : Standing) (h : Hall A) → AreAllowed j ss (ending say j c st h)
+  ending_allowed : (c : StreamCondition) (st : Standing) (h : ServerState A) → AreAllowed j ss (ending say j c st h)
   ending_allowed c st h = ending_at c st.stage st.entropy h
 
-  any_allowed : (w : Word) (st : Standing) (h : Hall A) → AreAllowed j ss (at_any say j w st h)
+  any_allowed : (w : Word) (st : Standing) (h : ServerState A) → AreAllowed j ss (at_any say j w st h)
   any_allowed (word.Stanza long read) st h = ending_allowed stream.UnsupportedStanzaType st h
   any_allowed (word.Enable resume) st h = ending_allowed stream.UnsupportedStanzaType st h
   any_allowed word.Request st h = ending_allowed stream.UnsupportedStanzaType st h
@@ -143,22 +143,22 @@ module _ {A : Type 0} (say : ItemOut → A) (j : ℕ) (ss : List (Session A)) wh
 
   -- ---- headers
 
-  opening_allowed : (entropy : List ℕ) (s : Stage) (h : Hall A) → AreAllowed j ss (opening say j entropy s h)
+  opening_allowed : (entropy : List ℕ) (s : Stage) (h : ServerState A) → AreAllowed j ss (opening say j entropy s h)
   opening_allowed entropy stage.Start h = (inl refl, (inl refl, (tt, tt)))
   opening_allowed entropy stage.Login h = (inl refl, (inl refl, (tt, tt)))
   opening_allowed entropy stage.Challenge h = (inl refl, (inl refl, (tt, tt)))
   opening_allowed entropy (stage.Restart account) h = (inl refl, (inl refl, (tt, tt)))
   opening_allowed entropy (stage.Ready account) h = (inl refl, (inl refl, (tt, tt)))
 
-  answer_allowed : (st : Standing) (a : HeaderAnswer) (h : Hall A) → AreAllowed j ss (answering_header say j st a h)
+  answer_allowed : (st : Standing) (a : HeaderAnswer) (h : ServerState A) → AreAllowed j ss (answering_header say j st a h)
   answer_allowed st Opens h = opening_allowed st.entropy st.stage h
   answer_allowed st (Refused why) h = ending_allowed (header_condition why) st h
 
-  header_by : (header : Header) (st : Standing) (b : Bool) (h : Hall A) → AreAllowed j ss (header_in say j header st b h)
+  header_by : (header : Header) (st : Standing) (b : Bool) (h : ServerState A) → AreAllowed j ss (header_in say j header st b h)
   header_by header st true h = answer_allowed st (header_answer h.domain header) h
   header_by header st false h = ending_allowed stream.UnsupportedStanzaType st h
 
-  header_allowed : (header : Header) (st : Standing) (h : Hall A) → AreAllowed j ss (at_header say j header st h)
+  header_allowed : (header : Header) (st : Standing) (h : ServerState A) → AreAllowed j ss (at_header say j header st h)
   header_allowed header st h = header_by header st (awaits_header st.stage) h
 
   -- ---- logins
@@ -177,7 +177,7 @@ module _ {A : Type 0} (say : ItemOut → A) (j : ℕ) (ss : List (Session A)) wh
   finishing_allowed left (Some (Ok login)) = (inl refl, (tt, tt))
   finishing_allowed left (Some (Err why)) = failing_allowed why left
 
-  other_allowed : (w : Word) (st : Standing) (h : Hall A) → AreAllowed j ss (at_login_other say j w st h)
+  other_allowed : (w : Word) (st : Standing) (h : ServerState A) → AreAllowed j ss (at_login_other say j w st h)
   other_allowed (word.Stanza long read) st h = ending_allowed stream.NotAuthorized st h
   other_allowed (word.Enable resume) st h = any_allowed (word.Enable resume) st h
   other_allowed word.Request st h = any_allowed word.Request st h
@@ -190,7 +190,7 @@ module _ {A : Type 0} (say : ItemOut → A) (j : ℕ) (ss : List (Session A)) wh
   other_allowed word.StreamError st h = any_allowed word.StreamError st h
   other_allowed word.Other st h = any_allowed word.Other st h
 
-  login_allowed : (w : Word) (st : Standing) (h : Hall A) → AreAllowed j ss (at_login say j w st h)
+  login_allowed : (w : Word) (st : Standing) (h : ServerState A) → AreAllowed j ss (at_login say j w st h)
   login_allowed (word.Auth e bad) st h = beginning_allowed st.tries (auth_answer e st.entropy h.accounts)
   login_allowed (word.Stanza long read) st h = other_allowed (word.Stanza long read) st h
   login_allowed (word.Enable resume) st h = other_allowed (word.Enable resume) st h
@@ -203,7 +203,7 @@ module _ {A : Type 0} (say : ItemOut → A) (j : ℕ) (ss : List (Session A)) wh
   login_allowed word.StreamError st h = other_allowed word.StreamError st h
   login_allowed word.Other st h = other_allowed word.Other st h
 
-  challenge_allowed : (w : Word) (st : Standing) (h : Hall A) → AreAllowed j ss (at_challenge say j w st h)
+  challenge_allowed : (w : Word) (st : Standing) (h : ServerState A) → AreAllowed j ss (at_challenge say j w st h)
   challenge_allowed (word.Response e bad) st h = finishing_allowed st.tries (option_map (final_answer e) (negotiation_at j h))
   challenge_allowed (word.Stanza long read) st h = other_allowed (word.Stanza long read) st h
   challenge_allowed (word.Enable resume) st h = other_allowed (word.Enable resume) st h
@@ -226,29 +226,29 @@ module _ {A : Type 0} (say : ItemOut → A) (j : ℕ) (ss : List (Session A)) wh
   telling_allowed m [] more all = all
   telling_allowed m (account ∷ accounts) more all = (tt, all)
 
-  delivered_allowed : (m : MessageView) (accounts : List ℕ) (n : ℕ) (o : Option Told) (h : Hall A) (more : List (Act A)) → AreAllowed j ss more → AreAllowed j ss (delivering_to say m accounts n o h more)
+  delivered_allowed : (m : MessageView) (accounts : List ℕ) (n : ℕ) (o : Option SessionInfo) (h : ServerState A) (more : List (Act A)) → AreAllowed j ss more → AreAllowed j ss (delivering_to say m accounts n o h more)
   delivered_allowed m accounts n None h more all = all
   delivered_allowed m accounts n (Some t) h more all = (tt, all)
 
-  delivering_allowed : (m : MessageView) (accounts numbers : List ℕ) (h : Hall A) (more : List (Act A)) → AreAllowed j ss more → AreAllowed j ss (delivering say m accounts numbers h more)
+  delivering_allowed : (m : MessageView) (accounts numbers : List ℕ) (h : ServerState A) (more : List (Act A)) → AreAllowed j ss more → AreAllowed j ss (delivering say m accounts numbers h more)
   delivering_allowed m accounts [] h more all = all
   delivering_allowed m accounts (n ∷ numbers) h more all =
-      delivered_allowed m accounts n (told_of n h.sessions) h (delivering say m accounts numbers h more) (delivering_allowed m accounts numbers h more all)
+      delivered_allowed m accounts n (info_of n h.sessions) h (delivering say m accounts numbers h more) (delivering_allowed m accounts numbers h more all)
 
-  copied_allowed : (sent : Bool) (m : MessageView) (accounts : List ℕ) (n : ℕ) (o : Option Told) (h : Hall A) (more : List (Act A)) → AreAllowed j ss more → AreAllowed j ss (copying_to say sent m accounts n o h more)
+  copied_allowed : (sent : Bool) (m : MessageView) (accounts : List ℕ) (n : ℕ) (o : Option SessionInfo) (h : ServerState A) (more : List (Act A)) → AreAllowed j ss more → AreAllowed j ss (copying_to say sent m accounts n o h more)
   copied_allowed sent m accounts n None h more all = all
   copied_allowed sent m accounts n (Some t) h more all = (tt, all)
 
-  copying_allowed : (sent : Bool) (m : MessageView) (accounts numbers : List ℕ) (h : Hall A) (more : List (Act A)) → AreAllowed j ss more → AreAllowed j ss (copying say sent m accounts numbers h more)
+  copying_allowed : (sent : Bool) (m : MessageView) (accounts numbers : List ℕ) (h : ServerState A) (more : List (Act A)) → AreAllowed j ss more → AreAllowed j ss (copying say sent m accounts numbers h more)
   copying_allowed sent m accounts [] h more all = all
   copying_allowed sent m accounts (n ∷ numbers) h more all =
-      copied_allowed sent m accounts n (told_of n h.sessions) h (copying say sent m accounts numbers h more) (copying_allowed sent m accounts numbers h more all)
+      copied_allowed sent m accounts n (info_of n h.sessions) h (copying say sent m accounts numbers h more) (copying_allowed sent m accounts numbers h more all)
 
-  carrying_allowed : (m : MessageView) (accounts : List ℕ) (r : RouteOf ℕ) (h : Hall A) → AreAllowed j ss (carrying say m accounts r h)
+  carrying_allowed : (m : MessageView) (accounts : List ℕ) (r : RouteOf ℕ) (h : ServerState A) → AreAllowed j ss (carrying say m accounts r h)
   carrying_allowed m accounts r h =
       archiving_allowed _ accounts _ (telling_allowed m accounts _ (delivering_allowed m accounts r.deliver h _ (copying_allowed true m accounts r.sent h _ (copying_allowed false m accounts r.received h [] tt))))
 
-  messaging_allowed : (m : MessageView) (to : List ℕ) (t : Told) (p : PlanOf ℕ) (h : Hall A) → AreAllowed j ss (messaging say m to t p h)
+  messaging_allowed : (m : MessageView) (to : List ℕ) (t : SessionInfo) (p : PlanOf ℕ) (h : ServerState A) → AreAllowed j ss (messaging say m to t p h)
   messaging_allowed m to t (Bounced e) h = (tt, tt)
   messaging_allowed m to t (Routed r) h = allowed_if (is_full_in (archives_of r.archiving) h) _ _ (tt, tt) (carrying_allowed (addressed (session_address t.number h) to m) (archives_of r.archiving) r h)
 
@@ -263,15 +263,15 @@ module _ {A : Type 0} (say : ItemOut → A) (j : ℕ) (ss : List (Session A)) wh
   entries_allowed n asker entries (number ∷ numbers) more all =
       entry_allowed n asker (entry_numbered number entries) (sending_entries say n asker entries numbers more) (entries_allowed n asker entries numbers more all)
 
-  paging_allowed : (q : IqView) (t : Told) (queryid : List ℕ) (kept : Kept) (cut : Option CutView) (h : Hall A) → AreAllowed j ss (paging say q t queryid kept cut h)
+  paging_allowed : (q : IqView) (t : SessionInfo) (queryid : List ℕ) (kept : Kept) (cut : Option CutView) (h : ServerState A) → AreAllowed j ss (paging say q t queryid kept cut h)
   paging_allowed q t queryid kept None h = (tt, tt)
   paging_allowed q t queryid kept (Some cut) h = entries_allowed t.number (asker_of t queryid h) kept.entries cut.numbers _ (tt, tt)
 
-  querying_allowed : (q : IqView) (t : Told) (query : MamQuery) (kept : Option Kept) (h : Hall A) → AreAllowed j ss (querying_in say q t query kept h)
+  querying_allowed : (q : IqView) (t : SessionInfo) (query : MamQuery) (kept : Option Kept) (h : ServerState A) → AreAllowed j ss (querying_in say q t query kept h)
   querying_allowed q t query None h = tt
   querying_allowed q t query (Some kept) h = paging_allowed q t query.queryid kept (page_of (kept_by kept.owner kept.entries) query.query) h
 
-  serving_allowed : (asked : Option Request) (q : IqView) (t : Told) (h : Hall A) → AreAllowed j ss (serving say asked q t h)
+  serving_allowed : (asked : Option Request) (q : IqView) (t : SessionInfo) (h : ServerState A) → AreAllowed j ss (serving say asked q t h)
   serving_allowed None q t h = tt
   serving_allowed (Some request.Ping) q t h = (tt, tt)
   serving_allowed (Some (request.Info at_domain)) q t h = (tt, tt)
@@ -284,28 +284,28 @@ module _ {A : Type 0} (say : ItemOut → A) (j : ℕ) (ss : List (Session A)) wh
 
   -- ---- stanzas
 
-  returning_allowed : (kind : PresenceKind) (to : List ℕ) (p : Presence) (t : Told) → AreAllowed j ss (returning say kind to p t)
+  returning_allowed : (kind : PresenceKind) (to : List ℕ) (p : Presence) (t : SessionInfo) → AreAllowed j ss (returning say kind to p t)
   returning_allowed Available to p t = (tt, tt)
   returning_allowed Unavailable to p t = tt
   returning_allowed Error to p t = tt
   returning_allowed Other to p t = (tt, tt)
 
-  directing_allowed : (here : Bool) (kind : PresenceKind) (to : List ℕ) (p : Presence) (t : Told) → AreAllowed j ss (directing say here kind to p t)
+  directing_allowed : (here : Bool) (kind : PresenceKind) (to : List ℕ) (p : Presence) (t : SessionInfo) → AreAllowed j ss (directing say here kind to p t)
   directing_allowed true kind to p t = tt
   directing_allowed false kind to p t = returning_allowed kind to p t
 
-  presenting_allowed : (o : Option (List ℕ)) (kind : PresenceKind) (p : Presence) (t : Told) (h : Hall A) → AreAllowed j ss (presenting say o kind p t h)
+  presenting_allowed : (o : Option (List ℕ)) (kind : PresenceKind) (p : Presence) (t : SessionInfo) (h : ServerState A) → AreAllowed j ss (presenting say o kind p t h)
   presenting_allowed (Some to) kind p t h = directing_allowed (is_local to h) kind to p t
   presenting_allowed None Available p t h = (tt, tt)
   presenting_allowed None Unavailable p t h = (tt, tt)
   presenting_allowed None Error p t h = tt
   presenting_allowed None Other p t h = tt
 
-  bad_to_allowed : (message reply : Bool) (id to : List ℕ) (t : Told) (h : Hall A) → AreAllowed j ss (at_bad_to say message reply id to t h)
+  bad_to_allowed : (message reply : Bool) (id to : List ℕ) (t : SessionInfo) (h : ServerState A) → AreAllowed j ss (at_bad_to say message reply id to t h)
   bad_to_allowed message false id to t h = tt
   bad_to_allowed message true id to t h = (tt, tt)
 
-  handling_allowed : (read : Result Stanza StanzaFault) (t : Told) (h : Hall A) → AreAllowed j ss (handling say read t h)
+  handling_allowed : (read : Result Stanza StanzaFault) (t : SessionInfo) (h : ServerState A) → AreAllowed j ss (handling say read t h)
   handling_allowed (Ok (stanza.Message m)) t h = messaging_allowed m (unwrap_or m.to (bare_address t.account h)) t (plan_renamed number_of (plan_of h.domain h.accounts h.sessions m t)) h
   handling_allowed (Ok (stanza.Presence p)) t h = presenting_allowed p.to p.kind p t h
   handling_allowed (Ok (stanza.Iq q)) t h = serving_allowed (request_of q t h) q t h
@@ -315,23 +315,23 @@ module _ {A : Type 0} (say : ItemOut → A) (j : ℕ) (ss : List (Session A)) wh
   handling_allowed (Err fault.BadFormat) t h = tt
   handling_allowed (Err fault.NoMemory) t h = tt
 
-  counting_allowed : (t : Told) (acts : List (Act A)) → AreAllowed j ss acts → AreAllowed j ss (counting t acts)
+  counting_allowed : (t : SessionInfo) (acts : List (Act A)) → AreAllowed j ss acts → AreAllowed j ss (counting t acts)
   counting_allowed t acts all = allowed_if t.counted _ acts (tt, all) all
 
-  judging_allowed : (read : Result Stanza StanzaFault) (t : Told) (st : Standing) (o : Option StreamCondition) (h : Hall A) → AreAllowed j ss (judging say j read t st o h)
+  judging_allowed : (read : Result Stanza StanzaFault) (t : SessionInfo) (st : Standing) (o : Option StreamCondition) (h : ServerState A) → AreAllowed j ss (judging say j read t st o h)
   judging_allowed read t st None h = counting_allowed t (handling say read t h) (handling_allowed read t h)
   judging_allowed read t st (Some condition) h = ending_allowed condition st h
 
-  stanza_allowed : (long : Bool) (read : Result Stanza StanzaFault) (t : Told) (st : Standing) (h : Hall A) → AreAllowed j ss (at_stanza say j long read t st h)
+  stanza_allowed : (long : Bool) (read : Result Stanza StanzaFault) (t : SessionInfo) (st : Standing) (h : ServerState A) → AreAllowed j ss (at_stanza say j long read t st h)
   stanza_allowed true read t st h = ending_allowed stream.PolicyViolation st h
   stanza_allowed false read t st h = judging_allowed read t st (stanza_condition read t h) h
 
   -- ---- acknowledgements
 
-  enable_allowed : (resume : Bool) (t : Told) → AreAllowed j ss (at_enable say j resume t)
+  enable_allowed : (resume : Bool) (t : SessionInfo) → AreAllowed j ss (at_enable say j resume t)
   enable_allowed resume t = allowed_if t.counted _ _ (inl refl, tt) (tt, (inl refl, tt))
 
-  request_allowed : (t : Told) → AreAllowed j ss (at_request say j t)
+  request_allowed : (t : SessionInfo) → AreAllowed j ss (at_request say j t)
   request_allowed t = allowed_if t.counted _ _ (inl refl, tt) (inl refl, tt)
 
   acknowledged_allowed : (n h : ℕ) (o : Option (Result ℕ TooHighCount)) → AreAllowed j ss (acknowledging say j n h o)
@@ -339,10 +339,10 @@ module _ {A : Type 0} (say : ItemOut → A) (j : ℕ) (ss : List (Session A)) wh
   acknowledged_allowed n h (Some (Ok more)) = (tt, (tt, tt))
   acknowledged_allowed n h (Some (Err why)) = (inl refl, (inl refl, (inl refl, tt)))
 
-  ack_allowed : (h : ℕ) (t : Told) (hall : Hall A) → AreAllowed j ss (at_ack say j h t hall)
-  ack_allowed h t hall = allowed_if t.counted _ _ (acknowledged_allowed t.number h (option_map (ack_answer h) (session_of t.number hall.sessions))) (inl refl, tt)
+  ack_allowed : (h : ℕ) (t : SessionInfo) (server_state : ServerState A) → AreAllowed j ss (at_ack say j h t server_state)
+  ack_allowed h t server_state = allowed_if t.counted _ _ (acknowledged_allowed t.number h (option_map (ack_answer h) (session_of t.number server_state.sessions))) (inl refl, tt)
 
-  bound_allowed : (w : Word) (t : Told) (st : Standing) (h : Hall A) → AreAllowed j ss (at_bound say j w t st h)
+  bound_allowed : (w : Word) (t : SessionInfo) (st : Standing) (h : ServerState A) → AreAllowed j ss (at_bound say j w t st h)
   bound_allowed (word.Stanza long read) t st h = stanza_allowed long read t st h
   bound_allowed (word.Enable resume) t st h = enable_allowed resume t
   bound_allowed word.Request t st h = request_allowed t
@@ -373,9 +373,9 @@ module _ {A : Type 0} (say : ItemOut → A) (j : ℕ) (ss : List (Session A)) wh
   ended_known None these = tt
   ended_known (Some s) these = conn_known s.shown.conn (λ x none. these x none)
 
-  binding_fine : (account : ℕ) (id : List ℕ) (o : Option (List ℕ)) (h : Hall A) → h.sessions ≡ ss → NoneAt j ss → Fine j ss (binding_as say j account id o h)
-  binding_fine account id None h same none = inl (inl refl, tt)
-  binding_fine account id (Some resource) h same none = inr (
+  binding_bounded : (account : ℕ) (id : List ℕ) (o : Option (List ℕ)) (h : ServerState A) → h.sessions ≡ ss → NoneAt j ss → Bounded j ss (binding_as say j account id o h)
+  binding_bounded account id None h same none = inl (inl refl, tt)
+  binding_bounded account id (Some resource) h same none = inr (
     (refl, none),
     former_allowed _ _ _ (ended_known (session_named account resource h.sessions) (λ x away. each_found (IsAway x) _ h.sessions (subst (NoneAt x) (sym same) away))) (inl refl, tt),
   )
@@ -388,76 +388,76 @@ module _ {A : Type 0} (say : ItemOut → A) (j : ℕ) (ss : List (Session A)) wh
   asking_allowed n true = (tt, (inl refl, tt))
   asking_allowed n false = tt
 
-  resumed_fine : (account : ℕ) (previd : List ℕ) (h : ℕ) (s : Session A) (waiting : List A) → IsOfThese (Some s) → NoneAt j ss → Fine j ss (resuming say j account previd h (resume_answer h (Some s)) waiting)
-  resumed_fine account previd h s waiting these none =
+  resumed_bounded : (account : ℕ) (previd : List ℕ) (h : ℕ) (s : Session A) (waiting : List A) → IsOfThese (Some s) → NoneAt j ss → Bounded j ss (resuming say j account previd h (resume_answer h (Some s)) waiting)
+  resumed_bounded account previd h s waiting these none =
       let known = conn_known s.shown.conn (λ x away. these x away) in
-      cond_both (is_too_high h s) (too_high s) (Ok (resume_ok s)) (λ r. Fine j ss (resuming say j account previd h r waiting))
+      cond_both (is_too_high h s) (too_high s) (Ok (resume_ok s)) (λ r. Bounded j ss (resuming say j account previd h r waiting))
       (λ e. inr ((refl, none), (inl refl, (inl refl, (inl refl, former_allowed s.shown.conn _ [] known tt)))))
       (λ e. inr ((refl, none), (tt, former_allowed s.shown.conn _ _ known (inl refl, saying_allowed waiting _ (asking_allowed s.shown.number (nat_le ASKS_AT (length waiting)))))))
     where
       too_high : Session A → Result ResumeOk ResumeFault
       too_high t = Err (TooHigh h (send_count t) t.shown.conn)
 
-  resuming_fine : (account : ℕ) (previd : List ℕ) (h : ℕ) (o : Option (Session A)) (waiting : List A) → IsOfThese o → NoneAt j ss → Fine j ss (resuming say j account previd h (resume_answer h o) waiting)
-  resuming_fine account previd h None waiting these none = inl (inl refl, tt)
-  resuming_fine account previd h (Some s) waiting these none = resumed_fine account previd h s waiting these none
+  resuming_bounded : (account : ℕ) (previd : List ℕ) (h : ℕ) (o : Option (Session A)) (waiting : List A) → IsOfThese o → NoneAt j ss → Bounded j ss (resuming say j account previd h (resume_answer h o) waiting)
+  resuming_bounded account previd h None waiting these none = inl (inl refl, tt)
+  resuming_bounded account previd h (Some s) waiting these none = resumed_bounded account previd h s waiting these none
 
-  resume_fine : (account : ℕ) (previd : List ℕ) (h : ℕ) (hall : Hall A) → hall.sessions ≡ ss → NoneAt j ss → Fine j ss (at_resume say j account previd h hall)
-  resume_fine account previd h hall same none =
-      let found = session_resumed previd account hall.sessions in
-      resuming_fine account previd h found (resent_where h found) (λ x away. each_found (IsAway x) _ hall.sessions (subst (NoneAt x) (sym same) away)) none
+  resume_bounded : (account : ℕ) (previd : List ℕ) (h : ℕ) (server_state : ServerState A) → server_state.sessions ≡ ss → NoneAt j ss → Bounded j ss (at_resume say j account previd h server_state)
+  resume_bounded account previd h server_state same none =
+      let found = session_resumed previd account server_state.sessions in
+      resuming_bounded account previd h found (resent_where h found) (λ x away. each_found (IsAway x) _ server_state.sessions (subst (NoneAt x) (sym same) away)) none
 
   -- ---- the phase behind a login
 
-  ready_iq_fine : (account : ℕ) (kind : IqKind) (q : IqView) (bind : Option Elem) (st : Standing) (h : Hall A) → h.sessions ≡ ss → NoneAt j ss → Fine j ss (ready_iq say j account kind q bind st h)
-  ready_iq_fine account iq.Set q (Some bind) st h same none = binding_fine account q.id (result_ok (chosen h.next (asked_resource bind))) h same none
-  ready_iq_fine account iq.Set q None st h same none = inl (ending_allowed stream.NotAuthorized st h)
-  ready_iq_fine account iq.Get q bind st h same none = inl (ending_allowed stream.NotAuthorized st h)
-  ready_iq_fine account iq.Result q bind st h same none = inl (ending_allowed stream.NotAuthorized st h)
-  ready_iq_fine account iq.Error q bind st h same none = inl (ending_allowed stream.NotAuthorized st h)
+  ready_iq_bounded : (account : ℕ) (kind : IqKind) (q : IqView) (bind : Option Elem) (st : Standing) (h : ServerState A) → h.sessions ≡ ss → NoneAt j ss → Bounded j ss (ready_iq say j account kind q bind st h)
+  ready_iq_bounded account iq.Set q (Some bind) st h same none = binding_bounded account q.id (result_ok (chosen h.next (asked_resource bind))) h same none
+  ready_iq_bounded account iq.Set q None st h same none = inl (ending_allowed stream.NotAuthorized st h)
+  ready_iq_bounded account iq.Get q bind st h same none = inl (ending_allowed stream.NotAuthorized st h)
+  ready_iq_bounded account iq.Result q bind st h same none = inl (ending_allowed stream.NotAuthorized st h)
+  ready_iq_bounded account iq.Error q bind st h same none = inl (ending_allowed stream.NotAuthorized st h)
 
-  ready_stanza_fine : (account : ℕ) (read : Result Stanza StanzaFault) (st : Standing) (h : Hall A) → h.sessions ≡ ss → NoneAt j ss → Fine j ss (ready_stanza say j account read st h)
-  ready_stanza_fine account (Ok (stanza.Iq q)) st h same none = ready_iq_fine account q.kind q (first_named binding _ q.payload) st h same none
-  ready_stanza_fine account (Ok (stanza.Message m)) st h same none = inl (ending_allowed stream.NotAuthorized st h)
-  ready_stanza_fine account (Ok (stanza.Presence p)) st h same none = inl (ending_allowed stream.NotAuthorized st h)
-  ready_stanza_fine account (Err why) st h same none = inl (ending_allowed stream.NotAuthorized st h)
+  ready_stanza_bounded : (account : ℕ) (read : Result Stanza StanzaFault) (st : Standing) (h : ServerState A) → h.sessions ≡ ss → NoneAt j ss → Bounded j ss (ready_stanza say j account read st h)
+  ready_stanza_bounded account (Ok (stanza.Iq q)) st h same none = ready_iq_bounded account q.kind q (first_named binding _ q.payload) st h same none
+  ready_stanza_bounded account (Ok (stanza.Message m)) st h same none = inl (ending_allowed stream.NotAuthorized st h)
+  ready_stanza_bounded account (Ok (stanza.Presence p)) st h same none = inl (ending_allowed stream.NotAuthorized st h)
+  ready_stanza_bounded account (Err why) st h same none = inl (ending_allowed stream.NotAuthorized st h)
 
-  ready_fine : (account : ℕ) (w : Word) (st : Standing) (h : Hall A) → h.sessions ≡ ss → NoneAt j ss → Fine j ss (at_ready say j account w st h)
-  ready_fine account (word.Stanza long read) st h same none = ready_stanza_fine account read st h same none
-  ready_fine account (word.Resume previd handled) st h same none = resume_fine account previd handled h same none
-  ready_fine account (word.Enable resume) st h same none = inl (inl refl, tt)
-  ready_fine account word.Request st h same none = inl (inl refl, tt)
-  ready_fine account (word.Ack handled) st h same none = inl (inl refl, tt)
-  ready_fine account (word.Auth e bad) st h same none = inl (any_allowed (word.Auth e bad) st h)
-  ready_fine account (word.Response e bad) st h same none = inl (any_allowed (word.Response e bad) st h)
-  ready_fine account word.Abort st h same none = inl (any_allowed word.Abort st h)
-  ready_fine account word.BadField st h same none = inl (any_allowed word.BadField st h)
-  ready_fine account word.StreamError st h same none = inl (any_allowed word.StreamError st h)
-  ready_fine account word.Other st h same none = inl (any_allowed word.Other st h)
+  ready_bounded : (account : ℕ) (w : Word) (st : Standing) (h : ServerState A) → h.sessions ≡ ss → NoneAt j ss → Bounded j ss (at_ready say j account w st h)
+  ready_bounded account (word.Stanza long read) st h same none = ready_stanza_bounded account read st h same none
+  ready_bounded account (word.Resume previd handled) st h same none = resume_bounded account previd handled h same none
+  ready_bounded account (word.Enable resume) st h same none = inl (inl refl, tt)
+  ready_bounded account word.Request st h same none = inl (inl refl, tt)
+  ready_bounded account (word.Ack handled) st h same none = inl (inl refl, tt)
+  ready_bounded account (word.Auth e bad) st h same none = inl (any_allowed (word.Auth e bad) st h)
+  ready_bounded account (word.Response e bad) st h same none = inl (any_allowed (word.Response e bad) st h)
+  ready_bounded account word.Abort st h same none = inl (any_allowed word.Abort st h)
+  ready_bounded account word.BadField st h same none = inl (any_allowed word.BadField st h)
+  ready_bounded account word.StreamError st h same none = inl (any_allowed word.StreamError st h)
+  ready_bounded account word.Other st h same none = inl (any_allowed word.Other st h)
 
-  either_fine : (account : ℕ) (w : Word) (o : Option (Session A)) (st : Standing) (h : Hall A) → h.sessions ≡ ss → session_at j ss ≡ o → Fine j ss (at_ready_or_bound say j account w (option_map told o) st h)
-  either_fine account w None st h same is = ready_fine account w st h same (none_found j ss is)
-  either_fine account w (Some s) st h same is = inl (bound_allowed w (told s) st h)
+  either_bounded : (account : ℕ) (w : Word) (o : Option (Session A)) (st : Standing) (h : ServerState A) → h.sessions ≡ ss → session_at j ss ≡ o → Bounded j ss (at_ready_or_bound say j account w (option_map told o) st h)
+  either_bounded account w None st h same is = ready_bounded account w st h same (none_found j ss is)
+  either_bounded account w (Some s) st h same is = inl (bound_allowed w (told s) st h)
 
 -- ---- any item
 
 module _ {A : Type 0} (say : ItemOut → A) (j : ℕ) where
-  word_fine : (w : Word) (s : Stage) (st : Standing) (h : Hall A) → Fine j h.sessions (at_word say j w s st h)
-  word_fine w stage.Login st h = inl (login_allowed say j h.sessions w st h)
-  word_fine w stage.Challenge st h = inl (challenge_allowed say j h.sessions w st h)
-  word_fine w (stage.Ready account) st h = either_fine say j h.sessions account w (session_at j h.sessions) st h refl refl
-  word_fine w stage.Start st h = inl (any_allowed say j h.sessions w st h)
-  word_fine w (stage.Restart account) st h = inl (any_allowed say j h.sessions w st h)
+  word_bounded : (w : Word) (s : Stage) (st : Standing) (h : ServerState A) → Bounded j h.sessions (at_word say j w s st h)
+  word_bounded w stage.Login st h = inl (login_allowed say j h.sessions w st h)
+  word_bounded w stage.Challenge st h = inl (challenge_allowed say j h.sessions w st h)
+  word_bounded w (stage.Ready account) st h = either_bounded say j h.sessions account w (session_at j h.sessions) st h refl refl
+  word_bounded w stage.Start st h = inl (any_allowed say j h.sessions w st h)
+  word_bounded w (stage.Restart account) st h = inl (any_allowed say j h.sessions w st h)
 
-  item_fine : (i : Item) (st : Standing) (h : Hall A) → Fine j h.sessions (at_item say j i st h)
-  item_fine (item.Header at header) st h = inl (header_allowed say j h.sessions header st h)
-  item_fine (item.Element e) st h = word_fine (word_of e) st.stage st h
-  item_fine item.Footer st h = inl (closing_allowed say j h.sessions)
+  item_bounded : (i : Item) (st : Standing) (h : ServerState A) → Bounded j h.sessions (at_item say j i st h)
+  item_bounded (item.Header at header) st h = inl (header_allowed say j h.sessions header st h)
+  item_bounded (item.Element e) st h = word_bounded (word_of e) st.stage st h
+  item_bounded item.Footer st h = inl (closing_allowed say j h.sessions)
 
-  pub open_fine : (i : Item) (o : Option Standing) (h : Hall A) → Fine j h.sessions (at_open say j i o h)
-  open_fine i None h = inl tt
-  open_fine i (Some st) h = item_fine i st h
+  pub open_bounded : (i : Item) (o : Option Standing) (h : ServerState A) → Bounded j h.sessions (at_open say j i o h)
+  open_bounded i None h = inl tt
+  open_bounded i (Some st) h = item_bounded i st h
 
-  pub fault_allowed : (f : Fault) (o : Option Standing) (h : Hall A) → AreAllowed j h.sessions (at_fault say j f o h)
+  pub fault_allowed : (f : Fault) (o : Option Standing) (h : ServerState A) → AreAllowed j h.sessions (at_fault say j f o h)
   fault_allowed f None h = tt
   fault_allowed f (Some st) h = ending_allowed say j h.sessions (fault_condition f.why) st h

@@ -3,7 +3,7 @@ use Rattle.std.proofs.Common.{◌≡◌, ◌==◌, ℕ, Bool, true, false, not, 
 use Rattle.std.proofs.lemmas.Bool.{cases_Bool, cond_both, eq-eqb, eqb-true, false≢true}
 use Rattle.std.specs.List.{AllByRecursion, filter, find}
 use Rattle.std.specs.Option.{option_map}
-use Rattle.sm_live.specs.Sessions.{Session, after_resume, bound, fresh, is_at, is_too_high, less, lost, parked, resumes, session_at, session_named, told, told_of, with_session, without, without_at}
+use Rattle.sm_live.specs.Sessions.{Session, after_resume, bound, fresh, info_of, is_at, is_too_high, less, lost, parked, resumes, session_at, session_named, told, with_session, without, without_at}
 use Rattle.sm_resumption.specs.Rows.{is_some_number}
 use Rattle.cmd_rerun.proofs.Entries.{apart_eqb, is_same}
 
@@ -39,7 +39,7 @@ module _ {A : Type 0} (Q : ℕ → Option ℕ → Type 0) where
   told_is None is = tt
   told_is (Some s) is = is
 
-  pub each_told : (n : ℕ) (ss : List (Session A)) → EachIs Q ss → IfSome (told_of n ss) (λ t. Q t.number t.conn)
+  pub each_told : (n : ℕ) (ss : List (Session A)) → EachIs Q ss → IfSome (info_of n ss) (λ t. Q t.number t.conn)
   each_told n ss each = told_is (find (λ s. s.shown.number == n) ss) (each_found (λ s. s.shown.number == n) ss each)
 
   pub each_less : (o : Option (Session A)) (ss : List (Session A)) → EachIs Q ss → EachIs Q (less o ss)

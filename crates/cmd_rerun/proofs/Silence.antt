@@ -4,17 +4,17 @@ use Rattle.std.proofs.lemmas.Bool.{cases_Bool}
 use Rattle.std.specs.List.{AllByRecursion}
 use Rattle.sm_acks.specs.declared.end.TheConstants.{MOST_UNACKNOWLEDGED}
 use Rattle.srv_state.specs.State.{Out, Put, Shut, Step, Took, is_number}
-use Rattle.srv_state.specs.Steps.{Act, Acknowledge, Archive, Ask, Bind, Close, Copy, Enable, Enter, Fail, Handle, Present, Resume, Say, Send, Tell, act, acted, ask_where, in_sessions, is_due, overflow, part_where, put_where, queue, send_told}
+use Rattle.srv_state.specs.Steps.{Act, Acknowledge, Archive, Ask, Bind, Close, Copy, Enable, Enter, Fail, Handle, Present, Resume, Say, Send, Tell, act, acted, ask_where, in_sessions, is_due, overflow, part_where, put_where, queue, send_by_info}
 use Rattle.srv_state.specs.Streams.{standing_at}
 use Rattle.xml_framer.specs.declared.items.Item.{Item}
-use Rattle.sm_live.specs.Sessions.{Session, session_resumed, told_of, waits, with_session, without}
-use Rattle.sm_live.specs.declared.told.Told.{Told}
+use Rattle.sm_live.specs.Sessions.{Session, info_of, session_resumed, waits, with_session, without}
+use Rattle.sm_live.specs.declared.told.SessionInfo.{SessionInfo}
 use Rattle.im_replies.specs.Streams.{error_item}
 use Rattle.im_replies.specs.declared.conditions.StreamCondition.TheVariants.{ResourceConstraint}
 use Rattle.sm_resumption.specs.Rows.{is_some_number}
 use Rattle.srv_core.specs.Table.{after_item, after_items, at_open}
 use Rattle.cmd_rerun.proofs.Entries.{Absent, eqb_apart, same_is}
-use Rattle.cmd_rerun.proofs.Rows.{Allowed, AreAllowed, Enters, Fine, IsEntry, Known, open_fine}
+use Rattle.cmd_rerun.proofs.Rows.{Allowed, AreAllowed, Bounded, Enters, IsEntry, Known, open_bounded}
 use Rattle.cmd_rerun.proofs.Sessions.{IsAway, NoneAt, bound_none, each_told, resumed_none}
 use Rattle.cmd_rerun.proofs.Steps.{Goes, MovesNone, act_goes}
 use Rattle.cmd_rerun.specs.Silence.{IsApart, Quiet}
@@ -32,8 +32,8 @@ quiet_more k outs o p q = quiet_both k outs (o ∷ []) p (q, tt)
 -- ---- a connection that is over
 
 pub record IsGone {A : Type 0} (k : ℕ) (s : Step A) : Type 0 where
-  pub absent : Absent k s.hall.conns
-  pub none : NoneAt k s.hall.sessions
+  pub absent : Absent k s.server_state.conns
+  pub none : NoneAt k s.server_state.sessions
   pub quiet : Quiet k s.outs
 
 abbrev pub IsAside : {A : Type 0} → ℕ → Act A → Type 0
@@ -62,14 +62,14 @@ module _ {A : Type 0} (say : ItemOut → A) (k : ℕ) where
   ask_quiet n None true s away quiet = quiet
   ask_quiet n (Some j) true s away quiet = quiet_more k s.outs (Put j _) quiet (eqb_apart k j away)
 
-  queue_quiet : (n : ℕ) (a : A) (t : Told) (s : Step A) → is_some_number k t.conn ≡ false → Quiet k s.outs → Quiet k (queue say n a t s).outs
+  queue_quiet : (n : ℕ) (a : A) (t : SessionInfo) (s : Step A) → is_some_number k t.conn ≡ false → Quiet k s.outs → Quiet k (queue say n a t s).outs
   queue_quiet n a t s away quiet =
       ask_quiet n t.conn (is_due t) (put_where t.conn a (in_sessions (with_session n (waits a)) s)) away (put_quiet t.conn a (in_sessions (with_session n (waits a)) s) away quiet)
 
-  overflow_quiet : (n : ℕ) (t : Told) (s : Step A) → is_some_number k t.conn ≡ false → Quiet k s.outs → Quiet k (overflow say n t s).outs
+  overflow_quiet : (n : ℕ) (t : SessionInfo) (s : Step A) → is_some_number k t.conn ≡ false → Quiet k s.outs → Quiet k (overflow say n t s).outs
   overflow_quiet n t s away quiet = part_quiet t.conn (say (error_item ResourceConstraint)) (in_sessions (without n) s) away quiet
 
-  send_quiet : (n : ℕ) (a : A) (o : Option Told) (s : Step A) → IfSome o (λ t. IsAway k t.number t.conn) → Quiet k s.outs → Quiet k (send_told say n a o s).outs
+  send_quiet : (n : ℕ) (a : A) (o : Option SessionInfo) (s : Step A) → IfSome o (λ t. IsAway k t.number t.conn) → Quiet k s.outs → Quiet k (send_by_info say n a o s).outs
   send_quiet n a None s away quiet = quiet
   send_quiet n a (Some t) s away quiet =
       quiet_if (not t.counted) (put_where t.conn a s) (cond (t.waiting == MOST_UNACKNOWLEDGED) (overflow say n t s) (queue say n a t s)) (put_quiet t.conn a s away quiet)
@@ -86,10 +86,10 @@ module _ {A : Type 0} (say : ItemOut → A) (k : ℕ) where
   act_gone (Close j) s aside gone = moved (Close j) s tt (quiet_more k s.outs (Shut j) gone.quiet aside) gone
   act_gone (Enter j phase) s aside gone = moved (Enter j phase) s tt gone.quiet gone
   act_gone (Fail j left) s aside gone = moved (Fail j left) s tt gone.quiet gone
-  act_gone (Bind account resource j) s aside gone = record { absent = gone.absent; none = bound_none k j aside s.hall.next account resource s.hall.sessions gone.none; quiet = gone.quiet }
+  act_gone (Bind account resource j) s aside gone = record { absent = gone.absent; none = bound_none k j aside s.server_state.next account resource s.server_state.sessions gone.none; quiet = gone.quiet }
   act_gone (Resume previd account h j) s aside gone = record {
     absent = gone.absent;
-    none = resumed_none k j aside h (session_resumed previd account s.hall.sessions) s.hall.sessions gone.none;
+    none = resumed_none k j aside h (session_resumed previd account s.server_state.sessions) s.server_state.sessions gone.none;
     quiet = gone.quiet;
   }
   act_gone (Enable n resume) s aside gone = moved (Enable n resume) s tt gone.quiet gone
@@ -98,7 +98,7 @@ module _ {A : Type 0} (say : ItemOut → A) (k : ℕ) where
   act_gone (Handle n) s aside gone = moved (Handle n) s tt gone.quiet gone
   act_gone (Present n available priority) s aside gone = moved (Present n available priority) s tt gone.quiet gone
   act_gone (Copy n on) s aside gone = moved (Copy n on) s tt gone.quiet gone
-  act_gone (Send n a) s aside gone = moved (Send n a) s tt (send_quiet n a (told_of n s.hall.sessions) s (each_told (IsAway k) n s.hall.sessions gone.none) gone.quiet) gone
+  act_gone (Send n a) s aside gone = moved (Send n a) s tt (send_quiet n a (info_of n s.server_state.sessions) s (each_told (IsAway k) n s.server_state.sessions gone.none) gone.quiet) gone
   act_gone (Archive account e) s aside gone = moved (Archive account e) s tt gone.quiet gone
   act_gone (Tell from to origin) s aside gone = moved (Tell from to origin) s tt (quiet_more k s.outs (Took from to origin) gone.quiet tt) gone
 
@@ -155,18 +155,18 @@ module _ {A : Type 0} (k j : ℕ) (apart : is_number k j ≡ false) (ss : List (
   entering_aside [] enters = absurd enters
   entering_aside (a ∷ more) enters = (entry_aside a enters.0, all_aside more enters.1)
 
-  fine_aside : (acts : List (Act A)) → Fine j ss acts → AllByRecursion (IsAside k) acts
-  fine_aside acts (inl all) = all_aside acts all
-  fine_aside acts (inr enters) = entering_aside acts enters
+  bounded_aside : (acts : List (Act A)) → Bounded j ss acts → AllByRecursion (IsAside k) acts
+  bounded_aside acts (inl all) = all_aside acts all
+  bounded_aside acts (inr enters) = entering_aside acts enters
 
 module _ {A : Type 0} (say : ItemOut → A) (k j : ℕ) (apart : is_number k j ≡ false) where
-  pub allowed_gone : (acts : List (Act A)) (s : Step A) → AreAllowed j s.hall.sessions acts → IsGone k s → IsGone k (acted say acts s)
-  allowed_gone acts s all gone = acts_gone say k acts s (all_aside k j apart s.hall.sessions gone.none acts all) gone
+  pub allowed_gone : (acts : List (Act A)) (s : Step A) → AreAllowed j s.server_state.sessions acts → IsGone k s → IsGone k (acted say acts s)
+  allowed_gone acts s all gone = acts_gone say k acts s (all_aside k j apart s.server_state.sessions gone.none acts all) gone
 
   item_gone : (i : Item) (s : Step A) → IsGone k s → IsGone k (after_item say j i s)
   item_gone i s gone =
-      let acts = at_open say j i (standing_at j s.hall) s.hall in
-      acts_gone say k acts s (fine_aside k j apart s.hall.sessions gone.none acts (open_fine say j i (standing_at j s.hall) s.hall)) gone
+      let acts = at_open say j i (standing_at j s.server_state) s.server_state in
+      acts_gone say k acts s (bounded_aside k j apart s.server_state.sessions gone.none acts (open_bounded say j i (standing_at j s.server_state) s.server_state)) gone
 
   pub items_gone : (items : List Item) (s : Step A) → IsGone k s → IsGone k (after_items say j items s)
   items_gone [] s gone = gone

@@ -12,7 +12,7 @@ use Rattle.sm_live.specs.Sessions.{Session, after_resume, bound, session_resumed
 use Rattle.srv_core.specs.Table.{after_item, after_items, at_open}
 use Rattle.srv_core.specs.Telling.{is_told}
 use Rattle.cmd_rerun.proofs.Entries.{Absent, Sole, absent_found, same_is}
-use Rattle.cmd_rerun.proofs.Rows.{Allowed, AreAllowed, Enters, Fine, IsEntry, open_fine}
+use Rattle.cmd_rerun.proofs.Rows.{Allowed, AreAllowed, Bounded, Enters, IsEntry, open_bounded}
 use Rattle.cmd_rerun.proofs.Sessions.{IsAway, IsOne, NoneAt, OneAt, bound_none, bound_one, bound_same, resumed_none, resumed_one, resumed_same}
 use Rattle.cmd_rerun.proofs.Steps.{Goes, MovesNone, acts_go}
 use Rattle.xml_writer.specs.Items.{ItemOut}
@@ -20,10 +20,10 @@ use Rattle.xml_writer.specs.Items.{ItemOut}
 -- The connection is there once at most, the sessions on it have one number, and there are none where it is not open. Where it
 -- is told that it was shut it is not open.
 pub record IsSound {A : Type 0} (k : ℕ) (s : Step A) : Type 0 where
-  pub sole : Sole k s.hall.conns
-  pub lone : OneAt k s.hall.sessions
-  pub left : Absent k s.hall.conns → NoneAt k s.hall.sessions
-  pub honest : is_told k s.outs ≡ true → Absent k s.hall.conns
+  pub sole : Sole k s.server_state.conns
+  pub lone : OneAt k s.server_state.sessions
+  pub left : Absent k s.server_state.conns → NoneAt k s.server_state.sessions
+  pub honest : is_told k s.outs ≡ true → Absent k s.server_state.conns
 
 moves_none : {A : Type 0} (j : ℕ) (ss : List (Session A)) (a : Act A) → Allowed j ss a → MovesNone a
 moves_none j ss (Say x a) h = tt
@@ -60,52 +60,52 @@ module _ {A : Type 0} (k : ℕ) where
 
   -- ---- a session comes on connection j, which is open
 
-  bind_sound : (say : ItemOut → A) (account : ℕ) (resource : List ℕ) (j : ℕ) (s : Step A) → ¬ (Absent j s.hall.conns) → NoneAt j s.hall.sessions → IsSound k s → IsSound k (act say (Bind account resource j) s)
+  bind_sound : (say : ItemOut → A) (account : ℕ) (resource : List ℕ) (j : ℕ) (s : Step A) → ¬ (Absent j s.server_state.conns) → NoneAt j s.server_state.sessions → IsSound k s → IsSound k (act say (Bind account resource j) s)
   bind_sound say account resource j s there none sound = elim (cases_Bool (is_number k j)) [
     | inl same ↦
         let is = same_is k j same in
         record {
           sole = sound.sole;
-          lone = subst (λ n. OneAt k (bound s.hall.next account resource n s.hall.sessions)) is (bound_one k s.hall.next account resource s.hall.sessions (subst (λ n. NoneAt n s.hall.sessions) (sym is) none));
-          left = λ absent. absurd (there (subst (λ n. Absent n s.hall.conns) is absent));
+          lone = subst (λ n. OneAt k (bound s.server_state.next account resource n s.server_state.sessions)) is (bound_one k s.server_state.next account resource s.server_state.sessions (subst (λ n. NoneAt n s.server_state.sessions) (sym is) none));
+          left = λ absent. absurd (there (subst (λ n. Absent n s.server_state.conns) is absent));
           honest = sound.honest;
         }
     | inr apart ↦ record {
       sole = sound.sole;
-      lone = bound_same k j apart s.hall.next account resource s.hall.sessions sound.lone;
-      left = λ absent. bound_none k j apart s.hall.next account resource s.hall.sessions (sound.left absent);
+      lone = bound_same k j apart s.server_state.next account resource s.server_state.sessions sound.lone;
+      left = λ absent. bound_none k j apart s.server_state.next account resource s.server_state.sessions (sound.left absent);
       honest = sound.honest;
     }
   ]
 
-  resume_sound : (say : ItemOut → A) (previd : List ℕ) (account h j : ℕ) (s : Step A) → ¬ (Absent j s.hall.conns) → NoneAt j s.hall.sessions → IsSound k s → IsSound k (act say (Resume previd account h j) s)
+  resume_sound : (say : ItemOut → A) (previd : List ℕ) (account h j : ℕ) (s : Step A) → ¬ (Absent j s.server_state.conns) → NoneAt j s.server_state.sessions → IsSound k s → IsSound k (act say (Resume previd account h j) s)
   resume_sound say previd account h j s there none sound = elim (cases_Bool (is_number k j)) [
     | inl same ↦
         let is = same_is k j same in
-        let found = session_resumed previd account s.hall.sessions in
+        let found = session_resumed previd account s.server_state.sessions in
         record {
           sole = sound.sole;
-          lone = subst (λ n. OneAt k (after_resume h n found s.hall.sessions)) is (resumed_one k h found s.hall.sessions (subst (λ n. NoneAt n s.hall.sessions) (sym is) none));
-          left = λ absent. absurd (there (subst (λ n. Absent n s.hall.conns) is absent));
+          lone = subst (λ n. OneAt k (after_resume h n found s.server_state.sessions)) is (resumed_one k h found s.server_state.sessions (subst (λ n. NoneAt n s.server_state.sessions) (sym is) none));
+          left = λ absent. absurd (there (subst (λ n. Absent n s.server_state.conns) is absent));
           honest = sound.honest;
         }
     | inr apart ↦ record {
       sole = sound.sole;
-      lone = resumed_same k j apart h (session_resumed previd account s.hall.sessions) s.hall.sessions sound.lone;
-      left = λ absent. resumed_none k j apart h (session_resumed previd account s.hall.sessions) s.hall.sessions (sound.left absent);
+      lone = resumed_same k j apart h (session_resumed previd account s.server_state.sessions) s.server_state.sessions sound.lone;
+      left = λ absent. resumed_none k j apart h (session_resumed previd account s.server_state.sessions) s.server_state.sessions (sound.left absent);
       honest = sound.honest;
     }
   ]
 
-  entry_sound : (say : ItemOut → A) (j : ℕ) (a : Act A) (s : Step A) → ¬ (Absent j s.hall.conns) → IsEntry j s.hall.sessions a → IsSound k s → IsSound k (act say a s)
+  entry_sound : (say : ItemOut → A) (j : ℕ) (a : Act A) (s : Step A) → ¬ (Absent j s.server_state.conns) → IsEntry j s.server_state.sessions a → IsSound k s → IsSound k (act say a s)
   entry_sound say j (Say x a) s there h sound = absurd h
   entry_sound say j (Close x) s there h sound = absurd h
   entry_sound say j (Enter x phase) s there h sound = absurd h
   entry_sound say j (Fail x left) s there h sound = absurd h
   entry_sound say j (Bind account resource x) s there h sound =
-      bind_sound say account resource x s (subst (λ n. ¬ (Absent n s.hall.conns)) (sym h.0) there) (subst (λ n. NoneAt n s.hall.sessions) (sym h.0) h.1) sound
+      bind_sound say account resource x s (subst (λ n. ¬ (Absent n s.server_state.conns)) (sym h.0) there) (subst (λ n. NoneAt n s.server_state.sessions) (sym h.0) h.1) sound
   entry_sound say j (Resume previd account n x) s there h sound =
-      resume_sound say previd account n x s (subst (λ n. ¬ (Absent n s.hall.conns)) (sym h.0) there) (subst (λ n. NoneAt n s.hall.sessions) (sym h.0) h.1) sound
+      resume_sound say previd account n x s (subst (λ n. ¬ (Absent n s.server_state.conns)) (sym h.0) there) (subst (λ n. NoneAt n s.server_state.sessions) (sym h.0) h.1) sound
   entry_sound say j (Enable n resume) s there h sound = absurd h
   entry_sound say j (Acknowledge n m) s there h sound = absurd h
   entry_sound say j (Ask n on) s there h sound = absurd h
@@ -116,21 +116,21 @@ module _ {A : Type 0} (k : ℕ) where
   entry_sound say j (Archive account e) s there h sound = absurd h
   entry_sound say j (Tell from to origin) s there h sound = absurd h
 
-  entering_sound : (say : ItemOut → A) (j : ℕ) (acts : List (Act A)) (s : Step A) → ¬ (Absent j s.hall.conns) → Enters j s.hall.sessions acts → IsSound k s → IsSound k (acted say acts s)
+  entering_sound : (say : ItemOut → A) (j : ℕ) (acts : List (Act A)) (s : Step A) → ¬ (Absent j s.server_state.conns) → Enters j s.server_state.sessions acts → IsSound k s → IsSound k (acted say acts s)
   entering_sound say j [] s there enters sound = absurd enters
-  entering_sound say j (a ∷ more) s there enters sound = allowed_sound say j s.hall.sessions more (act say a s) enters.1 (entry_sound say j a s there enters.0 sound)
+  entering_sound say j (a ∷ more) s there enters sound = allowed_sound say j s.server_state.sessions more (act say a s) enters.1 (entry_sound say j a s there enters.0 sound)
 
-  fine_sound : (say : ItemOut → A) (j : ℕ) (acts : List (Act A)) (s : Step A) → ¬ (Absent j s.hall.conns) → Fine j s.hall.sessions acts → IsSound k s → IsSound k (acted say acts s)
-  fine_sound say j acts s there (inl all) sound = allowed_sound say j s.hall.sessions acts s all sound
-  fine_sound say j acts s there (inr enters) sound = entering_sound say j acts s there enters sound
+  bounded_sound : (say : ItemOut → A) (j : ℕ) (acts : List (Act A)) (s : Step A) → ¬ (Absent j s.server_state.conns) → Bounded j s.server_state.sessions acts → IsSound k s → IsSound k (acted say acts s)
+  bounded_sound say j acts s there (inl all) sound = allowed_sound say j s.server_state.sessions acts s all sound
+  bounded_sound say j acts s there (inr enters) sound = entering_sound say j acts s there enters sound
 
   -- ---- items
 
-  item_by : (say : ItemOut → A) (j : ℕ) (i : Item) (s : Step A) (o : Option Connection) → conn_at j s.hall ≡ o → IsSound k s
-      → IsSound k (acted say (at_open say j i (option_map standing_of o) s.hall) s)
+  item_by : (say : ItemOut → A) (j : ℕ) (i : Item) (s : Step A) (o : Option Connection) → conn_at j s.server_state ≡ o → IsSound k s
+      → IsSound k (acted say (at_open say j i (option_map standing_of o) s.server_state) s)
   item_by say j i s None is sound = sound
   item_by say j i s (Some c) is sound =
-      fine_sound say j (at_open say j i (Some (standing_of c)) s.hall) s (λ absent. some_none c (sym is ∙ absent_found j s.hall.conns absent)) (open_fine say j i (Some (standing_of c)) s.hall) sound
+      bounded_sound say j (at_open say j i (Some (standing_of c)) s.server_state) s (λ absent. some_none c (sym is ∙ absent_found j s.server_state.conns absent)) (open_bounded say j i (Some (standing_of c)) s.server_state) sound
     where
       is_there : Option Connection → Type 0
       is_there None = ⊥
@@ -141,4 +141,4 @@ module _ {A : Type 0} (k : ℕ) where
 
   pub items_sound : (say : ItemOut → A) (j : ℕ) (items : List Item) (s : Step A) → IsSound k s → IsSound k (after_items say j items s)
   items_sound say j [] s sound = sound
-  items_sound say j (i ∷ items) s sound = items_sound say j items (after_item say j i s) (item_by say j i s (conn_at j s.hall) refl sound)
+  items_sound say j (i ∷ items) s sound = items_sound say j items (after_item say j i s) (item_by say j i s (conn_at j s.server_state) refl sound)

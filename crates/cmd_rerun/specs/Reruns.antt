@@ -3,7 +3,7 @@
 use Rattle.std.specs.Prelude.{◌≡◌, ℕ, Bool, List, [], ◌∷◌, ◌++◌, Option, Some, None, map}
 use Rattle.std.specs.List.{flat_map}
 use Rattle.srv_state.specs.Seen.{outs_of}
-use Rattle.srv_state.specs.State as desk
+use Rattle.srv_state.specs.State as context
 use Rattle.srv_state.specs.State.{Kept, Out, Step, conn_at}
 use Rattle.srv_state.specs.declared.output.Output.{Output}
 use Rattle.cmd_journal.specs.AccountsFiles.{AccountsView, is_password}
@@ -42,16 +42,16 @@ run_at_start file = record { server = at_start file.domain (accounts_at file.dom
 
 -- The items of a piece did this. The framer of the connection is the one that took the piece, and connections that were shut
 -- have none.
-abbrev pub run_behind : ℕ → List ℕ → Run → Step (List ℕ) → Run
-run_behind k bytes r done = record {
-  server = whole done.hall (dropped (news r.outs done.outs) (fed k bytes (framer_at k r.server.framers) r.server.framers));
+abbrev pub run_after : ℕ → List ℕ → Run → Step (List ℕ) → Run
+run_after k bytes r done = record {
+  server = whole done.server_state (dropped (news r.outs done.outs) (fed k bytes (framer_at k r.server.framers) r.server.framers));
   outs = done.outs;
 }
 
 -- what one event makes of a server, and of what it has put out
 abbrev pub after_event : EventView → Run → Run
 after_event (Connect k now entropy) r = record r { server = after_connect k entropy now r.server }
-after_event (Piece k now bytes) r = run_behind k bytes r (after_bytes written_item k bytes now r.server r.outs)
+after_event (Piece k now bytes) r = run_after k bytes r (after_bytes written_item k bytes now r.server r.outs)
 after_event (Gone k now) r = record r { server = after_gone k now r.server }
 
 -- all of them, in order
@@ -63,9 +63,9 @@ after_events (event ∷ events) r = after_events events (after_event event r)
 
 -- what was put out, as a line has it; of a message that was archived there is none
 abbrev pub line_of : Out (List ℕ) → List OutputView
-line_of (desk.Put k bytes) = Put k bytes ∷ []
-line_of (desk.Shut k) = Shut k ∷ []
-line_of (desk.Took from to origin) = []
+line_of (context.Put k bytes) = Put k bytes ∷ []
+line_of (context.Shut k) = Shut k ∷ []
+line_of (context.Took from to origin) = []
 
 abbrev pub lines_of : List (Out (List ℕ)) → List OutputView
 lines_of outs = flat_map line_of outs
@@ -83,10 +83,10 @@ named_archives (r ∷ rs) (kept ∷ archives) = named_kept r.name (Some kept) ++
 
 -- those in the end
 abbrev pub archives_after : InputView → List NamedView
-archives_after input = named_archives input.accounts.accounts (after_events input.events (run_at_start input.accounts)).server.hall.archives
+archives_after input = named_archives input.accounts.accounts (after_events input.events (run_at_start input.accounts)).server.server_state.archives
 
 abbrev pub text_of_run : AccountsView → Run → List ℕ
-text_of_run file r = rerun_text file.version (lines_of r.outs) (named_archives file.accounts r.server.hall.archives)
+text_of_run file r = rerun_text file.version (lines_of r.outs) (named_archives file.accounts r.server.server_state.archives)
 
 -- the text of the run that this is the input of
 unfoldable pub rerun_of : InputView → List ℕ
@@ -104,7 +104,7 @@ has_password r = is_password r.password
 
 -- a connection that comes has a number that no connection has
 abbrev pub IsFresh : EventView → Whole (List ℕ) → Type 0
-IsFresh (Connect k now entropy) w = (conn_at k w.hall ≡ None) × (framer_at k w.framers ≡ None)
+IsFresh (Connect k now entropy) w = (conn_at k w.server_state ≡ None) × (framer_at k w.framers ≡ None)
 IsFresh event w = Unit {0}
 
 -- so do all of these events, one after another

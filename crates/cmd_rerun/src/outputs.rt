@@ -58,13 +58,13 @@ pub(crate) fn named_archives<'a>(
     server: &'a Server,
 ) -> Result<Vec<NamedArchive<'a>>, NoMemory>
     requires { length registrations.now < 2 ^ 32 }
-    ensures { IfOk result (λ named. map named_view named.items ≡ named_archives registrations.now server.now.hall.archives) }
+    ensures { IfOk result (λ named. map named_view named.items ≡ named_archives registrations.now server.now.server_state.archives) }
 {
     let mut named = Vec::new(alloc);
-    let mut place = 0u32;
+    let mut position = 0u32;
     for r in registrations {
-        add_archive(&mut named, r.name.as_str(), server.archive(place))?;
-        place += 1;
+        add_archive(&mut named, r.name.as_str(), server.archive(position))?;
+        position += 1;
     }
     Ok(named)
 }

@@ -5,7 +5,7 @@ use Rattle.std.proofs.Math.Nat.{min-eq_left}
 use Rattle.std.specs.Prelude.{◌==◌, ◌||◌, not}
 use Rattle.base_io.specs.Counts.{Rose, Quiet}
 use Rattle.net_traits.specs.Links.{IsUnused, LinkView, counted_if, has_ended, has_failed}
-use Rattle.cmd_sync.specs.Courses.{Turned}
+use Rattle.cmd_sync.specs.Courses.{CourseStep}
 use Rattle.cmd_sync.specs.Syncs.{IsUntold}
 use Rattle.cmd_sync.specs.Talks.{DialerView, IsLent, TalkStops}
 use Rattle.cmd_sync.specs.declared.sync_fault.Stop.TheVariants as stop
@@ -44,7 +44,7 @@ write_failed first last unused rose = or_right _ _ (risen_some last.write_faults
 ended : (first last : LinkView) → IsUnused first → Rose first.ends last.ends → has_ended last ≡ true
 ended first last unused rose = risen_some last.ends (subst (λ n. Rose n last.ends) unused.ends rose)
 
-talk_not_quiet : (start : Turned) (old new : DialerView) (first last : LinkView) → IsLent old new first last
+talk_not_quiet : (start : CourseStep) (old new : DialerView) (first last : LinkView) → IsLent old new first last
     → Quiet old.faults new.faults → Quiet old.ends new.ends → ¬ (TalkStops stop.Link start first last)
 talk_not_quiet start old new first last lent faults ends (inl severed) =
     elim severed.cause [
@@ -54,6 +54,6 @@ talk_not_quiet start old new first last lent faults ends (inl severed) =
 talk_not_quiet start old new first last lent faults ends (inr unsent) =
     not_risen old.faults new.faults faults (raised (has_failed last) old.faults new.faults (write_failed first last lent.unused unsent.cause) lent.faults)
 
-pub link_not_quiet : (start : Turned) (old new : DialerView) → Quiet old.faults new.faults → Quiet old.ends new.ends → ¬ (IsUntold Link start old new)
+pub link_not_quiet : (start : CourseStep) (old new : DialerView) → Quiet old.faults new.faults → Quiet old.ends new.ends → ¬ (IsUntold Link start old new)
 link_not_quiet start old new faults ends (inl undialed) = not_risen old.faults new.faults faults undialed.cause
 link_not_quiet start old new faults ends (inr broken) = talk_not_quiet start old new broken.first broken.last broken.lent faults ends broken.stopped

@@ -9,9 +9,9 @@ at_rest None s = tt
 at_rest (Some door) s = inl (refl, refl)
 
 -- the door is as it was, and no thread was started
-pub still_joined : (before behind : OutsideView) → behind.door ≡ before.door → behind.started ≡ before.started → AreJoined (record { before = before; behind = behind })
-still_joined before behind door started =
-    subst (λ d. IfSome before.door (λ old. MatchOption d (behind.started ≡ before.started) (λ new. HasWorkers old.given new.given before.started behind.started))) (sym door)
+pub still_joined : (before following : OutsideView) → following.door ≡ before.door → following.started ≡ before.started → AreJoined (record { before = before; following = following })
+still_joined before following door started =
+    subst (λ d. IfSome before.door (λ old. MatchOption d (following.started ≡ before.started) (λ new. HasWorkers old.given new.given before.started following.started))) (sym door)
     (subst (λ n. IfSome before.door (λ old. MatchOption before.door (n ≡ before.started) (λ new. HasWorkers old.given new.given before.started n))) (sym started)
     (at_rest before.door before.started))
 

@@ -32,12 +32,12 @@ told_of whether text stream sound is of =
     subst (λ b. IsToldOf server_limits stream (record { text = (told stream).text; sound = b })) (sym sound)
     (subst (λ t. IsToldOf server_limits stream (record { text = t; sound = whether })) is of)
 
-module _ (known left : Option (List ℕ)) (rose calm still : Type 0) (dealt : Dealings) (Written : List ℕ → Type 0) (result : ℕ) where
+module _ (known left : Option (List ℕ)) (rose nothing_failed still : Type 0) (dealt : Dealings) (Written : List ℕ → Type 0) (result : ℕ) where
   abbrev Answered : Option Command → Type 0
   Answered command = (outcome : Outcome) → result ≡ code_of outcome → (text : List ℕ) × Due command known left rose dealt outcome text × Written text
 
   abbrev Exactly : Option Command → Type 0
-  Exactly command = (outcome : Outcome) → MustAnswer command known calm dealt outcome → still → (result ≡ code_of outcome) ⊎ (result ≡ 6)
+  Exactly command = (outcome : Outcome) → MustAnswer command known nothing_failed dealt outcome → still → (result ≡ code_of outcome) ⊎ (result ≡ 6)
 
   done_help : (command : Option Command) → Answered command → result ≡ 0 → command ≡ Some Help → Written HELP.now
   done_help command answer zero e =
@@ -136,21 +136,21 @@ module _ (known left : Option (List ℕ)) (rose calm still : Type 0) (dealt : De
 
   -- 9 is of `serve` alone
   worker_serve : (port connections : ℕ) (command : Option Command) → Answered command → result ≡ 9 → command ≡ Some (Serve port connections)
-      → Rose dealt.before.starts dealt.behind.starts × Written no_worker_line
+      → Rose dealt.before.starts dealt.following.starts × Written no_worker_line
   worker_serve port connections command answer nine e =
       let (text, due, out) = answer NoWorker nine in
       let (failed, text_is) = (subst (λ c. Due c known left rose dealt NoWorker text) e due).0 in
       (failed, subst Written text_is out)
 
   entropy_serve : (port connections : ℕ) (command : Option Command) → Answered command → result ≡ 10 → command ≡ Some (Serve port connections)
-      → Rose dealt.before.draws dealt.behind.draws × Written entropy_fault_line
+      → Rose dealt.before.draws dealt.following.draws × Written entropy_fault_line
   entropy_serve port connections command answer ten e =
       let (text, due, out) = answer EntropyFault ten in
       let (failed, text_is) = (subst (λ c. Due c known left rose dealt EntropyFault text) e due).0 in
       (failed, subst Written text_is out)
 
   entropy_sync : (port : ℕ) (command : Option Command) → Answered command → result ≡ 10 → command ≡ Some (Sync port)
-      → Rose dealt.before.draws dealt.behind.draws × Written entropy_fault_line
+      → Rose dealt.before.draws dealt.following.draws × Written entropy_fault_line
   entropy_sync port command answer ten e =
       let (text, due, out) = answer EntropyFault ten in
       let (failed, text_is) = (subst (λ c. Due c known left rose dealt EntropyFault text) e due).0 in
@@ -171,11 +171,11 @@ module _ (known left : Option (List ℕ)) (rose calm still : Type 0) (dealt : De
   words None answer two = let (text, due, out) = answer WrongWords two in (refl, subst Written due out)
   words (Some command) answer two = let (text, due, out) = answer WrongWords two in absurd due.0
 
-  read_fault : (command : Option Command) → Answered command → result ≡ 4 → (reads command ≡ true) × rose × Written read_fault_line × (dealt.behind ≡ dealt.before)
+  read_fault : (command : Option Command) → Answered command → result ≡ 4 → (reads command ≡ true) × rose × Written read_fault_line × (dealt.following ≡ dealt.before)
   read_fault None answer four = let (text, due, out) = answer ReadFault four in absurd due
   read_fault (Some command) answer four = let (text, due, out) = answer ReadFault four in (due.0, due.1, subst Written due.2 out, due.3)
 
-  too_long : (command : Option Command) → Answered command → result ≡ 11 → (reads command ≡ true) × IfSome known (λ input. MOST_BYTES_READ < length input) × Written too_long_line × (dealt.behind ≡ dealt.before)
+  too_long : (command : Option Command) → Answered command → result ≡ 11 → (reads command ≡ true) × IfSome known (λ input. MOST_BYTES_READ < length input) × Written too_long_line × (dealt.following ≡ dealt.before)
   too_long None answer eleven = let (text, due, out) = answer TooLong eleven in absurd due
   too_long (Some command) answer eleven = let (text, due, out) = answer TooLong eleven in (due.0, due.1, subst Written due.2 out, due.3)
 
@@ -208,37 +208,37 @@ module _ (known left : Option (List ℕ)) (rose calm still : Type 0) (dealt : De
       left_over : IsTrue (is_status result) → result ≢ 2 → result ≢ 5 → result ≢ 6 → result ≢ 0 → result ≢ 3 → result ≢ 4 → result ≢ 7 → result ≢ 8 → result ≢ 9 → result ≢ 10 → result ≢ 11 → ⊥
       left_over status a b c d e f g h i j k = grind (arith, nat_tests)
 
-module _ (rose calm still : Type 0) (dealt : Dealings) (result : ℕ) where
-  complete_help : (known : Option (List ℕ)) (command : Option Command) → Exactly known None rose calm still dealt (λ text. Unit {0}) result command → command ≡ Some Help → still → (result ≡ 0) ⊎ (result ≡ 6)
-  complete_help known command exactly e quiet = exactly Done (subst (λ c. MustAnswer c known calm dealt Done) (sym e) refl) quiet
+module _ (rose nothing_failed still : Type 0) (dealt : Dealings) (result : ℕ) where
+  complete_help : (known : Option (List ℕ)) (command : Option Command) → Exactly known None rose nothing_failed still dealt (λ text. Unit {0}) result command → command ≡ Some Help → still → (result ≡ 0) ⊎ (result ≡ 6)
+  complete_help known command exactly e quiet = exactly Done (subst (λ c. MustAnswer c known nothing_failed dealt Done) (sym e) refl) quiet
 
-  complete : (known : Option (List ℕ)) (command : Option Command) → Exactly known None rose calm still dealt (λ text. Unit {0}) result command → command ≡ Some Replay → calm → still →
+  complete : (known : Option (List ℕ)) (command : Option Command) → Exactly known None rose nothing_failed still dealt (λ text. Unit {0}) result command → command ≡ Some Replay → nothing_failed → still →
       IfSome known (λ input. length input ≤ MOST_BYTES_READ → InGrammar input → (result ≡ 0) ⊎ (result ≡ 6))
   complete None command exactly e read quiet = tt
-  complete (Some input) command exactly e read quiet = λ short good. exactly Done (subst (λ c. MustAnswer c (Some input) calm dealt Done) (sym e) (read, tt, (short, good, tt))) quiet
+  complete (Some input) command exactly e read quiet = λ short good. exactly Done (subst (λ c. MustAnswer c (Some input) nothing_failed dealt Done) (sym e) (read, tt, (short, good, tt))) quiet
 
-  refused_only : (known : Option (List ℕ)) (command : Option Command) → Exactly known None rose calm still dealt (λ text. Unit {0}) result command → command ≡ Some Replay → calm → still →
+  refused_only : (known : Option (List ℕ)) (command : Option Command) → Exactly known None rose nothing_failed still dealt (λ text. Unit {0}) result command → command ≡ Some Replay → nothing_failed → still →
       IfSome known (λ input. length input ≤ MOST_BYTES_READ → ¬ (InGrammar input) → (result ≡ 3) ⊎ (result ≡ 6))
   refused_only None command exactly e read quiet = tt
-  refused_only (Some input) command exactly e read quiet = λ short bad. exactly Refused (subst (λ c. MustAnswer c (Some input) calm dealt Refused) (sym e) (read, tt, (short, bad))) quiet
+  refused_only (Some input) command exactly e read quiet = λ short bad. exactly Refused (subst (λ c. MustAnswer c (Some input) nothing_failed dealt Refused) (sym e) (read, tt, (short, bad))) quiet
 
-  refused_check_only : (known : Option (List ℕ)) (command : Option Command) → Exactly known None rose calm still dealt (λ text. Unit {0}) result command → command ≡ Some Check → calm → still →
+  refused_check_only : (known : Option (List ℕ)) (command : Option Command) → Exactly known None rose nothing_failed still dealt (λ text. Unit {0}) result command → command ≡ Some Check → nothing_failed → still →
       IfSome known (λ input. length input ≤ MOST_BYTES_READ → (told input).sound ≡ false → (result ≡ 3) ⊎ (result ≡ 6))
   refused_check_only None command exactly e read quiet = tt
   refused_check_only (Some input) command exactly e read quiet = λ short bad.
-      exactly Refused (subst (λ c. MustAnswer c (Some input) calm dealt Refused) (sym e) (read, tt, (short, λ good. let both : true ≡ false = sym good ∙ bad in cc))) quiet
+      exactly Refused (subst (λ c. MustAnswer c (Some input) nothing_failed dealt Refused) (sym e) (read, tt, (short, λ good. let both : true ≡ false = sym good ∙ bad in cc))) quiet
 
-  complete_rerun : (known : Option (List ℕ)) (command : Option Command) → Exactly known None rose calm still dealt (λ text. Unit {0}) result command → command ≡ Some Rerun → calm → still →
+  complete_rerun : (known : Option (List ℕ)) (command : Option Command) → Exactly known None rose nothing_failed still dealt (λ text. Unit {0}) result command → command ≡ Some Rerun → nothing_failed → still →
       IfSome known (λ input. length input ≤ MOST_BYTES_READ → SaysRun input → (result ≡ 0) ⊎ (result ≡ 6))
   complete_rerun None command exactly e read quiet = tt
-  complete_rerun (Some input) command exactly e read quiet = λ short good. exactly Done (subst (λ c. MustAnswer c (Some input) calm dealt Done) (sym e) (read, tt, (short, good, tt))) quiet
+  complete_rerun (Some input) command exactly e read quiet = λ short good. exactly Done (subst (λ c. MustAnswer c (Some input) nothing_failed dealt Done) (sym e) (read, tt, (short, good, tt))) quiet
 
-  refused_rerun_only : (known : Option (List ℕ)) (command : Option Command) → Exactly known None rose calm still dealt (λ text. Unit {0}) result command → command ≡ Some Rerun → calm → still →
+  refused_rerun_only : (known : Option (List ℕ)) (command : Option Command) → Exactly known None rose nothing_failed still dealt (λ text. Unit {0}) result command → command ≡ Some Rerun → nothing_failed → still →
       IfSome known (λ input. length input ≤ MOST_BYTES_READ → ¬ (SaysRun input) → (result ≡ 3) ⊎ (result ≡ 6))
   refused_rerun_only None command exactly e read quiet = tt
-  refused_rerun_only (Some input) command exactly e read quiet = λ short bad. exactly Refused (subst (λ c. MustAnswer c (Some input) calm dealt Refused) (sym e) (read, tt, (short, bad))) quiet
+  refused_rerun_only (Some input) command exactly e read quiet = λ short bad. exactly Refused (subst (λ c. MustAnswer c (Some input) nothing_failed dealt Refused) (sym e) (read, tt, (short, bad))) quiet
 
-  too_long_only : (known : Option (List ℕ)) (command : Option Command) → Exactly known None rose calm still dealt (λ text. Unit {0}) result command → reads command ≡ true → goes_out command ≡ false → calm → still →
+  too_long_only : (known : Option (List ℕ)) (command : Option Command) → Exactly known None rose nothing_failed still dealt (λ text. Unit {0}) result command → reads command ≡ true → goes_out command ≡ false → nothing_failed → still →
       IfSome known (λ input. MOST_BYTES_READ < length input → (result ≡ 11) ⊎ (result ≡ 6))
   too_long_only None command exactly e apart read quiet = tt
   too_long_only (Some input) (Some Replay) exactly e apart read quiet = λ long. exactly TooLong (read, tt, long) quiet
@@ -251,18 +251,18 @@ module _ (rose calm still : Type 0) (dealt : Dealings) (result : ℕ) where
   too_long_only (Some input) (Some (Serve port connections)) exactly e apart read quiet = absurd cc
   too_long_only (Some input) (Some (Sync port)) exactly e apart read quiet = absurd cc
 
-  complete_serve : (port connections : ℕ) (known : Option (List ℕ)) (command : Option Command) → Exactly known None rose calm still dealt (λ text. Unit {0}) result command
-      → command ≡ Some (Serve port connections) → calm → IsQuietDoor dealt → Quiet dealt.before.draws dealt.behind.draws
-      → Quiet dealt.before.starts dealt.behind.starts → still →
+  complete_serve : (port connections : ℕ) (known : Option (List ℕ)) (command : Option Command) → Exactly known None rose nothing_failed still dealt (λ text. Unit {0}) result command
+      → command ≡ Some (Serve port connections) → nothing_failed → IsQuietDoor dealt → Quiet dealt.before.draws dealt.following.draws
+      → Quiet dealt.before.starts dealt.following.starts → still →
       IfSome known (λ input. length input ≤ MOST_BYTES_READ → SaysAccounts input → (result ≡ 0) ⊎ (result ≡ 6))
   complete_serve port connections None command exactly e read door draws starts quiet = tt
   complete_serve port connections (Some input) command exactly e read door draws starts quiet = λ short good.
-      exactly Done (subst (λ c. MustAnswer c (Some input) calm dealt Done) (sym e) (read, (door, draws, starts), (short, good, tt))) quiet
+      exactly Done (subst (λ c. MustAnswer c (Some input) nothing_failed dealt Done) (sym e) (read, (door, draws, starts), (short, good, tt))) quiet
 
-  complete_sync : (port : ℕ) (known : Option (List ℕ)) (command : Option Command) → Exactly known None rose calm still dealt (λ text. Unit {0}) result command
-      → command ≡ Some (Sync port) → calm → IsQuietDialer dealt → Quiet dealt.before.draws dealt.behind.draws → still →
+  complete_sync : (port : ℕ) (known : Option (List ℕ)) (command : Option Command) → Exactly known None rose nothing_failed still dealt (λ text. Unit {0}) result command
+      → command ≡ Some (Sync port) → nothing_failed → IsQuietDialer dealt → Quiet dealt.before.draws dealt.following.draws → still →
       IfSome known (λ input. length input ≤ MOST_BYTES_READ → IsOk (script_reading input)
       → ((failure : PeerFailure) → ¬ (IsStopped (Some input) dealt (syncs.Peer failure))) → (result ≡ 0) ⊎ (result ≡ 6))
   complete_sync port None command exactly e read dialer draws quiet = tt
   complete_sync port (Some input) command exactly e read dialer draws quiet = λ short good blameless.
-      exactly Done (subst (λ c. MustAnswer c (Some input) calm dealt Done) (sym e) (read, (dialer, draws), (short, good, blameless))) quiet
+      exactly Done (subst (λ c. MustAnswer c (Some input) nothing_failed dealt Done) (sym e) (read, (dialer, draws), (short, good, blameless))) quiet

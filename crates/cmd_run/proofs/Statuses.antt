@@ -116,7 +116,7 @@ served_accounts connections accounts dealt (Some o) (Some n) text served = (serv
 
 served_accepted : (connections : ℕ) (input : List ℕ) (dealt : Dealings) (text : List ℕ) → IsServed (Some input) connections dealt text → SaysAccounts input
 served_accepted connections input dealt text (accounts, is, served) =
-    let (file, right, whole) = served_accounts connections accounts dealt dealt.before.door dealt.behind.door text served in
+    let (file, right, whole) = served_accounts connections accounts dealt dealt.before.door dealt.following.door text served in
     (file, right, is ∙ whole)
 
 begun_accepted : (input script : List ℕ) (x : ScriptView) → input ≡ script → script_reading script ≡ Ok x → IsOk (script_reading input)
@@ -157,8 +157,8 @@ quiet_link Replay known dealt quiet failed = failed
 quiet_link Check known dealt quiet failed = failed
 quiet_link Rerun known dealt quiet failed = failed
 quiet_link (Generate number size) known dealt quiet failed = failed
-quiet_link (Serve port connections) known dealt quiet failed = door_not_quiet connections dealt dealt.before.door dealt.behind.door quiet.0 failed.1
-quiet_link (Sync port) known dealt quiet (script, is, stopped) = link_not_quiet stopped.start dealt.before.dialer dealt.behind.dialer quiet.0.faults quiet.0.ends stopped.untold
+quiet_link (Serve port connections) known dealt quiet failed = door_not_quiet connections dealt dealt.before.door dealt.following.door quiet.0 failed.1
+quiet_link (Sync port) known dealt quiet (script, is, stopped) = link_not_quiet stopped.start dealt.before.dialer dealt.following.dialer quiet.0.faults quiet.0.ends stopped.untold
 
 quiet_worker : (command : Command) (dealt : Dealings) → IsQuiet command dealt → ¬ (HasNoWorker command dealt)
 quiet_worker Help dealt quiet failed = failed
@@ -225,64 +225,64 @@ unread_done command known left rose dealt TooLong text e due = let both : false 
 -- a command that reads ends as its input wants it
 read_ends : (command : Command) (input : List ℕ) (left : Option (List ℕ)) (rose : Type 0) (dealt : Dealings) (outcome wanted : Outcome) (text : List ℕ)
     → reads (Some command) ≡ true → ¬ rose → IsQuiet command dealt → MustEnd command input dealt wanted → IsDueOf command (Some input) left rose dealt outcome text → outcome ≡ wanted
-read_ends command input left rose dealt Done Done text e calm quiet must due = refl
-read_ends command input left rose dealt Done Refused text e calm quiet must due = absurd (must.1 (done_accepted command input dealt text due.0))
-read_ends command input left rose dealt Done TooLong text e calm quiet must due = absurd (omega (arith, must, (due.1 e).short))
-read_ends command input left rose dealt Refused Done text e calm quiet must due = absurd (refused_not_accepted command input text dealt due.0 must.1)
-read_ends command input left rose dealt Refused Refused text e calm quiet must due = refl
-read_ends command input left rose dealt Refused TooLong text e calm quiet must due = absurd (omega (arith, must, (due.1 e).short))
-read_ends command input left rose dealt PeerFault Done text e calm quiet must due = absurd (no_peer command input dealt text must.2 due.0)
-read_ends command input left rose dealt PeerFault Refused text e calm quiet must due = absurd (must.1 (peer_accepted command input dealt text due.0))
-read_ends command input left rose dealt PeerFault TooLong text e calm quiet must due = absurd (omega (arith, must, (due.1 e).short))
-read_ends command input left rose dealt TooLong Done text e calm quiet must due = absurd (omega (arith, must.0, due.1))
-read_ends command input left rose dealt TooLong Refused text e calm quiet must due = absurd (omega (arith, must.0, due.1))
-read_ends command input left rose dealt TooLong TooLong text e calm quiet must due = refl
-read_ends command input left rose dealt ReadFault wanted text e calm quiet must due = absurd (calm due.1)
-read_ends command input left rose dealt LinkFault wanted text e calm quiet must due = absurd (quiet_link command (Some input) dealt quiet due.0.0)
-read_ends command input left rose dealt NoWorker wanted text e calm quiet must due = absurd (quiet_worker command dealt quiet due.0.0)
-read_ends command input left rose dealt EntropyFault wanted text e calm quiet must due = absurd (quiet_entropy command dealt quiet due.0.0)
-read_ends command input left rose dealt WrongWords wanted text e calm quiet must due = absurd due.0
-read_ends command input left rose dealt outcome WrongWords text e calm quiet must due = absurd must
-read_ends command input left rose dealt outcome ReadFault text e calm quiet must due = absurd must
-read_ends command input left rose dealt outcome LinkFault text e calm quiet must due = absurd must
-read_ends command input left rose dealt outcome PeerFault text e calm quiet must due = absurd must
-read_ends command input left rose dealt outcome NoWorker text e calm quiet must due = absurd must
-read_ends command input left rose dealt outcome EntropyFault text e calm quiet must due = absurd must
+read_ends command input left rose dealt Done Done text e nothing_failed quiet must due = refl
+read_ends command input left rose dealt Done Refused text e nothing_failed quiet must due = absurd (must.1 (done_accepted command input dealt text due.0))
+read_ends command input left rose dealt Done TooLong text e nothing_failed quiet must due = absurd (omega (arith, must, (due.1 e).short))
+read_ends command input left rose dealt Refused Done text e nothing_failed quiet must due = absurd (refused_not_accepted command input text dealt due.0 must.1)
+read_ends command input left rose dealt Refused Refused text e nothing_failed quiet must due = refl
+read_ends command input left rose dealt Refused TooLong text e nothing_failed quiet must due = absurd (omega (arith, must, (due.1 e).short))
+read_ends command input left rose dealt PeerFault Done text e nothing_failed quiet must due = absurd (no_peer command input dealt text must.2 due.0)
+read_ends command input left rose dealt PeerFault Refused text e nothing_failed quiet must due = absurd (must.1 (peer_accepted command input dealt text due.0))
+read_ends command input left rose dealt PeerFault TooLong text e nothing_failed quiet must due = absurd (omega (arith, must, (due.1 e).short))
+read_ends command input left rose dealt TooLong Done text e nothing_failed quiet must due = absurd (omega (arith, must.0, due.1))
+read_ends command input left rose dealt TooLong Refused text e nothing_failed quiet must due = absurd (omega (arith, must.0, due.1))
+read_ends command input left rose dealt TooLong TooLong text e nothing_failed quiet must due = refl
+read_ends command input left rose dealt ReadFault wanted text e nothing_failed quiet must due = absurd (nothing_failed due.1)
+read_ends command input left rose dealt LinkFault wanted text e nothing_failed quiet must due = absurd (quiet_link command (Some input) dealt quiet due.0.0)
+read_ends command input left rose dealt NoWorker wanted text e nothing_failed quiet must due = absurd (quiet_worker command dealt quiet due.0.0)
+read_ends command input left rose dealt EntropyFault wanted text e nothing_failed quiet must due = absurd (quiet_entropy command dealt quiet due.0.0)
+read_ends command input left rose dealt WrongWords wanted text e nothing_failed quiet must due = absurd due.0
+read_ends command input left rose dealt outcome WrongWords text e nothing_failed quiet must due = absurd must
+read_ends command input left rose dealt outcome ReadFault text e nothing_failed quiet must due = absurd must
+read_ends command input left rose dealt outcome LinkFault text e nothing_failed quiet must due = absurd must
+read_ends command input left rose dealt outcome PeerFault text e nothing_failed quiet must due = absurd must
+read_ends command input left rose dealt outcome NoWorker text e nothing_failed quiet must due = absurd must
+read_ends command input left rose dealt outcome EntropyFault text e nothing_failed quiet must due = absurd must
 
 read_must : (command : Command) (known left : Option (List ℕ)) (rose : Type 0) (dealt : Dealings) (outcome wanted : Outcome) (text : List ℕ)
     → reads (Some command) ≡ true → ¬ rose → IsQuiet command dealt → IsSomeAnd known (λ input. MustEnd command input dealt wanted) → IsDueOf command known left rose dealt outcome text → outcome ≡ wanted
-read_must command None left rose dealt outcome wanted text e calm quiet must due = absurd must
-read_must command (Some input) left rose dealt outcome wanted text e calm quiet must due = read_ends command input left rose dealt outcome wanted text e calm quiet must due
+read_must command None left rose dealt outcome wanted text e nothing_failed quiet must due = absurd must
+read_must command (Some input) left rose dealt outcome wanted text e nothing_failed quiet must due = read_ends command input left rose dealt outcome wanted text e nothing_failed quiet must due
 
-known_must : (command : Command) (known left : Option (List ℕ)) (rose calm : Type 0) (dealt : Dealings) (outcome wanted : Outcome) (text : List ℕ) → (calm → ¬ rose)
+known_must : (command : Command) (known left : Option (List ℕ)) (rose nothing_failed : Type 0) (dealt : Dealings) (outcome wanted : Outcome) (text : List ℕ) → (nothing_failed → ¬ rose)
     → (test : Bool) → reads (Some command) ≡ test
-    → MatchBool test (calm × IsQuiet command dealt × IsSomeAnd known (λ input. MustEnd command input dealt wanted)) (wanted ≡ Done)
+    → MatchBool test (nothing_failed × IsQuiet command dealt × IsSomeAnd known (λ input. MustEnd command input dealt wanted)) (wanted ≡ Done)
     → IsDueOf command known left rose dealt outcome text → outcome ≡ wanted
-known_must command known left rose calm dealt outcome wanted text still true e must due = read_must command known left rose dealt outcome wanted text e (still must.0) must.1 must.2 due
-known_must command known left rose calm dealt outcome wanted text still false e must due = unread_done command known left rose dealt outcome text e due ∙ sym must
+known_must command known left rose nothing_failed dealt outcome wanted text still true e must due = read_must command known left rose dealt outcome wanted text e (still must.0) must.1 must.2 due
+known_must command known left rose nothing_failed dealt outcome wanted text still false e must due = unread_done command known left rose dealt outcome text e due ∙ sym must
 
 -- what is due is what must be
-must_be : (command : Option Command) (known left : Option (List ℕ)) (rose calm : Type 0) (dealt : Dealings) (outcome wanted : Outcome) (text : List ℕ) → (calm → ¬ rose)
-    → MustAnswer command known calm dealt wanted → Due command known left rose dealt outcome text → outcome ≡ wanted
-must_be (Some command) known left rose calm dealt outcome wanted text still must due =
-    known_must command known left rose calm dealt outcome wanted text still (reads (Some command)) refl must due
-must_be None known left rose calm dealt WrongWords wanted text still must due = sym must
-must_be None known left rose calm dealt Done wanted text still must due = absurd due
-must_be None known left rose calm dealt Refused wanted text still must due = absurd due
-must_be None known left rose calm dealt ReadFault wanted text still must due = absurd due
-must_be None known left rose calm dealt LinkFault wanted text still must due = absurd due
-must_be None known left rose calm dealt PeerFault wanted text still must due = absurd due
-must_be None known left rose calm dealt NoWorker wanted text still must due = absurd due
-must_be None known left rose calm dealt EntropyFault wanted text still must due = absurd due
-must_be None known left rose calm dealt TooLong wanted text still must due = absurd due
+must_be : (command : Option Command) (known left : Option (List ℕ)) (rose nothing_failed : Type 0) (dealt : Dealings) (outcome wanted : Outcome) (text : List ℕ) → (nothing_failed → ¬ rose)
+    → MustAnswer command known nothing_failed dealt wanted → Due command known left rose dealt outcome text → outcome ≡ wanted
+must_be (Some command) known left rose nothing_failed dealt outcome wanted text still must due =
+    known_must command known left rose nothing_failed dealt outcome wanted text still (reads (Some command)) refl must due
+must_be None known left rose nothing_failed dealt WrongWords wanted text still must due = sym must
+must_be None known left rose nothing_failed dealt Done wanted text still must due = absurd due
+must_be None known left rose nothing_failed dealt Refused wanted text still must due = absurd due
+must_be None known left rose nothing_failed dealt ReadFault wanted text still must due = absurd due
+must_be None known left rose nothing_failed dealt LinkFault wanted text still must due = absurd due
+must_be None known left rose nothing_failed dealt PeerFault wanted text still must due = absurd due
+must_be None known left rose nothing_failed dealt NoWorker wanted text still must due = absurd due
+must_be None known left rose nothing_failed dealt EntropyFault wanted text still must due = absurd due
+must_be None known left rose nothing_failed dealt TooLong wanted text still must due = absurd due
 
-pub exactly : (command : Option Command) (known left : Option (List ℕ)) (rose calm : Type 0) (dealt : Dealings) (Written : List ℕ → Type 0) (result : ℕ) (wanted : Outcome)
-    → (calm → ¬ rose) → result ≢ 5 → MustAnswer command known calm dealt wanted → Told command known left rose dealt Written result
+pub exactly : (command : Option Command) (known left : Option (List ℕ)) (rose nothing_failed : Type 0) (dealt : Dealings) (Written : List ℕ → Type 0) (result : ℕ) (wanted : Outcome)
+    → (nothing_failed → ¬ rose) → result ≢ 5 → MustAnswer command known nothing_failed dealt wanted → Told command known left rose dealt Written result
     → (result ≡ code_of wanted) ⊎ (result ≡ 6)
-exactly command known left rose calm dealt Written result wanted still written must answer =
+exactly command known left rose nothing_failed dealt Written result wanted still written must answer =
     elim (eqb_tells result 6) [
       | inl six ↦ inr six.1
       | inr other ↦ (
           let (outcome, text, same, due, out) = answer written other.1 in
-          inl (same ∙ ap code_of (must_be command known left rose calm dealt outcome wanted text still must due)))
+          inl (same ∙ ap code_of (must_be command known left rose nothing_failed dealt outcome wanted text still must due)))
     ]

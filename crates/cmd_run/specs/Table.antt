@@ -129,7 +129,7 @@ IsSummedUp number size text =
 abbrev pub IsServed : Option (List ℕ) → ℕ → Dealings → List ℕ → Type 0
 IsServed known connections dealt text =
     (accounts : List ℕ) × IfSome known (λ input. input ≡ accounts)
-    × IsSomeAnd dealt.before.door (λ old. IsSomeAnd dealt.behind.door (λ new.
+    × IsSomeAnd dealt.before.door (λ old. IsSomeAnd dealt.following.door (λ new.
     HasServed accounts connections dealt.before.moment dealt.before.drawn old.given new.given text))
 
 -- some accounts have this text
@@ -146,7 +146,7 @@ IsAccountsRefusal known text =
 abbrev pub HasSynced : Option (List ℕ) → Dealings → List ℕ → Type 0
 HasSynced known dealt text =
     (script : List ℕ) × IfSome known (λ input. input ≡ script)
-    × IsSynced script dealt.before.drawn dealt.before.dialer dealt.behind.dialer text
+    × IsSynced script dealt.before.drawn dealt.before.dialer dealt.following.dialer text
 
 -- The text names the first bad line of the input and its reason, and the input, where it is known, is no script's text.
 abbrev pub IsScriptRefusal : Option (List ℕ) → List ℕ → Type 0
@@ -158,7 +158,7 @@ IsScriptRefusal known text =
 abbrev pub IsStopped : Option (List ℕ) → Dealings → SyncFault → Type 0
 IsStopped known dealt fault =
     (script : List ℕ) × IfSome known (λ input. input ≡ script)
-    × IsUnsynced script dealt.before.drawn dealt.before.dialer dealt.behind.dialer fault
+    × IsUnsynced script dealt.before.drawn dealt.before.dialer dealt.following.dialer fault
 
 -- A case for each command: the text where it was done. `known` is the input where it is known.
 abbrev pub IsDone : Command → Option (List ℕ) → Dealings → List ℕ → Type 0
@@ -192,7 +192,7 @@ Accepts command input = Unit {0}
 -- The door failed before so many links came back to it.
 abbrev pub HasDoorFailed : ℕ → Dealings → Type 0
 HasDoorFailed connections dealt =
-    IsSomeAnd dealt.before.door (λ old. IsSomeAnd dealt.behind.door (λ new.
+    IsSomeAnd dealt.before.door (λ old. IsSomeAnd dealt.following.door (λ new.
     Rose old.faults new.faults × (connections ≢ 0 → AreFewer connections old.given new.given)))
 
 -- A case for each command that goes out: a link or the door failed.
@@ -208,13 +208,13 @@ HasPeerFailed command known dealt text = ⊥
 
 -- A thread could not be started.
 abbrev pub HasNoWorker : Command → Dealings → Type 0
-HasNoWorker (Serve port connections) dealt = Rose dealt.before.starts dealt.behind.starts
+HasNoWorker (Serve port connections) dealt = Rose dealt.before.starts dealt.following.starts
 HasNoWorker command dealt = ⊥
 
 -- No random bytes were drawn.
 abbrev pub HasEntropyFailed : Command → Dealings → Type 0
-HasEntropyFailed (Serve port connections) dealt = Rose dealt.before.draws dealt.behind.draws
-HasEntropyFailed (Sync port) dealt = Rose dealt.before.draws dealt.behind.draws
+HasEntropyFailed (Serve port connections) dealt = Rose dealt.before.draws dealt.following.draws
+HasEntropyFailed (Sync port) dealt = Rose dealt.before.draws dealt.following.draws
 HasEntropyFailed command dealt = ⊥
 
 -- what a command makes of its input
@@ -236,10 +236,10 @@ pub record IsReadWhole (known left : Option (List ℕ)) : Type 0 where
 -- left of the input. Where that is not read to its end, the outside is as it was.
 abbrev pub IsDueOf : Command → Option (List ℕ) → Option (List ℕ) → Type 0 → Dealings → Outcome → List ℕ → Type 0
 IsDueOf command known left rose dealt ReadFault text =
-    (reads (Some command) ≡ true) × rose × (text ≡ read_fault_line) × (dealt.behind ≡ dealt.before)
+    (reads (Some command) ≡ true) × rose × (text ≡ read_fault_line) × (dealt.following ≡ dealt.before)
 IsDueOf command known left rose dealt TooLong text =
     (reads (Some command) ≡ true) × IfSome known (λ input. MOST_BYTES_READ < length input) × (text ≡ too_long_line)
-    × (dealt.behind ≡ dealt.before)
+    × (dealt.following ≡ dealt.before)
 IsDueOf command known left rose dealt outcome text =
     IsAnswer command known dealt outcome text × (reads (Some command) ≡ true → IsReadWhole known left)
 
@@ -264,15 +264,15 @@ MustEnd command input dealt outcome = ⊥
 -- A case for each command that goes out: what it has to do with did not fail.
 abbrev pub IsQuiet : Command → Dealings → Type 0
 IsQuiet (Serve port connections) dealt =
-    IsQuietDoor dealt × Quiet dealt.before.draws dealt.behind.draws × Quiet dealt.before.starts dealt.behind.starts
-IsQuiet (Sync port) dealt = IsQuietDialer dealt × Quiet dealt.before.draws dealt.behind.draws
+    IsQuietDoor dealt × Quiet dealt.before.draws dealt.following.draws × Quiet dealt.before.starts dealt.following.starts
+IsQuiet (Sync port) dealt = IsQuietDialer dealt × Quiet dealt.before.draws dealt.following.draws
 IsQuiet command dealt = Unit {0}
 
--- The converse of what is due: the outcome that there must be, where memory suffices and no write of it failed. `calm` says
--- that no read failed. Of a command that reads, it is said where the input is known.
+-- The converse of what is due: the outcome that there must be, where memory suffices and no write of it failed.
+-- `nothing_failed` says that no read failed. Of a command that reads, it is said where the input is known.
 abbrev pub MustAnswer : Option Command → Option (List ℕ) → Type 0 → Dealings → Outcome → Type 0
-MustAnswer None known calm dealt outcome = outcome ≡ WrongWords
-MustAnswer (Some command) known calm dealt outcome =
+MustAnswer None known nothing_failed dealt outcome = outcome ≡ WrongWords
+MustAnswer (Some command) known nothing_failed dealt outcome =
     MatchBool (reads (Some command))
-    (calm × IsQuiet command dealt × IsSomeAnd known (λ input. MustEnd command input dealt outcome))
+    (nothing_failed × IsQuiet command dealt × IsSomeAnd known (λ input. MustEnd command input dealt outcome))
     (outcome ≡ Done)

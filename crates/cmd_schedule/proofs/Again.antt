@@ -20,7 +20,7 @@ use Rattle.cmd_schedule.specs.declared.schedule.Step.TheVariants.{Account, Devic
 use Rattle.cmd_schedule.specs.declared.schedule.TheConstants.{MOST_TICK}
 use Rattle.cmd_schedule.proofs.Found.{line_text}
 use Rattle.cmd_schedule.proofs.Numbers.{decimal_number, number_again, number_digits}
-use Rattle.cmd_schedule.proofs.Words.{Lacks, cut_behind, piece_behind}
+use Rattle.cmd_schedule.proofs.Words.{Lacks, cut_after, piece_after}
 use Rattle.base_lemmas.proofs.Lists.{list_all-weaker}
 
 -- ---- bytes that pass a test
@@ -158,7 +158,7 @@ among_is_name name (other ∷ names) h e =
 -- ---- fields
 
 pub next_again : (word rest : List ℕ) → IsWord word → next_field (Some (word ++ 32 ∷ rest)) ≡ Ok (record { front = word; rest = Some rest })
-next_again word rest h = rw (cut_behind word rest h.lacks, h.some) refl
+next_again word rest h = rw (cut_after word rest h.lacks, h.some) refl
 
 pub last_again : (word : List ℕ) → IsWord word → last_field (Some word) ≡ Ok word
 last_again word h = rw (h.some, h.whole) refl
@@ -289,7 +289,7 @@ lines_again above n (line ∷ lines) known h =
     let again = step_again above line.step known h.2 in
     let parts : pieces_of (flat_map line_text (line ∷ lines)) ≡ record { bytes = step_text line.step; ended = true } ∷ pieces_of (flat_map line_text lines) =
     ap (λ (xs : List ℕ). pieces_of xs) (flat_map-cons line_text line lines ∙ append_assoc (step_text line.step) (10 ∷ []) (flat_map line_text lines))
-    ∙ piece_behind (step_text line.step) (flat_map line_text lines) again.plain.lacks in
+    ∙ piece_after (step_text line.step) (flat_map line_text lines) again.plain.lacks in
     let read = line_again above n line.step h.1 again in
     let others = lines_again (declared_by line.step above) (n + 1) lines again.declared h.3 in
     let same : record { number = n; step = line.step } ≡ line = ap (λ (k : ℕ). record { number = k; step = line.step }) (sym h.0) in

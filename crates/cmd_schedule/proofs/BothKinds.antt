@@ -20,7 +20,7 @@ use Rattle.cmd_schedule.proofs.Found.{line_text, lines_found, pieces_back, text_
 use Rattle.cmd_schedule.proofs.Headings.{header_found, heading_again}
 use Rattle.cmd_schedule.proofs.WireAgain.{wire_lines_again}
 use Rattle.cmd_schedule.proofs.WireFound.{wire_line_text, wire_lines_found}
-use Rattle.cmd_schedule.proofs.Words.{piece_behind}
+use Rattle.cmd_schedule.proofs.Words.{piece_after}
 
 -- ---- what is read
 
@@ -79,7 +79,7 @@ unfolding reading
 direct_again version lines keeps h =
     let read = lines_again nothing_declared 2 lines none_declared h in
     let headed = heading_again version false keeps in
-    let parts = piece_behind (header_text version false) (flat_map line_text lines) headed.lacks in
+    let parts = piece_after (header_text version false) (flat_map line_text lines) headed.lacks in
     rw (parts, headed.read, read) refl
 
 wire_again : (version : Version) (lines : List WireLine) → may_keep version ≡ true → AreWireLines nothing_above 2 lines →
@@ -88,7 +88,7 @@ unfolding reading
 wire_again version lines keeps h =
     let read = wire_lines_again nothing_above 2 lines none_declared (omega arith) h in
     let headed = heading_again version true keeps in
-    let parts = piece_behind (header_text version true) (flat_map wire_line_text lines) headed.lacks in
+    let parts = piece_after (header_text version true) (flat_map wire_line_text lines) headed.lacks in
     rw (parts, headed.read, read) refl
 
 abbrev with_mode : ScheduleView → Bool → ScheduleView

@@ -85,8 +85,8 @@ record IsHeading (line : List ℕ) (heading : Heading) : Type 0 where
   keeps : IsTrue (may_keep heading.version)
   spelled : line ≡ header_text heading.version heading.wire
 
-behind_name : (name : List ℕ) (rest : Option (List ℕ)) (after : List ℕ) → name ≡ codes "xmpp-schedule" → rest ≡ Some after → with_rest name rest ≡ codes "xmpp-schedule " ++ after
-behind_name name rest after is then = rw (is, then) refl
+after_name : (name : List ℕ) (rest : Option (List ℕ)) (after : List ℕ) → name ≡ codes "xmpp-schedule" → rest ≡ Some after → with_rest name rest ≡ codes "xmpp-schedule " ++ after
+after_name name rest after is then = rw (is, then) refl
 
 heading_found : (line : List ℕ) (heading : Heading) → read_heading line ≡ Ok heading → IsHeading line heading
 unfolding read_heading
@@ -100,7 +100,7 @@ heading_found line heading e =
     let whole : line ≡ with_rest b.0.front b.0.rest = same_Some line (with_rest b.0.front b.0.rest) (next_is (Some line) b.0 b.1) in
     record {
       keeps = v.0;
-      spelled = whole ∙ behind_name b.0.front b.0.rest (with_rest d.0.front d.0.rest) name (next_is b.0.rest d.0 d.1) ∙ sym v.1;
+      spelled = whole ∙ after_name b.0.front b.0.rest (with_rest d.0.front d.0.rest) name (next_is b.0.rest d.0 d.1) ∙ sym v.1;
     }
 
 as_heading_ok : (r : Result Heading LineWhy) (heading : Heading) → as_heading r ≡ Ok heading → r ≡ Ok heading

@@ -2,7 +2,7 @@ pub mod Again
 pub mod Answered
 pub mod BothKinds
 pub mod Cuts
-pub mod DeclaredPlaces
+pub mod DeclaredPositions
 pub mod Found
 pub mod Headings
 pub mod Lists

@@ -124,15 +124,15 @@ home_kept name (Device other account ∷ before) rest known =
     ]
 home_kept name (step ∷ before) rest known = home_kept name before rest known
 
-home_behind : (name : List ℕ) (before rest : List Step) → is_among name (devices_of before) ≡ false → home_of (before ++ rest) name ≡ home_of rest name
-home_behind name [] rest known = refl
-home_behind name (Device other account ∷ before) rest known =
+home_after : (name : List ℕ) (before rest : List Step) → is_among name (devices_of before) ≡ false → home_of (before ++ rest) name ≡ home_of rest name
+home_after name [] rest known = refl
+home_after name (Device other account ∷ before) rest known =
     let parts = or_parts (bytes_eq name other) (is_among name (devices_of before)) known in
-    rw parts.0 (home_behind name before rest parts.1)
-home_behind name (step ∷ before) rest known = home_behind name before rest known
+    rw parts.0 (home_after name before rest parts.1)
+home_after name (step ∷ before) rest known = home_after name before rest known
 
 home_here : (name account : List ℕ) (before rest : List Step) → is_among name (devices_of before) ≡ false → home_of (before ++ Device name account ∷ rest) name ≡ account
-home_here name account before rest known = home_behind name before (Device name account ∷ rest) known ∙ rw (bytes_eq-self name)
+home_here name account before rest known = home_after name before (Device name account ∷ rest) known ∙ rw (bytes_eq-self name)
 
 abbrev pub home_in : List Step → List ℕ → Owned
 home_in all name = record { device = name; account = home_of all name }

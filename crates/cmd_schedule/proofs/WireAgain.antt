@@ -26,7 +26,7 @@ use Rattle.cmd_schedule.specs.declared.schedule.WireStep.TheVariants.{Common, Di
 use Rattle.cmd_schedule.proofs.Again.{AreDeclared, IsPlain, IsWord, among_is_name, word_from_all, digits_word, last_again, name_word, next_again, plain_append, plain_from_all, step_again}
 use Rattle.cmd_schedule.proofs.Numbers.{decimal_number, number_again}
 use Rattle.cmd_schedule.proofs.WireFound.{AreCountable, countable_on, wire_line_text}
-use Rattle.cmd_schedule.proofs.Words.{piece_behind}
+use Rattle.cmd_schedule.proofs.Words.{piece_after}
 
 -- a line that is read again
 record IsWireAgain (above : WireAbove) (step : WireStep) : Type 0 where
@@ -270,7 +270,7 @@ wire_lines_again above n (line ∷ lines) names bound h =
     let again = wire_step_again above line.step (record { names = names; countable = bound }) h.2 h.3 in
     let parts : pieces_of (flat_map wire_line_text (line ∷ lines)) ≡ record { bytes = wire_step_text line.step; ended = true } ∷ pieces_of (flat_map wire_line_text lines) =
     ap (λ (xs : List ℕ). pieces_of xs) (flat_map-cons wire_line_text line lines ∙ append_assoc (wire_step_text line.step) (10 ∷ []) (flat_map wire_line_text lines))
-    ∙ piece_behind (wire_step_text line.step) (flat_map wire_line_text lines) again.plain.lacks in
+    ∙ piece_after (wire_step_text line.step) (flat_map wire_line_text lines) again.plain.lacks in
     let read = wire_line_again above n line.step h.1 again in
     let others = wire_lines_again (above_by line.step above) (n + 1) lines again.declared (countable_on above line.step bound h.3) h.4 in
     let same : record { number = n; step = line.step } ≡ line = ap (λ (k : ℕ). record { number = k; step = line.step }) (sym h.0) in

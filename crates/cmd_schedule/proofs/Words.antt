@@ -15,17 +15,17 @@ Lacks-tail c b bytes h i lt = h (suc i) (omega arith)
 differs : (c b : ℕ) (bytes : List ℕ) → Lacks c (b ∷ bytes) → eqb b c ≡ false
 differs c b bytes h = ne_eqb b c (h 0 (omega arith))
 
-pub cut_behind : (front rest : List ℕ) → Lacks 32 front → cut_of (front ++ 32 ∷ rest) ≡ record { front = front; rest = Some rest }
-cut_behind [] rest h = refl
-cut_behind (b ∷ front) rest h = rw (differs 32 b front h, cut_behind front rest (Lacks-tail 32 b front h)) refl
+pub cut_after : (front rest : List ℕ) → Lacks 32 front → cut_of (front ++ 32 ∷ rest) ≡ record { front = front; rest = Some rest }
+cut_after [] rest h = refl
+cut_after (b ∷ front) rest h = rw (differs 32 b front h, cut_after front rest (Lacks-tail 32 b front h)) refl
 
 pub cut_whole : (bytes : List ℕ) → Lacks 32 bytes → cut_of bytes ≡ record { front = bytes; rest = None }
 cut_whole [] h = refl
 cut_whole (b ∷ bytes) h = rw (differs 32 b bytes h, cut_whole bytes (Lacks-tail 32 b bytes h)) refl
 
-pub piece_behind : (front rest : List ℕ) → Lacks 10 front → pieces_of (front ++ 10 ∷ rest) ≡ record { bytes = front; ended = true } ∷ pieces_of rest
-piece_behind [] rest h = refl
-piece_behind (b ∷ front) rest h = rw (differs 10 b front h, piece_behind front rest (Lacks-tail 10 b front h)) refl
+pub piece_after : (front rest : List ℕ) → Lacks 10 front → pieces_of (front ++ 10 ∷ rest) ≡ record { bytes = front; ended = true } ∷ pieces_of rest
+piece_after [] rest h = refl
+piece_after (b ∷ front) rest h = rw (differs 10 b front h, piece_after front rest (Lacks-tail 10 b front h)) refl
 
 pub piece_whole : (b : ℕ) (bytes : List ℕ) → Lacks 10 (b ∷ bytes) → pieces_of (b ∷ bytes) ≡ record { bytes = b ∷ bytes; ended = false } ∷ []
 piece_whole b [] h = rw (differs 10 b [] h) refl

@@ -2,7 +2,7 @@
 use Rattle.std.specs.Prelude.{◌≡◌, ℕ, ◌≤◌, List, Some, IsTrue, length, take, slice_get}
 use Rattle.cmd_schedule.specs.Contents.{accounts_of, devices_of}
 use Rattle.cmd_schedule.specs.Grammar.{Declared, may_stand}
-use Rattle.base_io.specs.Names.{place_of}
+use Rattle.base_io.specs.Names.{position_of}
 use Rattle.cmd_schedule.specs.declared.schedule.Step.{Step}
 
 abbrev pub declared_in : List Step → Declared
@@ -15,4 +15,4 @@ pub record AreRight (steps : List Step) : Type 0 where
 
 -- no name stands twice
 pub record AreOnce (names : List (List ℕ)) : Type 0 where
-  pub first : (k : ℕ) (name : List ℕ) → slice_get names k ≡ Some name → place_of name names ≡ Some k
+  pub first : (k : ℕ) (name : List ℕ) → slice_get names k ≡ Some name → position_of name names ≡ Some k

@@ -58,7 +58,7 @@ impl DeclaredNames {
         ensures same { IfOk result (λ text. text.now ≡ name.now) }
     {
         match self.index.find(name) {
-            Some(place) => Ok(&self.texts.as_slice()[place]),
+            Some(position) => Ok(&self.texts.as_slice()[position]),
             None => Err(LineFault::Reason(LineWhy::Unknown)),
         }
     }
@@ -68,7 +68,7 @@ impl DeclaredNames {
         ensures { IfOk result (λ text. text ≡ name.now) }
     {
         match self.index.find(name) {
-            Some(place) => self.texts.as_slice()[place].copied(alloc),
+            Some(position) => self.texts.as_slice()[position].copied(alloc),
             None => Text::from_str(alloc, name),
         }
     }

@@ -9,10 +9,10 @@ use Rattle.std.proofs.lemmas.Bool.Decides.{nat_tests}
 use Rattle.base_lemmas.proofs.Lists.{list_all-weaker}
 use Rattle.im_jid.specs.Normal.{normal}
 use Rattle.cmd_schedule.proofs.Numbers.{decimal_number, number_again, number_digits}
-use Rattle.cmd_schedule.proofs.Words.{Lacks, cut_behind, piece_behind}
+use Rattle.cmd_schedule.proofs.Words.{Lacks, cut_after, piece_after}
 use Rattle.cmd_schedule.specs.Grammar.{is_digit, is_text}
 use Rattle.cmd_schedule.specs.Reading.{Piece, cut_of, last_field, next_field, not_empty, pieces_of, rest_field}
-use Rattle.cmd_sync.specs.ScriptReading.{address_in, fields_behind, read_catch_up, read_first, read_say, read_step, read_steps, read_user, read_words, script_reading}
+use Rattle.cmd_sync.specs.ScriptReading.{address_in, fields_after, read_catch_up, read_first, read_say, read_step, read_steps, read_user, read_words, script_reading}
 use Rattle.cmd_sync.specs.Scripts.{IsScript, Says, ScriptView, SpellsAddress, SpellsStep, SpellsSteps, SpellsUser, is_account, is_field, is_line, is_password, is_password_byte, is_resource, may_do, may_log_in}
 use Rattle.cmd_sync.specs.declared.script_fault.ScriptFault.{ScriptFault}
 use Rattle.cmd_sync.specs.declared.script.Step.{Step}
@@ -33,7 +33,7 @@ lacks_from c (b ∷ bytes) h (suc i) lt = lacks_from c bytes (and_parts (not (eq
 next_again : (word rest : List ℕ) → is_field word ≡ true → next_field (Some (word ++ 32 ∷ rest)) ≡ Ok (record { front = word; rest = Some rest })
 next_again word rest h =
     let parts = and_parts (not_empty word) (list_all (λ b. not (eqb b 32)) word) h in
-    rw (cut_behind word rest (lacks_from 32 word parts.1), parts.0) refl
+    rw (cut_after word rest (lacks_from 32 word parts.1), parts.0) refl
 
 last_again : (word : List ℕ) → is_field word ≡ true → last_field (Some word) ≡ Ok word
 last_again word h = rw h refl
@@ -69,7 +69,7 @@ text_some (b ∷ text) h = refl
 -- ---- lines
 
 user_again : (user : User) (line : List ℕ) → may_log_in user ≡ true → SpellsUser user line → read_user (ended_line line) ≡ Ok user
-unfolding read_user fields_behind
+unfolding read_user fields_after
 user_again user line may h =
     let utf8 = (and_parts (is_utf8 line) _ h.line).0 in
     let spelled : is_utf8 (codes "account " ++ (h.address ++ 32 ∷ (user.password ++ 32 ∷ user.resource))) ≡ true = ap is_utf8 (sym h.whole) ∙ utf8 in
@@ -110,7 +110,7 @@ step_again step line may h is = rw ((and_parts (is_utf8 line) _ is).0) (words_ag
 -- ---- a text
 
 line_cut : (line rest : List ℕ) → is_line line ≡ true → pieces_of (line ++ 10 ∷ rest) ≡ ended_line line ∷ pieces_of rest
-line_cut line rest is = piece_behind line rest (lacks_from 10 line (and_parts (is_utf8 line) _ is).1)
+line_cut line rest is = piece_after line rest (lacks_from 10 line (and_parts (is_utf8 line) _ is).1)
 
 steps_again : (n : ℕ) (steps : List Step) (text : List ℕ) → list_all may_do steps ≡ true → SpellsSteps steps text → read_steps n (pieces_of text) ≡ Ok steps
 steps_again n [] text may h = rw h refl
@@ -121,5 +121,5 @@ steps_again n (step ∷ steps) text may (line, rest, says, is, whole, others) =
 pub script_again : (text : List ℕ) (script : ScriptView) → Says text script → script_reading text ≡ Ok script
 unfolding script_reading read_first
 script_again text script h =
-    let first : pieces_of text ≡ ended_line (codes "xmpp-sync 1") ∷ pieces_of (h.line ++ 10 ∷ h.rest) = ap pieces_of h.whole ∙ piece_behind (codes "xmpp-sync 1") (h.line ++ 10 ∷ h.rest) (lacks_from 10 (codes "xmpp-sync 1") refl) in
+    let first : pieces_of text ≡ ended_line (codes "xmpp-sync 1") ∷ pieces_of (h.line ++ 10 ∷ h.rest) = ap pieces_of h.whole ∙ piece_after (codes "xmpp-sync 1") (h.line ++ 10 ∷ h.rest) (lacks_from 10 (codes "xmpp-sync 1") refl) in
     rw (first, line_cut h.line h.rest h.user.line, user_again script.user h.line h.right.user h.user, steps_again 3 script.steps h.rest h.right.steps h.steps) refl

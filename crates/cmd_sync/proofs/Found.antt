@@ -13,7 +13,7 @@ use Rattle.cmd_schedule.specs.Grammar.{is_text}
 use Rattle.cmd_schedule.specs.Reading.{Cut, Piece, cut_of, either, joined, last_field, next_field, not_empty, pieces_of, rest_field}
 use Rattle.cmd_schedule.specs.declared.fault.LineWhy.{LineWhy}
 use Rattle.cmd_sync.proofs.ReadFields.{bind_ok, gate, done, ok_is, chosen, with_rest, cut_back, next_is, last_is, line_is}
-use Rattle.cmd_sync.specs.ScriptReading.{address_in, addressed, as_script, fields_behind, read_below, read_catch_up, read_first, read_say, read_step, read_steps, read_user, read_words, script_reading, with_next, with_step}
+use Rattle.cmd_sync.specs.ScriptReading.{address_in, addressed, as_script, fields_after, read_below, read_catch_up, read_first, read_say, read_step, read_steps, read_user, read_words, script_reading, with_next, with_step}
 use Rattle.cmd_sync.specs.Scripts.{IsScript, Says, ScriptView, SpellsAddress, SpellsStep, SpellsSteps, SpellsUser, is_account, is_field, is_line, is_password, is_resource, may_do, may_log_in}
 use Rattle.cmd_sync.specs.declared.script_fault.ScriptFault.{ScriptFault}
 use Rattle.cmd_sync.specs.declared.script_fault.ScriptFault.TheVariants.{BadLine}
@@ -77,7 +77,7 @@ spells field fields address read form = record { field = next_field_is fields fi
 
 with_three : (word one two three : List ℕ) (fields rest last : Option (List ℕ)) → fields ≡ Some (with_rest one rest) → rest ≡ Some (with_rest two last) → last ≡ Some three
     → with_rest word fields ≡ word ++ 32 ∷ (one ++ 32 ∷ (two ++ 32 ∷ three))
-with_three word one two three fields rest last is after behind = rw (is, after, behind) refl
+with_three word one two three fields rest last is after following = rw (is, after, following) refl
 
 with_two : (word one two : List ℕ) (fields rest : Option (List ℕ)) → fields ≡ Some (with_rest one rest) → rest ≡ Some two → with_rest word fields ≡ word ++ 32 ∷ (one ++ 32 ∷ two)
 with_two word one two fields rest is after = rw (is, after) refl
@@ -96,7 +96,7 @@ record IsUser (piece : Piece) (user : User) : Type 0 where
 user_found : (piece : Piece) (user : User) → is_one_line piece.bytes ≡ true → read_user piece ≡ Ok user → IsUser piece user
 unfolding read_user
 user_found piece user one e =
-    let a = bind_ok (fields_behind (codes "account") piece) _ user e in
+    let a = bind_ok (fields_after (codes "account") piece) _ user e in
     let f = bind_ok (next_field a.0) _ user a.2 in
     let p = bind_ok (next_field f.0.rest) _ user f.2 in
     let r = bind_ok (last_field p.0.rest) _ user p.2 in

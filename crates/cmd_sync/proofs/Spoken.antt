@@ -7,8 +7,8 @@ use Rattle.std.proofs.Math.Seq.{take-append_seam}
 use Rattle.base_io.specs.Counts.{Rose}
 use Rattle.base_io.specs.Prefixes.{AppendsPrefix}
 use Rattle.net_traits.specs.Links.{LinkView}
-use Rattle.cmd_sync.specs.Courses.{Course, Turned, further, is_awaiting, over, takes}
-use Rattle.cmd_sync.specs.Talks.{IsCalm, IsCut, IsDry, IsRound, IsSevered, IsSpoken, IsStarved, IsStuck, IsUnsent, RoundStops, TalkStops, joined}
+use Rattle.cmd_sync.specs.Courses.{Course, CourseStep, further, is_awaiting, over, takes}
+use Rattle.cmd_sync.specs.Talks.{IsCut, IsDry, IsRound, IsSevered, IsSpoken, IsStarved, IsStuck, IsUnsent, NothingFailed, RoundStops, TalkStops, joined}
 use Rattle.cmd_sync.specs.declared.sync_fault.Stop.{Stop}
 use Rattle.cmd_sync.specs.declared.sync_fault.Stop.TheVariants.{Link, NoMemory}
 
@@ -20,17 +20,17 @@ appends_same old mid new bs out same = subst (λ (bytes : Option (List ℕ)). Ap
 prefix_whole : (old new : Option (List ℕ)) (bs more : List ℕ) → Appends old new bs → AppendsPrefix old new (bs ++ more)
 prefix_whole old new bs more out = (length bs, omega (arith, length-append bs more), subst (Appends old new) (sym (take-append_seam bs more)) out)
 
-take_behind : (bs more : List ℕ) (n : ℕ) → take (length bs + n) (bs ++ more) ≡ bs ++ take n more
-take_behind [] more n = ap (λ (m : ℕ). take m more) (zero-add n)
-take_behind (b ∷ bs) more n =
+take_after : (bs more : List ℕ) (n : ℕ) → take (length bs + n) (bs ++ more) ≡ bs ++ take n more
+take_after [] more n = ap (λ (m : ℕ). take m more) (zero-add n)
+take_after (b ∷ bs) more n =
     let longer : length (b ∷ bs) + n ≡ suc (length bs + n) = omega arith in
-    ap (λ (m : ℕ). take m (b ∷ (bs ++ more))) longer ∙ ap (λ (xs : List ℕ). b ∷ xs) (take_behind bs more n)
+    ap (λ (m : ℕ). take m (b ∷ (bs ++ more))) longer ∙ ap (λ (xs : List ℕ). b ∷ xs) (take_after bs more n)
 
-prefix_behind : (old mid new : Option (List ℕ)) (bs more : List ℕ) → Appends old mid bs → AppendsPrefix mid new more → AppendsPrefix old new (bs ++ more)
-prefix_behind old mid new bs more out prefix = (
+prefix_after : (old mid new : Option (List ℕ)) (bs more : List ℕ) → Appends old mid bs → AppendsPrefix mid new more → AppendsPrefix old new (bs ++ more)
+prefix_after old mid new bs more out prefix = (
   length bs + prefix.0,
   omega (arith, length-append bs more, prefix.1),
-  subst (Appends old new) (sym (take_behind bs more prefix.0)) (Appends-trans old mid new bs (take prefix.0 more) out prefix.2),
+  subst (Appends old new) (sym (take_after bs more prefix.0)) (Appends-trans old mid new bs (take prefix.0 more) out prefix.2),
 )
 
 -- ---- pieces
@@ -38,22 +38,22 @@ prefix_behind old mid new bs more out prefix = (
 joined_push : (pieces : List (List ℕ)) (piece : List ℕ) → joined (pieces ++ piece ∷ []) ≡ joined pieces ++ piece
 joined_push pieces piece = flat_map-append (λ (p : List ℕ). p) pieces (piece ∷ []) ∙ ap (λ (xs : List ℕ). joined pieces ++ xs) (append-nil piece)
 
-over_push : (start : Turned) (pieces : List (List ℕ)) (piece : List ℕ) → over start (pieces ++ piece ∷ []) ≡ further (over start pieces) piece
+over_push : (start : CourseStep) (pieces : List (List ℕ)) (piece : List ℕ) → over start (pieces ++ piece ∷ []) ≡ further (over start pieces) piece
 over_push start [] piece = refl
 over_push start (p ∷ pieces) piece = over_push (further start p) pieces piece
 
 -- ---- a piece more
 
-module _ (start : Turned) (old mid new : LinkView) (before : Course) where
+module _ (start : CourseStep) (old mid new : LinkView) (before : Course) where
   read_more : (spoken : IsSpoken start old mid before) (piece : List ℕ) → Appends mid.read new.read piece → Appends old.read new.read (joined (spoken.pieces ++ piece ∷ []))
   read_more spoken piece read = subst (Appends old.read new.read) (sym (joined_push spoken.pieces piece)) (Appends-trans old.read mid.read new.read (joined spoken.pieces) piece spoken.read read)
 
   put_more : (spoken : IsSpoken start old mid before) (piece : List ℕ) → (over start spoken.pieces).put ++ (takes before piece).put ≡ (over start (spoken.pieces ++ piece ∷ [])).put
   put_more spoken piece =
-      ap (λ (c : Course). (over start spoken.pieces).put ++ (takes c piece).put) spoken.course ∙ sym (ap (λ (t : Turned). t.put) (over_push start spoken.pieces piece))
+      ap (λ (c : Course). (over start spoken.pieces).put ++ (takes c piece).put) spoken.course ∙ sym (ap (λ (t : CourseStep). t.put) (over_push start spoken.pieces piece))
 
   course_more : (spoken : IsSpoken start old mid before) (piece : List ℕ) → (takes before piece).course ≡ (over start (spoken.pieces ++ piece ∷ [])).course
-  course_more spoken piece = ap (λ (c : Course). (takes c piece).course) spoken.course ∙ sym (ap (λ (t : Turned). t.course) (over_push start spoken.pieces piece))
+  course_more spoken piece = ap (λ (c : Course). (takes c piece).course) spoken.course ∙ sym (ap (λ (t : CourseStep). t.course) (over_push start spoken.pieces piece))
 
   pub spoken_more : (after : Course) → IsSpoken start old mid before → IsRound mid new before after → IsSpoken start old new after
   spoken_more after spoken round = record {
@@ -62,10 +62,10 @@ module _ (start : Turned) (old mid new : LinkView) (before : Course) where
     written = subst (Appends old.written new.written) (put_more spoken round.piece)
         (Appends-trans old.written mid.written new.written (over start spoken.pieces).put (takes before round.piece).put spoken.written round.written);
     course = round.course ∙ course_more spoken round.piece;
-    calm = record {
-      read_faults = round.calm.read_faults ∙ spoken.calm.read_faults;
-      write_faults = round.calm.write_faults ∙ spoken.calm.write_faults;
-      ends = round.calm.ends ∙ spoken.calm.ends;
+    nothing_failed = record {
+      read_faults = round.nothing_failed.read_faults ∙ spoken.nothing_failed.read_faults;
+      write_faults = round.nothing_failed.write_faults ∙ spoken.nothing_failed.write_faults;
+      ends = round.nothing_failed.ends ∙ spoken.nothing_failed.ends;
     };
   }
 
@@ -78,10 +78,10 @@ module _ (start : Turned) (old mid new : LinkView) (before : Course) where
     read = subst (Appends old.read new.read) (append-nil (joined spoken.pieces)) (Appends-trans old.read mid.read new.read (joined spoken.pieces) [] spoken.read dry.read);
     written = appends_same old.written mid.written new.written (over start spoken.pieces).put spoken.written dry.written;
     awaited = ap (λ (c : Course). is_awaiting c.stage) (sym spoken.course) ∙ awaited;
-    write_faults = dry.write_faults ∙ spoken.calm.write_faults;
+    write_faults = dry.write_faults ∙ spoken.nothing_failed.write_faults;
     cause = elim dry.cause [
-      | inl rose ↦ inl (rose_from old.read_faults mid.read_faults new.read_faults spoken.calm.read_faults rose)
-      | inr rose ↦ inr (rose_from old.ends mid.ends new.ends spoken.calm.ends rose)
+      | inl rose ↦ inl (rose_from old.read_faults mid.read_faults new.read_faults spoken.nothing_failed.read_faults rose)
+      | inr rose ↦ inr (rose_from old.ends mid.ends new.ends spoken.nothing_failed.ends rose)
     ];
   }
 
@@ -90,8 +90,8 @@ module _ (start : Turned) (old mid new : LinkView) (before : Course) where
     pieces = spoken.pieces ++ cut.piece ∷ [];
     read = read_more spoken cut.piece cut.read;
     written = subst (AppendsPrefix old.written new.written) (put_more spoken cut.piece)
-        (prefix_behind old.written mid.written new.written (over start spoken.pieces).put (takes before cut.piece).put spoken.written cut.written);
-    cause = rose_from old.write_faults mid.write_faults new.write_faults spoken.calm.write_faults cut.cause;
+        (prefix_after old.written mid.written new.written (over start spoken.pieces).put (takes before cut.piece).put spoken.written cut.written);
+    cause = rose_from old.write_faults mid.write_faults new.write_faults spoken.nothing_failed.write_faults cut.cause;
   }
 
   starved : IsSpoken start old mid before → IsStuck mid new → IsStarved start old new
@@ -110,16 +110,16 @@ module _ (start : Turned) (old mid new : LinkView) (before : Course) where
 
 -- ---- the first bytes
 
-pub spoken_first : (start : Turned) (old new : LinkView) (now : Course) → new.read ≡ old.read → Appends old.written new.written start.put → now ≡ start.course → IsCalm old new → IsSpoken start old new now
-spoken_first start old new now read written course calm = record {
+pub spoken_first : (start : CourseStep) (old new : LinkView) (now : Course) → new.read ≡ old.read → Appends old.written new.written start.put → now ≡ start.course → NothingFailed old new → IsSpoken start old new now
+spoken_first start old new now read written course nothing_failed = record {
   pieces = [];
   read = subst (λ (bytes : Option (List ℕ)). Appends old.read bytes []) (sym read) (Appends-nil old.read);
   written = written;
   course = course;
-  calm = calm;
+  nothing_failed = nothing_failed;
 }
 
-pub unsent_first : (start : Turned) (old new : LinkView) → new.read ≡ old.read → AppendsPrefix old.written new.written start.put → Rose old.write_faults new.write_faults → IsUnsent start old new
+pub unsent_first : (start : CourseStep) (old new : LinkView) → new.read ≡ old.read → AppendsPrefix old.written new.written start.put → Rose old.write_faults new.write_faults → IsUnsent start old new
 unsent_first start old new read written cause = record {
   pieces = [];
   read = subst (λ (bytes : Option (List ℕ)). Appends old.read bytes []) (sym read) (Appends-nil old.read);

@@ -18,7 +18,7 @@ use Rattle.cmd_sync.specs.Scripts.{ScriptView, is_account, is_password, is_passw
 use Rattle.cmd_sync.specs.declared.script_fault.ScriptFault.{ScriptFault}
 use Rattle.cmd_sync.specs.declared.script.User.{User}
 use Rattle.cmd_sync.specs.declared.script.Step.{Step}
-use Rattle.cmd_sync.specs.Courses.{Turned, begun}
+use Rattle.cmd_sync.specs.Courses.{CourseStep, begun}
 use Rattle.cmd_sync.specs.Syncs.{IsBegun, IsRead, IsSynced, IsTold, IsUnread, IsUnrun, IsWhy}
 use Rattle.cmd_sync.specs.Talks.{DialerView}
 use Rattle.cmd_sync.specs.declared.sync_fault.SyncFault.{SyncFault}
@@ -47,18 +47,18 @@ plain text h =
 not_made : (c : ClientValue) (fault : ClientFault) → client_of c ≡ no_client fault → ⊥
 not_made c fault e = cc
 
-made_fine : (address : List ℕ) (l r : Option (List ℕ)) (password : List ℕ) (form : Result (List ℕ) JidFault) (fault : ClientFault) → is_some l && is_none r ≡ true → is_plain password ≡ true → is_ok form ≡ true
+made_bounded : (address : List ℕ) (l r : Option (List ℕ)) (password : List ℕ) (form : Result (List ℕ) JidFault) (fault : ClientFault) → is_some l && is_none r ≡ true → is_plain password ≡ true → is_ok form ≡ true
     → made_by address l r password form ≡ Err fault → ⊥
-made_fine address None r password form fault a p f e = false≢true a
-made_fine address (Some l) (Some r) password form fault a p f e = false≢true a
-made_fine address (Some l) None password (Err why) fault a p f e = false≢true f
-made_fine address (Some l) None password (Ok resource) fault a p f e = not_made _ fault (rw p at e)
+made_bounded address None r password form fault a p f e = false≢true a
+made_bounded address (Some l) (Some r) password form fault a p f e = false≢true a
+made_bounded address (Some l) None password (Err why) fault a p f e = false≢true f
+made_bounded address (Some l) None password (Ok resource) fault a p f e = not_made _ fault (rw p at e)
 
 pub made_of : (user : User) (fault : ClientFault) → may_log_in user ≡ true → made user.address user.password user.resource ≡ Err fault → ⊥
 made_of user fault may e =
     let outer = and_parts (is_account user.address && is_password user.password) (is_resource user.resource) may in
     let inner = and_parts (is_account user.address) (is_password user.password) outer.0 in
-    made_fine user.address (local_of user.address) (resource_of user.address) user.password (resource_form user.resource) fault inner.0 (plain user.password inner.1) outer.1 e
+    made_bounded user.address (local_of user.address) (resource_of user.address) user.password (resource_form user.resource) fault inner.0 (plain user.password inner.1) outer.1 e
 
 same_refusal : (a b : ClientFault) → no_client a ≡ no_client b → a ≡ b
 same_refusal a b e = cc
@@ -98,12 +98,12 @@ pub on_ok : {A : Type 0} {P : Type 0} (r : Result A SyncFault) → P → OnOk r 
 on_ok (Ok a) p = p
 on_ok (Err fault) p = tt
 
-pub synced_ok : {A : Type 0} (r : Result A SyncFault) (items : A → List ℕ) (text : List ℕ) (drawn : Option (List ℕ)) (start : Turned) (old new : DialerView) → IsBegun text drawn start → IfOk r (λ a. IsTold start old new (items a))
+pub synced_ok : {A : Type 0} (r : Result A SyncFault) (items : A → List ℕ) (text : List ℕ) (drawn : Option (List ℕ)) (start : CourseStep) (old new : DialerView) → IsBegun text drawn start → IfOk r (λ a. IsTold start old new (items a))
     → IfOk r (λ a. IsSynced text drawn old new (items a))
 synced_ok (Ok a) items text drawn start old new begins told = record { start = start; begins = begins; told = told }
 synced_ok (Err fault) items text drawn start old new begins told = tt
 
-why : (fault : SyncFault) (text : List ℕ) (drawn : Option (List ℕ)) (before after : ℕ) (start : Turned) (old new : DialerView) → IsBegun text drawn start → after ≡ before → IsUnrun fault start old new → IsWhy fault text drawn before after old new
+why : (fault : SyncFault) (text : List ℕ) (drawn : Option (List ℕ)) (before after : ℕ) (start : CourseStep) (old new : DialerView) → IsBegun text drawn start → after ≡ before → IsUnrun fault start old new → IsWhy fault text drawn before after old new
 why (Peer failure) text drawn before after start old new begins quiet e = (record { start = start; begins = begins; untold = e }, quiet)
 why Link text drawn before after start old new begins quiet e = (record { start = start; begins = begins; untold = e }, quiet)
 why NoMemory text drawn before after start old new begins quiet (inl same) = (inl same, quiet)
@@ -111,7 +111,7 @@ why NoMemory text drawn before after start old new begins quiet (inr e) = (inr (
 why (BadLine line reason) text drawn before after start old new begins quiet e = absurd e
 why Entropy text drawn before after start old new begins quiet e = absurd e
 
-pub synced_err : {A : Type 0} (r : Result A SyncFault) (text : List ℕ) (drawn : Option (List ℕ)) (before after : ℕ) (start : Turned) (old new : DialerView) → IsBegun text drawn start → after ≡ before
+pub synced_err : {A : Type 0} (r : Result A SyncFault) (text : List ℕ) (drawn : Option (List ℕ)) (before after : ℕ) (start : CourseStep) (old new : DialerView) → IsBegun text drawn start → after ≡ before
     → IfErr r (λ fault. IsUnrun fault start old new) → IfErr r (λ fault. IsWhy fault text drawn before after old new)
 synced_err (Ok a) text drawn before after start old new begins quiet unrun = tt
 synced_err (Err fault) text drawn before after start old new begins quiet unrun = why fault text drawn before after start old new begins quiet unrun

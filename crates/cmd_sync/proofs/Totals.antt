@@ -10,7 +10,7 @@ use Rattle.cl_core.specs.declared.faults.SayFault.{SayFault}
 use Rattle.cl_handlers.specs.Speech.{in_bytes}
 use Rattle.cmd_sync.specs.declared.script.Step.{Step}
 use Rattle.cmd_sync.specs.declared.script.Step.TheVariants.{Say, CatchUp}
-use Rattle.cmd_sync.specs.Courses.{Course, Turned, asks_for, done_with, fails_late, goes_on, is_awaiting, looks, quiet, says_to, seen_in, stands, taken, takes, takes_in}
+use Rattle.cmd_sync.specs.Courses.{Course, CourseStep, asks_for, done_with, fails_late, goes_on, is_awaiting, looks, quiet, says_to, seen_in, stands, taken, takes, takes_in}
 use Rattle.cmd_sync.specs.declared.failure.PeerFailure.{PeerFailure}
 use Rattle.cmd_sync.specs.declared.failure.PeerFailure.TheVariants.{TooMuch}
 use Rattle.cmd_sync.specs.declared.running.TheConstants.{MOST_RECEIVED}
@@ -46,11 +46,11 @@ looks_total f stage steps total (Fails failure) = refl
 looks_total f stage steps total (Does late) = done_total f steps total late
 
 -- all is counted, and where something is awaited still it is within the bound
-record IsCounted (total : ℕ) (t : Turned) : Type 0 where
+record IsCounted (total : ℕ) (t : CourseStep) : Type 0 where
   counted : t.course.total ≡ total
   bound : is_awaiting t.course.stage ≡ true → total ≤ MOST_RECEIVED
 
-if_counted : (over : Bool) (total : ℕ) (x y : Turned) → x.course.total ≡ total → is_awaiting x.course.stage ≡ false → y.course.total ≡ total → (over ≡ false → total ≤ MOST_RECEIVED) → IsCounted total (cond over x y)
+if_counted : (over : Bool) (total : ℕ) (x y : CourseStep) → x.course.total ≡ total → is_awaiting x.course.stage ≡ false → y.course.total ≡ total → (over ≡ false → total ≤ MOST_RECEIVED) → IsCounted total (cond over x y)
 if_counted true total x y xt failed yt within = record { counted = xt; bound = λ e. absurd (false≢true (sym_of failed e)) }
   where
     sym_of : {b : Bool} → b ≡ false → b ≡ true → false ≡ true

@@ -10,8 +10,8 @@ use Rattle.cl_core.specs.declared.faults.SayFault.{SayFault}
 use Rattle.cl_handlers.specs.Speech.{in_bytes}
 use Rattle.cmd_sync.specs.declared.script.Step.{Step}
 use Rattle.cmd_sync.specs.declared.script.Step.TheVariants.{Say, CatchUp}
-use Rattle.cmd_sync.specs.Courses.{Course, Turned, asks_for, begun, done_with, fails_late, further, goes_on, is_awaiting, looks, over, quiet, says_to, seen_in, stands, takes, takes_in}
-use Rattle.cmd_sync.specs.Deeds.{awaited, done_by, done_in, done_over, done_within}
+use Rattle.cmd_sync.specs.Courses.{Course, CourseStep, asks_for, begun, done_with, fails_late, further, goes_on, is_awaiting, looks, over, quiet, says_to, seen_in, stands, takes, takes_in}
+use Rattle.cmd_sync.specs.Outcomes.{awaited, done_by, done_in, done_over, done_within}
 use Rattle.cmd_sync.specs.declared.failure.PeerFailure.{PeerFailure}
 use Rattle.cmd_sync.specs.declared.failure.PeerFailure.TheVariants.{NotSaid, NotAsked, TooMuch}
 use Rattle.cmd_sync.specs.declared.running.TheConstants.{MOST_RECEIVED}
@@ -78,7 +78,7 @@ looks_comes f stage steps total Still at = Rest refl (λ e. absurd (awaits_not_d
 looks_comes f stage steps total (Fails failure) at = Fell failure refl
 looks_comes f stage steps total (Does late) at = done_comes f steps total late (awaited stage)
 
-if_comes : (over : Bool) (before done : List Step) (x y : Turned) (failure : PeerFailure) → x.course.stage ≡ Failed failure → Comes before done y.course
+if_comes : (over : Bool) (before done : List Step) (x y : CourseStep) (failure : PeerFailure) → x.course.stage ≡ Failed failure → Comes before done y.course
     → Comes before (cond over [] done) (cond over x y).course
 if_comes true before done x y failure fell comes = Fell failure fell
 if_comes false before done x y failure fell comes = comes
@@ -115,7 +115,7 @@ abbrev at_end : Course → List (List ℕ) → Course
 at_end c [] = c
 at_end c (piece ∷ pieces) = at_end (takes c piece).course pieces
 
-over_end : (t : Turned) (pieces : List (List ℕ)) → (over t pieces).course ≡ at_end t.course pieces
+over_end : (t : CourseStep) (pieces : List (List ℕ)) → (over t pieces).course ≡ at_end t.course pieces
 over_end t [] = refl
 over_end t (piece ∷ pieces) = over_end (further t piece) pieces
 

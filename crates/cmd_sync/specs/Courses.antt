@@ -5,7 +5,7 @@ use Rattle.cl_core.specs.UserCalls.{catch_up_answer, catches_up, closes, dials, 
 use Rattle.cl_core.specs.Values.{ClientValue}
 use Rattle.cl_core.specs.declared.faults.CatchUpStart.{CatchUpStart}
 use Rattle.cl_core.specs.declared.faults.SayFault.{SayFault}
-use Rattle.cl_handlers.specs.Clients.{Turn}
+use Rattle.cl_handlers.specs.Clients.{ClientStep}
 use Rattle.cl_handlers.specs.Speech.{in_bytes}
 use Rattle.cl_handlers.specs.declared.events.Event.{Event}
 use Rattle.cl_handlers.specs.declared.events.Event.TheVariants.{Bound, Acked, PageDone}
@@ -34,7 +34,7 @@ pub record Course : Type 0 where
   pub total : ℕ
 
 -- the same, and what was put
-pub record Turned : Type 0 where
+pub record CourseStep : Type 0 where
   pub course : Course
   pub put : List ℕ
 
@@ -108,44 +108,44 @@ abbrev pub quiet : ClientValue → Fed (List ℕ) ℕ
 quiet c = record { framer = c.framer; turn = record { client = c.client; out = record { put = []; events = []; notes = [] } } }
 
 -- so far, where the client has come to this
-abbrev pub stands : Fed (List ℕ) ℕ → Stage → List Step → ℕ → Turned
+abbrev pub stands : Fed (List ℕ) ℕ → Stage → List Step → ℕ → CourseStep
 stands f stage steps total = record {
   course = record { client = record { framer = f.framer; client = f.turn.client }; stage = stage; steps = steps; total = total };
   put = f.turn.out.put;
 }
 
-abbrev pub with_turn : Fed (List ℕ) ℕ → Turn (List ℕ) ℕ → Fed (List ℕ) ℕ
-with_turn f turn = record { framer = f.framer; turn = turn }
+abbrev pub with_client_step : Fed (List ℕ) ℕ → ClientStep (List ℕ) ℕ → Fed (List ℕ) ℕ
+with_client_step f turn = record { framer = f.framer; turn = turn }
 
-abbrev pub says_to : Fed (List ℕ) ℕ → List ℕ → List ℕ → List Step → ℕ → Result ℕ SayFault → Turned
-says_to f to text steps total (Ok n) = stands (with_turn f (says in_bytes f.turn to text false)) (Awaits (Some (Say to text))) steps total
+abbrev pub says_to : Fed (List ℕ) ℕ → List ℕ → List ℕ → List Step → ℕ → Result ℕ SayFault → CourseStep
+says_to f to text steps total (Ok n) = stands (with_client_step f (says in_bytes f.turn to text false)) (Awaits (Some (Say to text))) steps total
 says_to f to text steps total (Err fault) = stands f (Failed (NotSaid fault)) steps total
 
-abbrev pub asks_for : Fed (List ℕ) ℕ → ℕ → List Step → ℕ → Result (Unit {0}) CatchUpStart → Turned
-asks_for f max steps total (Ok done) = stands (with_turn f (catches_up in_bytes f.turn max)) (Awaits (Some (CatchUp max))) steps total
+abbrev pub asks_for : Fed (List ℕ) ℕ → ℕ → List Step → ℕ → Result (Unit {0}) CatchUpStart → CourseStep
+asks_for f max steps total (Ok done) = stands (with_client_step f (catches_up in_bytes f.turn max)) (Awaits (Some (CatchUp max))) steps total
 asks_for f max steps total (Err fault) = stands f (Failed (NotAsked fault)) steps total
 
 -- a step begins: the message goes out, or a page is asked for
-abbrev pub begins : Fed (List ℕ) ℕ → Step → List Step → ℕ → Turned
+abbrev pub begins : Fed (List ℕ) ℕ → Step → List Step → ℕ → CourseStep
 begins f (Say to text) steps total = says_to f to text steps total (say_answer f.turn.client text)
 begins f (CatchUp max) steps total = asks_for f max steps total (catch_up_answer f.turn.client)
 
 -- the next step begins; behind the last one the stream is closed
-abbrev pub goes_on : Fed (List ℕ) ℕ → List Step → ℕ → Turned
+abbrev pub goes_on : Fed (List ℕ) ℕ → List Step → ℕ → CourseStep
 goes_on f [] total = stands (closes in_bytes f) Done [] total
 goes_on f (step ∷ steps) total = begins f step steps total
 
 -- A failure behind what is done counts only where a step is left.
-abbrev pub fails_late : Fed (List ℕ) ℕ → PeerFailure → ℕ → List Step → Turned
+abbrev pub fails_late : Fed (List ℕ) ℕ → PeerFailure → ℕ → List Step → CourseStep
 fails_late f failure total [] = goes_on f [] total
 fails_late f failure total (step ∷ steps) = stands f (Failed failure) (step ∷ steps) total
 
 -- what was awaited is done
-abbrev pub done_with : Fed (List ℕ) ℕ → List Step → ℕ → Option PeerFailure → Turned
+abbrev pub done_with : Fed (List ℕ) ℕ → List Step → ℕ → Option PeerFailure → CourseStep
 done_with f steps total None = goes_on f steps total
 done_with f steps total (Some failure) = fails_late f failure total steps
 
-abbrev pub looks : Fed (List ℕ) ℕ → Stage → List Step → ℕ → Seen → Turned
+abbrev pub looks : Fed (List ℕ) ℕ → Stage → List Step → ℕ → Seen → CourseStep
 looks f stage steps total Still = stands f stage steps total
 looks f stage steps total (Fails failure) = stands f (Failed failure) steps total
 looks f stage steps total (Does late) = done_with f steps total late
@@ -154,28 +154,28 @@ abbrev pub seen_in : Fed (List ℕ) ℕ → Stage → Seen
 seen_in f stage = seen_over stage (is_last_acknowledged (all_said f.turn.client.said)) f.turn.out.events
 
 -- A piece was taken. The one with which too much came is not looked at.
-abbrev pub taken : Fed (List ℕ) ℕ → Stage → List Step → ℕ → Turned
+abbrev pub taken : Fed (List ℕ) ℕ → Stage → List Step → ℕ → CourseStep
 taken f stage steps total =
     if nat_lt MOST_RECEIVED total then stands f (Failed TooMuch) steps total else looks f stage steps total (seen_in f stage)
 
-abbrev pub takes_in : Bool → Course → List ℕ → Turned
+abbrev pub takes_in : Bool → Course → List ℕ → CourseStep
 takes_in false c piece = record { course = c; put = [] }
 takes_in true c piece = taken (bytes_step in_bytes (quiet c.client) piece) c.stage c.steps (c.total + length piece)
 
 -- a piece; where nothing is awaited, nothing is done
-abbrev pub takes : Course → List ℕ → Turned
+abbrev pub takes : Course → List ℕ → CourseStep
 takes c piece = takes_in (is_awaiting c.stage) c piece
 
 -- ---- a whole run
 
 -- the connection begins, and the client is to come online
-abbrev pub begun : ClientValue → List ℕ → List Step → Turned
+abbrev pub begun : ClientValue → List ℕ → List Step → CourseStep
 begun client entropy steps = stands (dials in_bytes entropy (quiet client)) (Awaits None) steps 0
 
 -- a piece more
-abbrev pub further : Turned → List ℕ → Turned
+abbrev pub further : CourseStep → List ℕ → CourseStep
 further t piece = record { course = (takes t.course piece).course; put = t.put ++ (takes t.course piece).put }
 
 -- the pieces, one behind the other
-abbrev pub over : Turned → List (List ℕ) → Turned
+abbrev pub over : CourseStep → List (List ℕ) → CourseStep
 over t pieces = fold further t pieces

@@ -25,4 +25,4 @@ pub mod SyncReading
 -- What a call of `sync` came to.
 pub mod Syncs
 -- What a course has done.
-pub mod Deeds
+pub mod Outcomes

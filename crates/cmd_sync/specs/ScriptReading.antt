@@ -23,8 +23,8 @@ read_first piece = do
   wants piece.ended why.Ending
 
 -- what follows the first word of a line, which must be this word
-unfoldable pub fields_behind : List ℕ → Piece → Result (Option (List ℕ)) LineWhy
-fields_behind word piece = do
+unfoldable pub fields_after : List ℕ → Piece → Result (Option (List ℕ)) LineWhy
+fields_after word piece = do
   ended ← wants (piece.ended && is_utf8 piece.bytes) why.Ending
   named ← wants (bytes_eq (cut_of piece.bytes).front word) why.Word
   Ok (cut_of piece.bytes).rest
@@ -40,7 +40,7 @@ address_in field = addressed (normal field)
 -- who logs in
 unfoldable pub read_user : Piece → Result User LineWhy
 read_user piece = do
-  fields ← fields_behind (codes "account") piece
+  fields ← fields_after (codes "account") piece
   field ← next_field fields
   password ← next_field field.rest
   resource ← last_field password.rest

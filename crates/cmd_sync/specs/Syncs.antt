@@ -10,7 +10,7 @@ use Rattle.cmd_sync.specs.Scripts.{ScriptView, may_do, may_log_in}
 use Rattle.cmd_sync.specs.declared.script.Step.{Step}
 use Rattle.cmd_sync.specs.declared.script.User.{User}
 use Rattle.cmd_sync.specs.declared.script_fault.ScriptFault.TheVariants.{BadLine as BadScriptLine}
-use Rattle.cmd_sync.specs.Courses.{Course, Turned, begun}
+use Rattle.cmd_sync.specs.Courses.{Course, CourseStep, begun}
 use Rattle.cmd_sync.specs.Talks.{DialerView, IsBroken, IsHeld, IsUndialed}
 use Rattle.cmd_sync.specs.declared.sync_fault.Stop.TheVariants as stop
 use Rattle.cmd_sync.specs.declared.sync_fault.SyncFault.{SyncFault}
@@ -21,19 +21,19 @@ use Rattle.cmd_sync.specs.declared.stage.Stage.TheVariants.{Done, Failed}
 -- ---- from where the connection begins
 
 -- all was said over one link, and came to this stage
-pub record IsOver (start : Turned) (old new : DialerView) (stage : Stage) (now : Course) : Type 0 where
+pub record IsOver (start : CourseStep) (old new : DialerView) (stage : Stage) (now : Course) : Type 0 where
   pub held : IsHeld start old new now
   pub ends : now.stage ≡ stage
 
 -- all is done, and the output is the text of the log
-pub record IsTold (start : Turned) (old new : DialerView) (output : List ℕ) : Type 0 where
+pub record IsTold (start : CourseStep) (old new : DialerView) (output : List ℕ) : Type 0 where
   pub now : Course
   pub over : IsOver start old new Done now
   pub written : output ≡ synced_text now.client.client.log
 
 -- Why it was not done. No link was handed out, or a read or a write of the one that was failed, or its end was found before
 -- all was done; the server has to answer for it; or memory ran out, for the talk, or for the output.
-abbrev pub IsUntold : SyncFault → Turned → DialerView → DialerView → Type 0
+abbrev pub IsUntold : SyncFault → CourseStep → DialerView → DialerView → Type 0
 IsUntold Link start old new = IsUndialed old new ⊎ IsBroken stop.Link start old new
 IsUntold (Peer failure) start old new = (now : Course) × IsOver start old new (Failed failure) now
 IsUntold NoMemory start old new = IsBroken stop.NoMemory start old new ⊎ ((now : Course) × IsOver start old new Done now)
@@ -47,7 +47,7 @@ IsOutcome NoMemory stage = stage ≡ Done
 IsOutcome _ stage = ⊥
 
 -- the same, where memory may have run out before the dialer was called
-abbrev pub IsUnrun : SyncFault → Turned → DialerView → DialerView → Type 0
+abbrev pub IsUnrun : SyncFault → CourseStep → DialerView → DialerView → Type 0
 IsUnrun NoMemory start old new = (new ≡ old) ⊎ IsUntold NoMemory start old new
 IsUnrun fault start old new = IsUntold fault start old new
 
@@ -66,7 +66,7 @@ IsUnread NoMemory text = Unit {0}
 IsUnread _ text = ⊥
 
 -- so it begins: the script that the text says, a client of its account, and the bytes that were drawn
-pub record IsBegun (text : List ℕ) (drawn : Option (List ℕ)) (start : Turned) : Type 0 where
+pub record IsBegun (text : List ℕ) (drawn : Option (List ℕ)) (start : CourseStep) : Type 0 where
   pub script : ScriptView
   pub said : script_reading text ≡ Ok script
   pub client : ClientValue
@@ -76,12 +76,12 @@ pub record IsBegun (text : List ℕ) (drawn : Option (List ℕ)) (start : Turned
   pub start_is : start ≡ begun client entropy script.steps
 
 pub record IsSynced (text : List ℕ) (drawn : Option (List ℕ)) (old new : DialerView) (output : List ℕ) : Type 0 where
-  pub start : Turned
+  pub start : CourseStep
   pub begins : IsBegun text drawn start
   pub told : IsTold start old new output
 
 pub record IsUnsynced (text : List ℕ) (drawn : Option (List ℕ)) (old new : DialerView) (fault : SyncFault) : Type 0 where
-  pub start : Turned
+  pub start : CourseStep
   pub begins : IsBegun text drawn start
   pub untold : IsUntold fault start old new
 

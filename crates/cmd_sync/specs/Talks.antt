@@ -5,7 +5,7 @@ use Rattle.std.specs.List.{flat_map}
 use Rattle.base_io.specs.Counts.{Rose, counted}
 use Rattle.base_io.specs.Prefixes.{AppendsPrefix}
 use Rattle.net_traits.specs.Links.{IsUnused, LinkView, counted_if, has_ended, has_failed}
-use Rattle.cmd_sync.specs.Courses.{Course, Turned, is_awaiting, over, takes}
+use Rattle.cmd_sync.specs.Courses.{Course, CourseStep, is_awaiting, over, takes}
 use Rattle.cmd_sync.specs.declared.sync_fault.Stop.{Stop}
 use Rattle.cmd_sync.specs.declared.sync_fault.Stop.TheVariants.{Link, NoMemory}
 
@@ -14,7 +14,7 @@ abbrev pub joined : List (List ℕ) → List ℕ
 joined pieces = flat_map (λ piece. piece) pieces
 
 -- no call of the link failed, and no end was found
-pub record IsCalm (old new : LinkView) : Type 0 where
+pub record NothingFailed (old new : LinkView) : Type 0 where
   pub read_faults : new.read_faults ≡ old.read_faults
   pub write_faults : new.write_faults ≡ old.write_faults
   pub ends : new.ends ≡ old.ends
@@ -28,7 +28,7 @@ pub record IsRound (old new : LinkView) (before after : Course) : Type 0 where
   pub read : Appends old.read new.read piece
   pub written : Appends old.written new.written (takes before piece).put
   pub course : after ≡ (takes before piece).course
-  pub calm : IsCalm old new
+  pub nothing_failed : NothingFailed old new
 
 -- a read failed, or found the end: nothing came, and nothing went out
 pub record IsDry (old new : LinkView) : Type 0 where
@@ -57,15 +57,15 @@ RoundStops NoMemory old new before = IsStuck old new
 -- ---- all pieces
 
 -- these were read, and all that was put over them went out
-pub record IsSpoken (start : Turned) (old new : LinkView) (now : Course) : Type 0 where
+pub record IsSpoken (start : CourseStep) (old new : LinkView) (now : Course) : Type 0 where
   pub pieces : List (List ℕ)
   pub read : Appends old.read new.read (joined pieces)
   pub written : Appends old.written new.written (over start pieces).put
   pub course : now ≡ (over start pieces).course
-  pub calm : IsCalm old new
+  pub nothing_failed : NothingFailed old new
 
 -- a read failed, or found the end, before all was done
-pub record IsSevered (start : Turned) (old new : LinkView) : Type 0 where
+pub record IsSevered (start : CourseStep) (old new : LinkView) : Type 0 where
   pub pieces : List (List ℕ)
   pub read : Appends old.read new.read (joined pieces)
   pub written : Appends old.written new.written (over start pieces).put
@@ -74,19 +74,19 @@ pub record IsSevered (start : Turned) (old new : LinkView) : Type 0 where
   pub cause : Rose old.read_faults new.read_faults ⊎ Rose old.ends new.ends
 
 -- a write failed: a prefix went out
-pub record IsUnsent (start : Turned) (old new : LinkView) : Type 0 where
+pub record IsUnsent (start : CourseStep) (old new : LinkView) : Type 0 where
   pub pieces : List (List ℕ)
   pub read : Appends old.read new.read (joined pieces)
   pub written : AppendsPrefix old.written new.written (over start pieces).put
   pub cause : Rose old.write_faults new.write_faults
 
 -- memory ran out: a prefix went out
-pub record IsStarved (start : Turned) (old new : LinkView) : Type 0 where
+pub record IsStarved (start : CourseStep) (old new : LinkView) : Type 0 where
   pub pieces : List (List ℕ)
   pub read : Appends old.read new.read (joined pieces)
   pub written : AppendsPrefix old.written new.written (over start pieces).put
 
-abbrev pub TalkStops : Stop → Turned → LinkView → LinkView → Type 0
+abbrev pub TalkStops : Stop → CourseStep → LinkView → LinkView → Type 0
 TalkStops Link start old new = IsSevered start old new ⊎ IsUnsent start old new
 TalkStops NoMemory start old new = IsStarved start old new
 
@@ -116,19 +116,19 @@ pub record IsUndialed (old new : DialerView) : Type 0 where
   pub cause : Rose old.faults new.faults
 
 -- all was said over a link, and it was given back
-pub record IsHeld (start : Turned) (old new : DialerView) (now : Course) : Type 0 where
+pub record IsHeld (start : CourseStep) (old new : DialerView) (now : Course) : Type 0 where
   pub first : LinkView
   pub last : LinkView
   pub lent : IsLent old new first last
   pub spoken : IsSpoken start first last now
 
 -- so it stopped over a link, which was given back
-pub record IsBroken (stop : Stop) (start : Turned) (old new : DialerView) : Type 0 where
+pub record IsBroken (stop : Stop) (start : CourseStep) (old new : DialerView) : Type 0 where
   pub first : LinkView
   pub last : LinkView
   pub lent : IsLent old new first last
   pub stopped : TalkStops stop start first last
 
-abbrev pub CallStops : Stop → Turned → DialerView → DialerView → Type 0
+abbrev pub CallStops : Stop → CourseStep → DialerView → DialerView → Type 0
 CallStops Link start old new = IsUndialed old new ⊎ IsBroken Link start old new
 CallStops NoMemory start old new = IsBroken NoMemory start old new

@@ -3,7 +3,7 @@ ghost use Rattle.std.specs.Prelude.{◌≡◌, ◌+◌, ◌^◌, ◌<◌, [], tr
 ghost use Rattle.std.specs.List.{list_all};
 ghost use Rattle.cl_core.specs.Values.{ClientValue, fed_of};
 ghost use Rattle.cmd_sync.specs.Courses.{begins, begun, done_with, goes_on, is_awaiting, looks, quiet, seen_in, taken, takes};
-ghost use Rattle.cmd_sync.specs.Views.{course_of, fed_in, turned_of};
+ghost use Rattle.cmd_sync.specs.Views.{course_of, course_step_of, fed_in};
 ghost use Rattle.cmd_sync.specs.Scripts.{may_do};
 ghost use Rattle.cmd_sync.specs.declared.script.Step.TheVariants.{Say, CatchUp};
 
@@ -38,7 +38,7 @@ impl Course {
         steps: Steps,
     ) -> Result<(Course, Bytes), NoMemory>
         requires { IsTrue (list_all may_do steps.items) }
-        ensures { IfOk result (λ r. turned_of r.0 r.1.items ≡ begun client entropy.now steps.items) }
+        ensures { IfOk result (λ r. course_step_of r.0 r.1.items ≡ begun client entropy.now steps.items) }
     {
         let mut client = client;
         let mut out = nothing(alloc);
@@ -55,7 +55,7 @@ impl Course {
     // The stream is closed, and all is done.
     fn close(&mut self, alloc: Global, out: &mut ClientOut) -> Result<(), NoMemory>
         requires { self.old.steps.items ≡ [] }
-        ensures { OnOk result (turned_of self.new out.new.bytes.items ≡ goes_on (fed_in self.old out.old) [] self.old.total) }
+        ensures { OnOk result (course_step_of self.new out.new.bytes.items ≡ goes_on (fed_in self.old out.old) [] self.old.total) }
     {
         self.client.close(alloc, out)?;
         self.stage = Stage::Done;
@@ -70,7 +70,7 @@ impl Course {
         text: Text,
         out: &mut ClientOut,
     ) -> Result<(), NoMemory>
-        ensures { OnOk result (turned_of self.new out.new.bytes.items ≡ begins (fed_in self.old out.old) (Say to text) self.old.steps.items self.old.total) }
+        ensures { OnOk result (course_step_of self.new out.new.bytes.items ≡ begins (fed_in self.old out.old) (Say to text) self.old.steps.items self.old.total) }
     {
         match self.client.say(alloc, &to, text.as_str(), false, out) {
             Ok(_) => self.stage = Stage::Awaits(Some(Step::Say { to, text })),
@@ -83,7 +83,7 @@ impl Course {
     // A page is asked for.
     fn ask(&mut self, alloc: Global, max: u32, out: &mut ClientOut) -> Result<(), NoMemory>
         requires { IsTrue (may_do (CatchUp max)) }
-        ensures { OnOk result (turned_of self.new out.new.bytes.items ≡ begins (fed_in self.old out.old) (CatchUp max) self.old.steps.items self.old.total) }
+        ensures { OnOk result (course_step_of self.new out.new.bytes.items ≡ begins (fed_in self.old out.old) (CatchUp max) self.old.steps.items self.old.total) }
     {
         match self.client.catch_up(alloc, max, out) {
             Ok(()) => self.stage = Stage::Awaits(Some(Step::CatchUp { max })),
@@ -96,7 +96,7 @@ impl Course {
     // A step begins.
     fn begin_step(&mut self, alloc: Global, step: Step, out: &mut ClientOut) -> Result<(), NoMemory>
         requires { IsTrue (may_do step) }
-        ensures { OnOk result (turned_of self.new out.new.bytes.items ≡ begins (fed_in self.old out.old) step self.old.steps.items self.old.total) }
+        ensures { OnOk result (course_step_of self.new out.new.bytes.items ≡ begins (fed_in self.old out.old) step self.old.steps.items self.old.total) }
     {
         match step {
             Step::Say { to, text } => self.say(alloc, to, text, out),
@@ -106,7 +106,7 @@ impl Course {
 
     // The next step begins, or all is done.
     fn go_on(&mut self, alloc: Global, out: &mut ClientOut) -> Result<(), NoMemory>
-        ensures { OnOk result (turned_of self.new out.new.bytes.items ≡ goes_on (fed_in self.old out.old) self.old.steps.items self.old.total) }
+        ensures { OnOk result (course_step_of self.new out.new.bytes.items ≡ goes_on (fed_in self.old out.old) self.old.steps.items self.old.total) }
     {
         match self.steps.pop_front() {
             Some(step) => self.begin_step(alloc, step, out),
@@ -121,7 +121,7 @@ impl Course {
         late: Option<PeerFailure>,
         out: &mut ClientOut,
     ) -> Result<(), NoMemory>
-        ensures { OnOk result (turned_of self.new out.new.bytes.items ≡ done_with (fed_in self.old out.old) self.old.steps.items self.old.total late) }
+        ensures { OnOk result (course_step_of self.new out.new.bytes.items ≡ done_with (fed_in self.old out.old) self.old.steps.items self.old.total late) }
     {
         let Some(failure) = late else {
             return self.go_on(alloc, out);
@@ -135,7 +135,7 @@ impl Course {
 
     // What was seen takes its effect.
     fn look(&mut self, alloc: Global, seen: Seen, out: &mut ClientOut) -> Result<(), NoMemory>
-        ensures { OnOk result (turned_of self.new out.new.bytes.items ≡ looks (fed_in self.old out.old) self.old.stage self.old.steps.items self.old.total seen) }
+        ensures { OnOk result (course_step_of self.new out.new.bytes.items ≡ looks (fed_in self.old out.old) self.old.stage self.old.steps.items self.old.total seen) }
     {
         match seen {
             Seen::Still => Ok(()),
@@ -157,7 +157,7 @@ impl Course {
 
     // A piece was handed to the client.
     fn judge(&mut self, alloc: Global, out: &mut ClientOut) -> Result<(), NoMemory>
-        ensures { OnOk result (turned_of self.new out.new.bytes.items ≡ taken (fed_in self.old out.old) self.old.stage self.old.steps.items self.old.total) }
+        ensures { OnOk result (course_step_of self.new out.new.bytes.items ≡ taken (fed_in self.old out.old) self.old.stage self.old.steps.items self.old.total) }
     {
         if self.total > MOST_RECEIVED {
             self.stage = Stage::Failed(PeerFailure::TooMuch);
@@ -171,7 +171,7 @@ impl Course {
     pub fn take(&mut self, alloc: Global, piece: &[u8]) -> Result<Bytes, NoMemory>
         requires awaited { is_awaiting self.old.stage ≡ true }
         requires few { self.old.total + length piece.now < 2 ^ 64 }
-        ensures { IfOk result (λ put. turned_of self.new put.items ≡ takes (course_of self.old) piece.now) }
+        ensures { IfOk result (λ put. course_step_of self.new put.items ≡ takes (course_of self.old) piece.now) }
     {
         let mut out = nothing(alloc);
         self.client.bytes(alloc, piece, &mut out)?;

@@ -76,10 +76,10 @@ pub fn append_entries(out: &mut Bytes, tiles: &[Tile], entries: &[LogEntry]) -> 
     let mut before = 0u64;
     let mut rest = entries;
     for tile in tiles {
-        let (page, behind) = first_entries(rest, tile.count);
+        let (page, following) = first_entries(rest, tile.count);
         append_logged_page(out, page, is_break(before, &tile.after))?;
         before = before.saturating_add(tile.count);
-        rest = behind;
+        rest = following;
     }
     append_all_logged(out, rest)
 }

@@ -8,7 +8,7 @@ ghost use Rattle.cmd_sync.specs.Scripts.{may_do, may_log_in};
 ghost use Rattle.cmd_sync.specs.Courses.{begun, is_awaiting};
 ghost use Rattle.cmd_sync.specs.Syncs.{IsOutcome, IsRead, IsSynced, IsTold, IsUnread, IsUnrun, IsUntold, IsWhy};
 ghost use Rattle.cmd_sync.specs.Talks.{DialerView};
-ghost use Rattle.cmd_sync.specs.Views.{turned_of};
+ghost use Rattle.cmd_sync.specs.Views.{course_step_of};
 ghost use Rattle.cmd_sync.specs.declared.stage.Stage.TheVariants.{Done};
 
 use crate::progress::Course;
@@ -77,10 +77,10 @@ fn through<D: Dialer>(
     requires { course.old.total ≡ 0 }
     ensures ok { let before : DialerView = record { faults = D.faults dialer.old; ends = D.ends dialer.old; handed = D.handed dialer.old; given = D.given dialer.old } in
         let after : DialerView = record { faults = D.faults dialer.new; ends = D.ends dialer.new; handed = D.handed dialer.new; given = D.given dialer.new } in
-        IfOk result (λ text. IsTold (turned_of course.old first.now) before after text.items) }
+        IfOk result (λ text. IsTold (course_step_of course.old first.now) before after text.items) }
     ensures err { let before : DialerView = record { faults = D.faults dialer.old; ends = D.ends dialer.old; handed = D.handed dialer.old; given = D.given dialer.old } in
         let after : DialerView = record { faults = D.faults dialer.new; ends = D.ends dialer.new; handed = D.handed dialer.new; given = D.given dialer.new } in
-        IfErr result (λ fault. IsUntold fault (turned_of course.old first.now) before after) }
+        IfErr result (λ fault. IsUntold fault (course_step_of course.old first.now) before after) }
 {
     match call(alloc, dialer, port, course, first) {
         Ok(()) => match outcome(alloc, course) {

@@ -2,7 +2,7 @@
 ghost use Rattle.std.specs.Prelude.{◌≡◌, ◌&&◌, true, IfOk};
 ghost use Rattle.std.specs.Str.{is_utf8};
 ghost use Rattle.cmd_sync.specs.Gives.{Gives, left};
-ghost use Rattle.cmd_sync.specs.ScriptReading.{fields_behind};
+ghost use Rattle.cmd_sync.specs.ScriptReading.{fields_after};
 ghost use Rattle.cmd_schedule.specs.Reading.{wants};
 ghost use Rattle.cmd_schedule.specs.declared.fault.LineWhy.TheVariants.{Ending};
 
@@ -25,13 +25,13 @@ pub fn spelled(line: &[u8], ended: bool) -> Result<&str, LineFault>
 }
 
 /// What follows the first word of a line, which must be this word.
-#[tactic(auto, unfolding(crate::specs::ScriptReading::fields_behind))]
-pub fn fields_behind<'a>(
+#[tactic(auto, unfolding(crate::specs::ScriptReading::fields_after))]
+pub fn fields_after<'a>(
     word: &str,
     line: &'a [u8],
     ended: bool,
 ) -> Result<Option<&'a str>, LineFault>
-    ensures { Gives left result (fields_behind word.now (record { bytes = line.now; ended = ended })) }
+    ensures { Gives left result (fields_after word.now (record { bytes = line.now; ended = ended })) }
 {
     let line = spelled(line, ended)?;
     let (front, fields) = cut_word(line);

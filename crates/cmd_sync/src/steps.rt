@@ -9,7 +9,7 @@ use crate::fields::{
 };
 use crate::script::{Step, User};
 use crate::script_fault::{LineFault, wants};
-use crate::script_lines::{fields_behind, spelled};
+use crate::script_lines::{fields_after, spelled};
 use base_io::Text;
 use cmd_schedule::{LineWhy, cut_word, is_text};
 use std::alloc::Global;
@@ -19,7 +19,7 @@ use std::alloc::Global;
 pub fn read_user(alloc: Global, line: &[u8], ended: bool) -> Result<User, LineFault>
     ensures { Gives (λ user. user) result (read_user (record { bytes = line.now; ended = ended })) }
 {
-    let (field, rest) = next_field(fields_behind("account", line, ended)?)?;
+    let (field, rest) = next_field(fields_after("account", line, ended)?)?;
     let (password, rest) = next_field(rest)?;
     let resource = last_field(rest)?;
     let address = address_in(alloc, field)?;

@@ -3,7 +3,7 @@ ghost use Rattle.std.specs.Prelude.{◌≡◌, ℕ, List};
 ghost use Rattle.cl_core.specs.Values.{ClientValue};
 ghost use Rattle.cmd_sync.specs.declared.script.Step.{Step};
 ghost use Rattle.cmd_sync.specs.Courses.{begun, over};
-ghost use Rattle.cmd_sync.specs.Deeds.{done_over};
+ghost use Rattle.cmd_sync.specs.Outcomes.{done_over};
 ghost use Rattle.cmd_sync.specs.declared.stage.Stage.TheVariants.{Done};
 
 /// A law: a script that came to its closing is done whole. Over the pieces that were read each of its steps was done, in their

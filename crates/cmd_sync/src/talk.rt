@@ -2,7 +2,7 @@
 ghost use Rattle.std.specs.Prelude.{◌≡◌, true, false, IfErr, OnOk};
 ghost use Rattle.cmd_sync.specs.Courses.{is_awaiting};
 ghost use Rattle.cmd_sync.specs.Talks.{CallStops, DialerView, IsHeld, IsSpoken, TalkStops};
-ghost use Rattle.cmd_sync.specs.Views.{course_of, turned_of};
+ghost use Rattle.cmd_sync.specs.Views.{course_of, course_step_of};
 
 use crate::progress::Course;
 use crate::rounds::exchange;
@@ -19,9 +19,9 @@ fn converse<L: Link>(
     first: &[u8],
 ) -> Result<(), Stop>
     requires { course.old.total ≡ 0 }
-    ensures ok { OnOk result (IsSpoken (turned_of course.old first.now) (L.told link.old) (L.told link.new) (course_of course.new)) }
+    ensures ok { OnOk result (IsSpoken (course_step_of course.old first.now) (L.told link.old) (L.told link.new) (course_of course.new)) }
     ensures over { OnOk result (is_awaiting course.new.stage ≡ false) }
-    ensures err { IfErr result (λ stop. TalkStops stop (turned_of course.old first.now) (L.told link.old) (L.told link.new)) }
+    ensures err { IfErr result (λ stop. TalkStops stop (course_step_of course.old first.now) (L.told link.old) (L.told link.new)) }
 {
     if let Err(WriteFault) = send_whole(link, first) {
         return Err(Stop::Link);
@@ -46,11 +46,11 @@ pub fn call<D: Dialer>(
     requires { course.old.total ≡ 0 }
     ensures ok { let before : DialerView = record { faults = D.faults dialer.old; ends = D.ends dialer.old; handed = D.handed dialer.old; given = D.given dialer.old } in
         let after : DialerView = record { faults = D.faults dialer.new; ends = D.ends dialer.new; handed = D.handed dialer.new; given = D.given dialer.new } in
-        OnOk result (IsHeld (turned_of course.old first.now) before after (course_of course.new)) }
+        OnOk result (IsHeld (course_step_of course.old first.now) before after (course_of course.new)) }
     ensures over { OnOk result (is_awaiting course.new.stage ≡ false) }
     ensures err { let before : DialerView = record { faults = D.faults dialer.old; ends = D.ends dialer.old; handed = D.handed dialer.old; given = D.given dialer.old } in
         let after : DialerView = record { faults = D.faults dialer.new; ends = D.ends dialer.new; handed = D.handed dialer.new; given = D.given dialer.new } in
-        IfErr result (λ stop. CallStops stop (turned_of course.old first.now) before after) }
+        IfErr result (λ stop. CallStops stop (course_step_of course.old first.now) before after) }
 {
     let mut link = match dialer.dial(port) {
         Ok(link) => link,

@@ -1,6 +1,6 @@
 pub mod Pieces
 pub mod Numbers
-pub mod Turns
+pub mod TurnsLeft
 pub mod Declares
 pub mod Traces
 pub mod ReportLines

@@ -3,7 +3,7 @@ use Rattle.std.proofs.Common.{◌≡◌, ◌≤◌, ◌+◌, ◌*◌, ◌==◌, 
 use Rattle.std.proofs.lemmas.Bool.{and_parts, leb-true}
 use Rattle.std.specs.Prelude.{IfOk, IsTrue, ◌&&◌, Result, nat_le, slice_get, slice_set}
 use Rattle.cmd_network.specs.Devices.{DeviceState}
-use Rattle.base_io.specs.Names.{is_among, place_of}
+use Rattle.base_io.specs.Names.{is_among, position_of}
 use Rattle.net_pipes.specs.Pipes.{is_end_due}
 use Rattle.cmd_report.specs.Reports.{ReportView}
 use Rattle.cmd_schedule.specs.Contents.{accounts_of}
@@ -19,158 +19,158 @@ use Rattle.cmd_schedule.specs.declared.schedule.WireLine.{WireLine}
 use Rattle.cmd_schedule.specs.declared.schedule.WireStep.{WireStep}
 use Rattle.cmd_schedule.specs.declared.schedule.WireStep.TheVariants as wire
 use Rattle.srv_core.specs.Events.{after_gone}
-use Rattle.cmd_network.specs.Places.{place_under}
-use Rattle.cmd_network.specs.Wires.{amount, up_end_told}
+use Rattle.cmd_network.specs.Positions.{position_under}
+use Rattle.cmd_network.specs.Wires.{amount, up_end_reported}
 use Rattle.cmd_network.specs.declared.wire.Wire.{Wire}
 use Rattle.cmd_world.proofs.Declares.{are_accounts, are_few}
-use Rattle.cmd_world.proofs.Turns.{moved_join}
+use Rattle.cmd_world.proofs.TurnsLeft.{moved_join}
 use Rattle.cmd_world.specs.Histories.{common_steps, world_at_start, world_of}
 use Rattle.cmd_world.specs.Lines.{all_stepped, common_moves, move_of, pass_of, passes_of, passes_where, round_from, rounds_of, step_moves, stepped}
 use Rattle.cmd_world.specs.Moves as moves
-use Rattle.cmd_world.specs.Moves.{Move, all_moved, caught_up_by, closed_by, dialed_by, down_by, down_to, forgot_by, moved, said_by, served, served_by, told_up}
+use Rattle.cmd_world.specs.Moves.{Move, all_moved, caught_up_by, closed_by, dialed_by, down_by, down_to, forgot_by, moved, reported_up, said_by, served, served_by}
 use Rattle.cmd_world.specs.Standing.{IsNumbered, MayAllStep, MayAsk, MayStep}
 use Rattle.cmd_world.specs.WorldReports.{report_of}
-use Rattle.cmd_world.specs.Worlds.{World, number_at}
+use Rattle.cmd_world.specs.Worlds.{ByteWorld, number_at}
 
 -- ---- what no move but that of the clock changes
 
-record Stays (v w : World) : Type 0 where
+record Stays (v w : ByteWorld) : Type 0 where
   moment : v.moment ≡ w.moment
   accounts : v.accounts ≡ w.accounts
 
-stays : (w : World) → Stays w w
+stays : (w : ByteWorld) → Stays w w
 stays w = record { moment = refl; accounts = refl }
 
-stays_on : (u v w : World) → Stays u v → Stays v w → Stays u w
+stays_on : (u v w : ByteWorld) → Stays u v → Stays v w → Stays u w
 stays_on u v w a b = record { moment = a.moment ∙ b.moment; accounts = a.accounts ∙ b.accounts }
 
-stays_if : (b : Bool) (u v w : World) → Stays u w → Stays v w → Stays (cond b u v) w
+stays_if : (b : Bool) (u v w : ByteWorld) → Stays u w → Stays v w → Stays (cond b u v) w
 stays_if true u v w p q = p
 stays_if false u v w p q = q
 
-stays_dialed : (place : ℕ) (o : Option DeviceState) (w : World) → Stays (dialed_by place o w) w
-stays_dialed place None w = stays w
-stays_dialed place (Some d) w = record { moment = refl; accounts = refl }
+stays_dialed : (position : ℕ) (o : Option DeviceState) (w : ByteWorld) → Stays (dialed_by position o w) w
+stays_dialed position None w = stays w
+stays_dialed position (Some d) w = record { moment = refl; accounts = refl }
 
-stays_forgot : (place : ℕ) (o : Option DeviceState) (w : World) → Stays (forgot_by place o w) w
-stays_forgot place None w = stays w
-stays_forgot place (Some d) w = record { moment = refl; accounts = refl }
+stays_forgot : (position : ℕ) (o : Option DeviceState) (w : ByteWorld) → Stays (forgot_by position o w) w
+stays_forgot position None w = stays w
+stays_forgot position (Some d) w = record { moment = refl; accounts = refl }
 
-stays_closed : (place : ℕ) (o : Option DeviceState) (w : World) → Stays (closed_by place o w) w
-stays_closed place None w = stays w
-stays_closed place (Some d) w = record { moment = refl; accounts = refl }
+stays_closed : (position : ℕ) (o : Option DeviceState) (w : ByteWorld) → Stays (closed_by position o w) w
+stays_closed position None w = stays w
+stays_closed position (Some d) w = record { moment = refl; accounts = refl }
 
-stays_said : (place line : ℕ) (to text : List ℕ) (private : Bool) (o : Option DeviceState) (w : World) → Stays (said_by place line to text private o w) w
-stays_said place line to text private None w = stays w
-stays_said place line to text private (Some d) w = record { moment = refl; accounts = refl }
+stays_said : (position line : ℕ) (to text : List ℕ) (private : Bool) (o : Option DeviceState) (w : ByteWorld) → Stays (said_by position line to text private o w) w
+stays_said position line to text private None w = stays w
+stays_said position line to text private (Some d) w = record { moment = refl; accounts = refl }
 
-stays_caught_up : (place line most : ℕ) (o : Option DeviceState) (w : World) → Stays (caught_up_by place line most o w) w
-stays_caught_up place line most None w = stays w
-stays_caught_up place line most (Some d) w = record { moment = refl; accounts = refl }
+stays_caught_up : (position line most : ℕ) (o : Option DeviceState) (w : ByteWorld) → Stays (caught_up_by position line most o w) w
+stays_caught_up position line most None w = stays w
+stays_caught_up position line most (Some d) w = record { moment = refl; accounts = refl }
 
-stays_served : (place : ℕ) (count : Count) (o : Option Wire) (w : World) → Stays (served_by place count o w) w
-stays_served place count None w = stays w
-stays_served place count (Some wire) w =
-    stays_if (amount count wire.up == 0) w (served place (amount count wire.up) wire w) w (stays w) (record { moment = refl; accounts = refl })
+stays_served : (position : ℕ) (count : Count) (o : Option Wire) (w : ByteWorld) → Stays (served_by position count o w) w
+stays_served position count None w = stays w
+stays_served position count (Some wire) w =
+    stays_if (amount count wire.up == 0) w (served position (amount count wire.up) wire w) w (stays w) (record { moment = refl; accounts = refl })
 
-stays_told : (place : ℕ) (o : Option Wire) (w : World) → Stays (told_up place o w) w
-stays_told place None w = stays w
-stays_told place (Some wire) w =
-    stays_if (is_end_due wire.up) (record w { server = after_gone (number_at place) w.moment w.server; wires = slice_set w.wires place (up_end_told wire) }) w w
+stays_told : (position : ℕ) (o : Option Wire) (w : ByteWorld) → Stays (reported_up position o w) w
+stays_told position None w = stays w
+stays_told position (Some wire) w =
+    stays_if (is_end_due wire.up) (record w { server = after_gone (number_at position) w.moment w.server; wires = slice_set w.wires position (up_end_reported wire) }) w w
     (record { moment = refl; accounts = refl }) (stays w)
 
-stays_up : (place : ℕ) (count : Count) (w : World) → Stays (moved (moves.Up place count) w) w
-stays_up place count w =
-    let v = served_by place count (slice_get w.wires place) w in
-    stays_on (moved (moves.Up place count) w) v w (stays_told place (slice_get v.wires place) v) (stays_served place count (slice_get w.wires place) w)
+stays_up : (position : ℕ) (count : Count) (w : ByteWorld) → Stays (moved (moves.Up position count) w) w
+stays_up position count w =
+    let v = served_by position count (slice_get w.wires position) w in
+    stays_on (moved (moves.Up position count) w) v w (stays_told position (slice_get v.wires position) v) (stays_served position count (slice_get w.wires position) w)
 
-stays_down_to : (place : ℕ) (count : Count) (wire : Wire) (o : Option DeviceState) (w : World) → Stays (down_to place count wire o w) w
-stays_down_to place count wire None w = stays w
-stays_down_to place count wire (Some d) w = record { moment = refl; accounts = refl }
+stays_down_to : (position : ℕ) (count : Count) (wire : Wire) (o : Option DeviceState) (w : ByteWorld) → Stays (down_to position count wire o w) w
+stays_down_to position count wire None w = stays w
+stays_down_to position count wire (Some d) w = record { moment = refl; accounts = refl }
 
-stays_down : (place : ℕ) (count : Count) (o : Option Wire) (w : World) → Stays (down_by place count o w) w
-stays_down place count None w = stays w
-stays_down place count (Some wire) w = stays_down_to place count wire (slice_get w.devices wire.device) w
+stays_down : (position : ℕ) (count : Count) (o : Option Wire) (w : ByteWorld) → Stays (down_by position count o w) w
+stays_down position count None w = stays w
+stays_down position count (Some wire) w = stays_down_to position count wire (slice_get w.devices wire.device) w
 
 -- ---- turns
 
-stays_pass : (place : ℕ) (w : World) → Stays (all_moved (pass_of place) w) w
-stays_pass place w =
-    let v = moved (moves.Up place All) w in
-    stays_on (moved (moves.Down place All) v) v w (stays_down place All (slice_get v.wires place) v) (stays_up place All w)
+stays_pass : (position : ℕ) (w : ByteWorld) → Stays (all_moved (pass_of position) w) w
+stays_pass position w =
+    let v = moved (moves.Up position All) w in
+    stays_on (moved (moves.Down position All) v) v w (stays_down position All (slice_get v.wires position) v) (stays_up position All w)
 
-stays_join : (a b : List Move) (w : World) → Stays (all_moved b (all_moved a w)) w → Stays (all_moved (a ++ b) w) w
+stays_join : (a b : List Move) (w : ByteWorld) → Stays (all_moved b (all_moved a w)) w → Stays (all_moved (a ++ b) w) w
 stays_join a b w is = subst (λ v. Stays v w) (sym (moved_join a b w)) is
 
-stays_passes : (times place : ℕ) (w : World) → Stays (all_moved (passes_of times place) w) w
-stays_passes zero place w = stays w
-stays_passes (suc times) place w =
-    let v = all_moved (pass_of place) w in
-    stays_join (pass_of place) (passes_of times place) w (stays_on (all_moved (passes_of times place) v) v w (stays_passes times place v) (stays_pass place w))
+stays_passes : (times position : ℕ) (w : ByteWorld) → Stays (all_moved (passes_of times position) w) w
+stays_passes zero position w = stays w
+stays_passes (suc times) position w =
+    let v = all_moved (pass_of position) w in
+    stays_join (pass_of position) (passes_of times position) w (stays_on (all_moved (passes_of times position) v) v w (stays_passes times position v) (stays_pass position w))
 
-stays_round : (place count : ℕ) (w : World) → Stays (all_moved (round_from place count) w) w
-stays_round place zero w = stays w
-stays_round place (suc count) w =
-    let v = all_moved (pass_of place) w in
-    stays_join (pass_of place) (round_from (place + 1) count) w (stays_on (all_moved (round_from (place + 1) count) v) v w (stays_round (place + 1) count v) (stays_pass place w))
+stays_round : (position count : ℕ) (w : ByteWorld) → Stays (all_moved (round_from position count) w) w
+stays_round position zero w = stays w
+stays_round position (suc count) w =
+    let v = all_moved (pass_of position) w in
+    stays_join (pass_of position) (round_from (position + 1) count) w (stays_on (all_moved (round_from (position + 1) count) v) v w (stays_round (position + 1) count v) (stays_pass position w))
 
-stays_rounds : (times count : ℕ) (w : World) → Stays (all_moved (rounds_of times count) w) w
+stays_rounds : (times count : ℕ) (w : ByteWorld) → Stays (all_moved (rounds_of times count) w) w
 stays_rounds zero count w = stays w
 stays_rounds (suc times) count w =
     let v = all_moved (round_from 0 count) w in
     stays_join (round_from 0 count) (rounds_of times count) w (stays_on (all_moved (rounds_of times count) v) v w (stays_rounds times count v) (stays_round 0 count w))
 
-stays_passes_where : (times : ℕ) (o : Option ℕ) (w : World) → Stays (all_moved (passes_where times o) w) w
+stays_passes_where : (times : ℕ) (o : Option ℕ) (w : ByteWorld) → Stays (all_moved (passes_where times o) w) w
 stays_passes_where times None w = stays w
-stays_passes_where times (Some place) w = stays_passes times place w
+stays_passes_where times (Some position) w = stays_passes times position w
 
 -- ---- lines
 
 -- the clock moves on by at most so many milliseconds
-record Passes (milliseconds : ℕ) (v w : World) : Type 0 where
+record Passes (milliseconds : ℕ) (v w : ByteWorld) : Type 0 where
   moment : v.moment ≤ w.moment + milliseconds
   accounts : v.accounts ≡ w.accounts
 
-passes : (milliseconds : ℕ) (v w : World) → Stays v w → Passes milliseconds v w
+passes : (milliseconds : ℕ) (v w : ByteWorld) → Stays v w → Passes milliseconds v w
 passes milliseconds v w is = record { moment = omega (arith, is.moment); accounts = is.accounts }
 
-by_move : (f : ℕ → Move) (o : Option ℕ) (w : World) → ((place : ℕ) → Stays (moved (f place) w) w) → Stays (all_moved (move_of f o) w) w
+by_move : (f : ℕ → Move) (o : Option ℕ) (w : ByteWorld) → ((position : ℕ) → Stays (moved (f position) w) w) → Stays (all_moved (move_of f o) w) w
 by_move f None w each = stays w
-by_move f (Some place) w each = each place
+by_move f (Some position) w each = each position
 
-passes_common : (s : Step) (n : ℕ) (above : WireAbove) (w : World) → IsTrue (may_run above (wire.Common s)) → Passes 1000000000 (all_moved (common_moves w.names n s) w) w
+passes_common : (s : Step) (n : ℕ) (above : WireAbove) (w : ByteWorld) → IsTrue (may_run above (wire.Common s)) → Passes 1000000000 (all_moved (common_moves w.names n s) w) w
 passes_common (step.Account name) n above w may = passes 1000000000 w w (stays w)
 passes_common (step.Device name account) n above w may = passes 1000000000 w w (stays w)
 passes_common (step.Say device to text) n above w may =
-    passes 1000000000 _ w (by_move (λ place. moves.Say place n to text false) (place_of device w.names) w (λ place. stays_said place n to text false (slice_get w.devices place) w))
+    passes 1000000000 _ w (by_move (λ position. moves.Say position n to text false) (position_of device w.names) w (λ position. stays_said position n to text false (slice_get w.devices position) w))
 passes_common (step.Private device to text) n above w may =
-    passes 1000000000 _ w (by_move (λ place. moves.Say place n to text true) (place_of device w.names) w (λ place. stays_said place n to text true (slice_get w.devices place) w))
+    passes 1000000000 _ w (by_move (λ position. moves.Say position n to text true) (position_of device w.names) w (λ position. stays_said position n to text true (slice_get w.devices position) w))
 passes_common (step.Catchup device most) n above w may =
-    passes 1000000000 _ w (by_move (λ place. moves.CatchUp place n most) (place_of device w.names) w (λ place. stays_caught_up place n most (slice_get w.devices place) w))
+    passes 1000000000 _ w (by_move (λ position. moves.CatchUp position n most) (position_of device w.names) w (λ position. stays_caught_up position n most (slice_get w.devices position) w))
 passes_common (step.Tick milliseconds) n above w may =
     let few : milliseconds ≤ 1000000000 = leb-true milliseconds MOST_TICK may in
     record { moment = omega (arith, few); accounts = refl }
 
-passes_line : (s : WireStep) (n : ℕ) (above : WireAbove) (w : World) → IsTrue (may_run above s) → Passes 1000000000 (all_moved (step_moves w.names (length w.wires) n s) w) w
+passes_line : (s : WireStep) (n : ℕ) (above : WireAbove) (w : ByteWorld) → IsTrue (may_run above s) → Passes 1000000000 (all_moved (step_moves w.names (length w.wires) n s) w) w
 passes_line (wire.Common s) n above w may = passes_common s n above w may
 passes_line (wire.Dial device) n above w may =
-    passes 1000000000 _ w (by_move moves.Dial (place_of device w.names) w (λ place. stays_dialed place (slice_get w.devices place) w))
+    passes 1000000000 _ w (by_move moves.Dial (position_of device w.names) w (λ position. stays_dialed position (slice_get w.devices position) w))
 passes_line (wire.Forget device) n above w may =
-    passes 1000000000 _ w (by_move moves.Forget (place_of device w.names) w (λ place. stays_forgot place (slice_get w.devices place) w))
+    passes 1000000000 _ w (by_move moves.Forget (position_of device w.names) w (λ position. stays_forgot position (slice_get w.devices position) w))
 passes_line (wire.Close device) n above w may =
-    passes 1000000000 _ w (by_move moves.Close (place_of device w.names) w (λ place. stays_closed place (slice_get w.devices place) w))
+    passes 1000000000 _ w (by_move moves.Close (position_of device w.names) w (λ position. stays_closed position (slice_get w.devices position) w))
 passes_line (wire.Up k count) n above w may =
-    passes 1000000000 _ w (by_move (λ place. moves.Up place count) (place_under k) w (λ place. stays_up place count w))
+    passes 1000000000 _ w (by_move (λ position. moves.Up position count) (position_under k) w (λ position. stays_up position count w))
 passes_line (wire.Down k count) n above w may =
-    passes 1000000000 _ w (by_move (λ place. moves.Down place count) (place_under k) w (λ place. stays_down place count (slice_get w.wires place) w))
+    passes 1000000000 _ w (by_move (λ position. moves.Down position count) (position_under k) w (λ position. stays_down position count (slice_get w.wires position) w))
 passes_line (wire.Cut k up down) n above w may =
-    passes 1000000000 _ w (by_move (λ place. moves.Cut place up down) (place_under k) w (λ place. record { moment = refl; accounts = refl }))
-passes_line (wire.Pass k times) n above w may = passes 1000000000 _ w (stays_passes_where times (place_under k) w)
+    passes 1000000000 _ w (by_move (λ position. moves.Cut position up down) (position_under k) w (λ position. record { moment = refl; accounts = refl }))
+passes_line (wire.Pass k times) n above w may = passes 1000000000 _ w (stays_passes_where times (position_under k) w)
 passes_line (wire.Run times) n above w may = passes 1000000000 _ w (stays_rounds times (length w.wires) w)
 
 -- ---- what is asked of a line
 
-may_ask : (s : Step) (above : WireAbove) (w : World) → IsTrue (may_run above (wire.Common s)) → w.moment ≤ 100000000000000 → MayAsk s w
+may_ask : (s : Step) (above : WireAbove) (w : ByteWorld) → IsTrue (may_run above (wire.Common s)) → w.moment ≤ 100000000000000 → MayAsk s w
 may_ask (step.Account name) above w may early = tt
 may_ask (step.Device name account) above w may early = tt
 may_ask (step.Say device to text) above w may early =
@@ -185,7 +185,7 @@ may_ask (step.Tick milliseconds) above w may early =
     let few : milliseconds ≤ 1000000000 = leb-true milliseconds MOST_TICK may in
     omega (arith, few, early)
 
-may_step : (s : WireStep) (above : WireAbove) (w : World) → IsTrue (may_run above s) → w.moment ≤ 100000000000000 → MayStep s w
+may_step : (s : WireStep) (above : WireAbove) (w : ByteWorld) → IsTrue (may_run above s) → w.moment ≤ 100000000000000 → MayStep s w
 may_step (wire.Common s) above w may early = may_ask s above w may early
 may_step (wire.Dial device) above w may early = tt
 may_step (wire.Forget device) above w may early = tt
@@ -196,7 +196,7 @@ may_step (wire.Cut k up down) above w may early = tt
 may_step (wire.Pass k times) above w may early = tt
 may_step (wire.Run times) above w may early = tt
 
-may_all : (lines : List WireLine) (above : WireAbove) (n : ℕ) (w : World) → AreWireLines above n lines → w.moment ≤ 1000000000 * n → MayAllStep lines w
+may_all : (lines : List WireLine) (above : WireAbove) (n : ℕ) (w : ByteWorld) → AreWireLines above n lines → w.moment ≤ 1000000000 * n → MayAllStep lines w
 may_all [] above n w are early = tt
 may_all (line ∷ lines) above n w are early =
     let may = are.2 in
@@ -214,29 +214,29 @@ runnable (line ∷ lines) above n are = (are.2, runnable lines (above_by line.st
 pub may_run_all : (schedule : WireView) → IsWireSchedule schedule → AreRunnable nothing_above (wire_steps_of schedule.lines)
 may_run_all schedule is = runnable schedule.lines nothing_above 2 is.lines
 
-pub numbered_start : (schedule : WireView) (w : World) → w ≡ world_at_start schedule → IsNumbered w
+pub numbered_start : (schedule : WireView) (w : ByteWorld) → w ≡ world_at_start schedule → IsNumbered w
 numbered_start schedule w same = subst IsNumbered (sym same) (tt, tt)
 
-pub may_follow : (schedule : WireView) (w : World) → IsWireSchedule schedule → w ≡ world_at_start schedule → MayAllStep schedule.lines w
+pub may_follow : (schedule : WireView) (w : ByteWorld) → IsWireSchedule schedule → w ≡ world_at_start schedule → MayAllStep schedule.lines w
 may_follow schedule w is same =
     subst (MayAllStep schedule.lines) (sym same) (may_all schedule.lines nothing_above 2 (world_at_start schedule) is.lines (omega arith))
 
-accounts_stay : (lines : List WireLine) (above : WireAbove) (n : ℕ) (w : World) → AreWireLines above n lines → (all_stepped lines w).accounts ≡ w.accounts
+accounts_stay : (lines : List WireLine) (above : WireAbove) (n : ℕ) (w : ByteWorld) → AreWireLines above n lines → (all_stepped lines w).accounts ≡ w.accounts
 accounts_stay [] above n w are = refl
 accounts_stay (line ∷ lines) above n w are =
     accounts_stay lines (above_by line.step above) (n + 1) (stepped line w) are.4 ∙ (passes_line line.step line.number above w are.2).accounts
 
-pub few_accounts : (schedule : WireView) (w : World) → IsWireSchedule schedule → w ≡ all_stepped schedule.lines (world_at_start schedule) → length w.accounts ≤ 100
+pub few_accounts : (schedule : WireView) (w : ByteWorld) → IsWireSchedule schedule → w ≡ all_stepped schedule.lines (world_at_start schedule) → length w.accounts ≤ 100
 few_accounts schedule w is same =
-    let accounts : w.accounts ≡ accounts_of (common_steps schedule) = ap (λ (v : World). v.accounts) same ∙ accounts_stay schedule.lines nothing_above 2 (world_at_start schedule) is.lines in
+    let accounts : w.accounts ≡ accounts_of (common_steps schedule) = ap (λ (v : ByteWorld). v.accounts) same ∙ accounts_stay schedule.lines nothing_above 2 (world_at_start schedule) is.lines in
     let few : length (accounts_of (common_steps schedule)) ≤ 100 = are_few (accounts_of (common_steps schedule)) (are_accounts schedule (may_run_all schedule is)) in
     rw accounts few
 
 -- ---- the report
 
-pub reported : {E : Type 0} (schedule : WireView) (lines : List WireLine) (v w : World) (r : Result ReportView E) → v ≡ world_at_start schedule → lines ≡ schedule.lines
+pub reported : {E : Type 0} (schedule : WireView) (lines : List WireLine) (v w : ByteWorld) (r : Result ReportView E) → v ≡ world_at_start schedule → lines ≡ schedule.lines
     → w ≡ all_stepped lines v → IfOk r (λ report. report ≡ report_of w) → IfOk r (λ report. report ≡ report_of (world_of schedule))
 unfolding world_of
 reported schedule lines v w r start same done is =
     let whole : w ≡ world_of schedule = done ∙ ap (λ ls. all_stepped ls v) same ∙ ap (all_stepped schedule.lines) start in
-    subst (λ (u : World). IfOk r (λ report. report ≡ report_of u)) whole is
+    subst (λ (u : ByteWorld). IfOk r (λ report. report ≡ report_of u)) whole is

@@ -11,13 +11,13 @@ use Rattle.cmd_schedule.specs.declared.schedule.WireLine.{WireLine}
 use Rattle.srv_core.specs.Configs.{at_start}
 use Rattle.cmd_world.specs.Lines.{all_stepped, moves_of, stepped}
 use Rattle.cmd_world.specs.Moves.{Move, moved}
-use Rattle.cmd_world.specs.Worlds.{World}
+use Rattle.cmd_world.specs.Worlds.{ByteWorld}
 
 abbrev pub owned_at_start : Owned → DeviceState
 owned_at_start o = device_at_start o.device o.account
 
 -- before the first move: the accounts and devices that these steps declare anywhere are there, and no connection is
-abbrev pub world_with : Version → List Step → World
+abbrev pub world_with : Version → List Step → ByteWorld
 world_with version steps = record {
   version = version;
   moment = 0;
@@ -33,23 +33,23 @@ world_with version steps = record {
 abbrev pub common_steps : WireView → List Step
 common_steps schedule = steps_of (seen_of schedule).lines
 
-abbrev pub world_at_start : WireView → World
+abbrev pub world_at_start : WireView → ByteWorld
 world_at_start schedule = world_with schedule.version (common_steps schedule)
 
 -- the world in the end
-unfoldable pub world_of : WireView → World
+unfoldable pub world_of : WireView → ByteWorld
 world_of schedule = all_stepped schedule.lines (world_at_start schedule)
 
 -- ---- the worlds after each move
 
-abbrev pub worlds_by : List Move → World → List World
+abbrev pub worlds_by : List Move → ByteWorld → List ByteWorld
 worlds_by [] w = []
 worlds_by (m ∷ moves) w = moved m w ∷ worlds_by moves (moved m w)
 
-abbrev pub worlds_along : List WireLine → World → List World
+abbrev pub worlds_along : List WireLine → ByteWorld → List ByteWorld
 worlds_along [] w = []
 worlds_along (line ∷ lines) w = worlds_by (moves_of line w) w ++ worlds_along lines (stepped line w)
 
 -- the world before the first move, and the one after each move
-abbrev pub history_of : WireView → List World
+abbrev pub history_of : WireView → List ByteWorld
 history_of schedule = world_at_start schedule ∷ worlds_along schedule.lines (world_at_start schedule)

@@ -10,7 +10,7 @@ use Rattle.cmd_network.specs.declared.wire.Wire.{Wire}
 -- the version of the schedule; the moment that the clock shows (milliseconds); the server; the names of the accounts, and of
 -- the devices, in declared order; the devices, in that order; the connections, in the order in which they were dialed; and the
 -- messages that the server took
-pub record World : Type 0 where
+pub record ByteWorld : Type 0 where
   pub version : Version
   pub moment : ℕ
   pub server : Whole (List ℕ)
@@ -22,7 +22,7 @@ pub record World : Type 0 where
 
 -- the number of the connection at a place
 abbrev pub number_at : ℕ → ℕ
-number_at place = place + 1
+number_at position = position + 1
 
 -- ---- what is drawn for a connection: its number, so that no two connections draw the same
 

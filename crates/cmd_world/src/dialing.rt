@@ -1,6 +1,6 @@
 //! Connections that devices make and leave.
 ghost use Rattle.std.specs.Prelude.{◌≡◌, ◌∷◌, ◌++◌, [], IfOk, OnOk};
-ghost use Rattle.cmd_network.specs.Places.{changed_where};
+ghost use Rattle.cmd_network.specs.Positions.{changed_where};
 ghost use Rattle.cmd_network.specs.Wires.{fresh_wire, left, put_up};
 ghost use Rattle.cmd_world.specs.Moves.{Close, Dial, Forget, moved};
 ghost use Rattle.cmd_world.specs.Standing.{IsNumbered};
@@ -59,43 +59,43 @@ fn add_wire(
 impl World {
     /// The device at a place dials: it leaves the connection that it has, and a new one is made.
     #[tactic(auto, using(crate::proofs::Numbers::fresh_conn_at, crate::proofs::Numbers::fresh_framer_at))]
-    pub(crate) fn dial(&mut self, place: usize) -> Result<(), NoMemory>
+    pub(crate) fn dial(&mut self, position: usize) -> Result<(), NoMemory>
         requires { IsNumbered self.old }
-        ensures { OnOk result (self.new ≡ moved (Dial place) self.old) }
+        ensures { OnOk result (self.new ≡ moved (Dial position) self.old) }
     {
-        if place >= self.devices.len() {
+        if position >= self.devices.len() {
             return Ok(());
         }
-        let here = self.devices[place].here();
+        let here = self.devices[position].here();
         let wire = self.wires.len();
         let number = wire as u64 + 1;
-        let put = self.devices[place].dial(self.alloc, &client_entropy(number), wire)?;
+        let put = self.devices[position].dial(self.alloc, &client_entropy(number), wire)?;
         self.server
             .connect(number, &server_entropy(number), self.moment)?;
-        add_wire(self.alloc, &mut self.wires, here, place, put.as_slice())
+        add_wire(self.alloc, &mut self.wires, here, position, put.as_slice())
     }
 
     /// The device at a place leaves its connection, and its session ends.
-    pub(crate) fn forget(&mut self, place: usize)
-        ensures { self.new ≡ moved (Forget place) self.old }
+    pub(crate) fn forget(&mut self, position: usize)
+        ensures { self.new ≡ moved (Forget position) self.old }
     {
-        if place >= self.devices.len() {
+        if position >= self.devices.len() {
             return;
         }
-        let here = self.devices[place].here();
-        self.devices[place].forget();
+        let here = self.devices[position].here();
+        self.devices[position].forget();
         leave_wire(&mut self.wires, here);
     }
 
     /// The device at a place closes its stream and leaves its connection, and its session ends.
-    pub(crate) fn close(&mut self, place: usize) -> Result<(), NoMemory>
-        ensures { OnOk result (self.new ≡ moved (Close place) self.old) }
+    pub(crate) fn close(&mut self, position: usize) -> Result<(), NoMemory>
+        ensures { OnOk result (self.new ≡ moved (Close position) self.old) }
     {
-        if place >= self.devices.len() {
+        if position >= self.devices.len() {
             return Ok(());
         }
-        let here = self.devices[place].here();
-        let put = self.devices[place].close(self.alloc)?;
+        let here = self.devices[position].here();
+        let put = self.devices[position].close(self.alloc)?;
         put_up_wire(&mut self.wires, here, put.as_slice())?;
         leave_wire(&mut self.wires, here);
         Ok(())

@@ -27,10 +27,10 @@ fn hear(alloc: Global, wire: &mut Wire, device: &mut Device, n: usize) -> Result
 }
 
 // The client is told that its connection is lost, once nothing is under way and nothing comes, if this is still its connection.
-fn tell_down(place: usize, wire: &mut Wire, device: &mut Device)
-    ensures { link_of wire.new device.new ≡ end_heard place (link_of wire.old device.old) }
+fn tell_down(position: usize, wire: &mut Wire, device: &mut Device)
+    ensures { link_of wire.new device.new ≡ end_heard position (link_of wire.old device.old) }
 {
-    if device.has_wire(place) && wire.down.is_end_due() {
+    if device.has_wire(position) && wire.down.is_end_due() {
         device.lose();
         wire.down.tell_end();
     }
@@ -39,39 +39,39 @@ fn tell_down(place: usize, wire: &mut Wire, device: &mut Device)
 // So many bytes of the connection at a place go to its device, if this is the connection that it has.
 fn hear_count(
     alloc: Global,
-    place: usize,
+    position: usize,
     count: Count,
     wire: &mut Wire,
     device: &mut Device,
 ) -> Result<(), NoMemory>
-    ensures { OnOk result (link_of wire.new device.new ≡ heard_by place count (link_of wire.old device.old)) }
+    ensures { OnOk result (link_of wire.new device.new ≡ heard_by position count (link_of wire.old device.old)) }
 {
-    if !device.has_wire(place) {
+    if !device.has_wire(position) {
         return Ok(());
     }
     let n = amount(count, &wire.down);
     hear(alloc, wire, device, n)?;
-    tell_down(place, wire, device);
+    tell_down(position, wire, device);
     Ok(())
 }
 
 impl World {
     /// Bytes of the connection at a place are handed to its device.
-    pub(crate) fn down(&mut self, place: usize, count: Count) -> Result<(), NoMemory>
-        ensures { OnOk result (self.new ≡ moved (Down place count) self.old) }
+    pub(crate) fn down(&mut self, position: usize, count: Count) -> Result<(), NoMemory>
+        ensures { OnOk result (self.new ≡ moved (Down position count) self.old) }
     {
-        if place >= self.wires.len() {
+        if position >= self.wires.len() {
             return Ok(());
         }
-        let device = self.wires[place].device;
+        let device = self.wires[position].device;
         if device >= self.devices.len() {
             return Ok(());
         }
         hear_count(
             self.alloc,
-            place,
+            position,
             count,
-            &mut self.wires[place],
+            &mut self.wires[position],
             &mut self.devices[device],
         )
     }

@@ -4,7 +4,7 @@ ghost use Rattle.srv_state.specs.Seen.{out_of, outs_of};
 ghost use Rattle.cmd_world.specs.Effects.{all_emitted, effects_of, emitted};
 
 use base_io::NoMemory;
-use cmd_network::{Wire, put_down_wire, shut_wire, take_told};
+use cmd_network::{Wire, put_down_wire, shut_wire, take_reported};
 use cmd_report::TakeLines;
 use cmd_schedule::Version;
 use srv_state::{Output, Outputs};
@@ -27,7 +27,7 @@ fn emit(
             shut_wire(wires, conn);
             Ok(())
         }
-        Output::Took { from, to, origin } => takes.push(take_told(
+        Output::Took { from, to, origin } => takes.push(take_reported(
             alloc,
             version,
             moment,

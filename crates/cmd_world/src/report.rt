@@ -17,29 +17,29 @@ use srv_core::Server;
 use std::alloc::Global;
 
 // Nothing is under way.
-fn is_quiet_wire(wire: &Wire) -> bool
-    ensures { result ≡ WorldReports.is_quiet_wire wire.now }
+fn is_idle_wire(wire: &Wire) -> bool
+    ensures { result ≡ WorldReports.is_idle_wire wire.now }
 {
     wire.up.is_empty() && wire.down.is_empty()
 }
 
 // A connection at a place is settled.
-fn is_settled_on(place: usize, server: &Server, device: &Device, wire: &Wire) -> bool
-    requires { place < 2 ^ 63 }
-    ensures { result ≡ WorldReports.is_settled_on place server.now device.now wire.now }
+fn is_settled_on(position: usize, server: &Server, device: &Device, wire: &Wire) -> bool
+    requires { position < 2 ^ 63 }
+    ensures { result ≡ WorldReports.is_settled_on position server.now device.now wire.now }
 {
     wire.end == ConnEnd::Open
-        && is_quiet_wire(wire)
-        && !server.part(place as u64 + 1)
+        && is_idle_wire(wire)
+        && !server.part(position as u64 + 1)
         && !device.holds_part()
 }
 
 // The entry at a place of an archive, from 0.
-fn entry_at(archive: &Archive, place: u64) -> &Entry
-    requires { place < length archive.now.entries }
-    ensures { slice_get archive.now.entries place ≡ Some result.now }
+fn entry_at(archive: &Archive, position: u64) -> &Entry
+    requires { position < length archive.now.entries }
+    ensures { slice_get archive.now.entries position ≡ Some result.now }
 {
-    match archive.get(archive.first() + place) {
+    match archive.get(archive.first() + position) {
         Some(entry) => entry,
         None => unreachable!(),
     }
@@ -50,8 +50,8 @@ fn entry_lines(alloc: Global, archive: &Archive) -> Result<EntryLines, NoMemory>
     ensures { IfOk result (λ lines. lines.items ≡ map entry_line archive.now.entries) }
 {
     let mut lines = ListOf::new(alloc);
-    for place in 0..archive.len() {
-        lines.push(copied_entry_line(alloc, entry_at(archive, place))?)?;
+    for position in 0..archive.len() {
+        lines.push(copied_entry_line(alloc, entry_at(archive, position))?)?;
     }
     Ok(lines)
 }
@@ -74,11 +74,11 @@ fn push_account(
     lines: &mut AccountLines,
     name: &Text,
     server: &Server,
-    place: u32,
+    position: u32,
 ) -> Result<(), NoMemory>
-    ensures { OnOk result (lines.new.items ≡ lines.old.items ++ WorldReports.account_where name.now (slice_get server.now.hall.archives place)) }
+    ensures { OnOk result (lines.new.items ≡ lines.old.items ++ WorldReports.account_where name.now (slice_get server.now.server_state.archives position)) }
 {
-    match server.archive(place) {
+    match server.archive(position) {
         Some(archive) => lines.push(account_line(alloc, name, archive)?),
         None => Ok(()),
     }
@@ -87,22 +87,22 @@ fn push_account(
 // The lines of the accounts.
 fn account_lines(alloc: Global, names: &[Text], server: &Server) -> Result<AccountLines, NoMemory>
     requires { length names.now ≤ 100 }
-    ensures { IfOk result (λ lines. lines.items ≡ WorldReports.account_lines 0 names.now server.now.hall.archives) }
+    ensures { IfOk result (λ lines. lines.items ≡ WorldReports.account_lines 0 names.now server.now.server_state.archives) }
 {
     let mut lines = ListOf::new(alloc);
-    let mut place = 0u32;
+    let mut position = 0u32;
     for name in names {
-        push_account(alloc, &mut lines, name, server, place)?;
-        place += 1;
+        push_account(alloc, &mut lines, name, server, position)?;
+        position += 1;
     }
     Ok(lines)
 }
 
 // The name of the device at a place.
-fn name_at(alloc: Global, place: usize, devices: &[Device]) -> Result<Text, NoMemory>
-    ensures { IfOk result (λ name. name ≡ WorldReports.name_at place devices.now) }
+fn name_at(alloc: Global, position: usize, devices: &[Device]) -> Result<Text, NoMemory>
+    ensures { IfOk result (λ name. name ≡ WorldReports.name_at position devices.now) }
 {
-    match devices.get(place) {
+    match devices.get(position) {
         Some(device) => device.name().copied(alloc),
         None => Ok(Text::new(alloc)),
     }
@@ -159,13 +159,13 @@ impl World {
     fn is_settled(&self, device: &Device) -> bool
         ensures { result ≡ WorldReports.is_settled self.now device.now }
     {
-        let Some(place) = device.newest() else {
+        let Some(position) = device.newest() else {
             return false;
         };
-        if place >= self.wires.len() {
+        if position >= self.wires.len() {
             return false;
         }
-        is_settled_on(place, &self.server, device, &self.wires[place])
+        is_settled_on(position, &self.server, device, &self.wires[position])
     }
 
     /// Whether the device at a place is settled.
@@ -180,9 +180,9 @@ impl World {
 
     /// Whether nothing is under way anywhere.
     pub fn quiet(&self) -> bool
-        ensures { result ≡ WorldReports.is_quiet self.now }
+        ensures { result ≡ WorldReports.is_idle self.now }
     {
-        self.wires.as_slice().iter().all(is_quiet_wire)
+        self.wires.as_slice().iter().all(is_idle_wire)
     }
 
     // The lines of the devices.

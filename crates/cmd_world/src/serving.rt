@@ -2,7 +2,7 @@
 ghost use Rattle.std.specs.Prelude.{◌≡◌, ◌≤◌, ◌<◌, ◌^◌, length, slice_get, take, IfOk, OnOk};
 ghost use Rattle.srv_state.specs.Seen.{outs_of};
 ghost use Rattle.cmd_network.specs.Wires.{handed_up};
-ghost use Rattle.cmd_world.specs.Moves.{Up, end_told_up, moved, served_by, step_of_piece, server_behind};
+ghost use Rattle.cmd_world.specs.Moves.{Up, end_reported_up, moved, served_by, step_of_piece, server_after};
 ghost use Rattle.cmd_world.specs.Worlds.{number_at};
 
 use crate::outputs::emit_all;
@@ -14,7 +14,7 @@ use srv_core::{Outputs, Server};
 use std::alloc::Global;
 
 // A piece of the connection under a number goes to the server.
-#[tactic(auto, using(crate::proofs::Pieces::behind_is, crate::proofs::Pieces::outputs_are))]
+#[tactic(auto, using(crate::proofs::Pieces::after_is, crate::proofs::Pieces::outputs_are))]
 fn serve_piece(
     alloc: Global,
     server: &mut Server,
@@ -23,7 +23,7 @@ fn serve_piece(
     moment: u64,
 ) -> Result<Outputs, NoMemory>
     ensures outputs { IfOk result (λ outputs. outs_of outputs.items ≡ (step_of_piece number piece.now moment server.old).outs) }
-    ensures server { OnOk result (server.new ≡ server_behind number piece.now server.old (step_of_piece number piece.now moment server.old)) }
+    ensures server { OnOk result (server.new ≡ server_after number piece.now server.old (step_of_piece number piece.now moment server.old)) }
 {
     let mut outputs = Outputs::new(alloc);
     server.bytes(number, piece, moment, &mut outputs)?;
@@ -34,39 +34,39 @@ fn serve_piece(
 fn serve_wire(
     alloc: Global,
     server: &mut Server,
-    place: usize,
+    position: usize,
     wire: &mut Wire,
     n: usize,
     moment: u64,
 ) -> Result<Outputs, NoMemory>
-    requires place { place < 2 ^ 63 }
+    requires position { position < 2 ^ 63 }
     requires few { n ≤ length wire.old.up.bytes }
-    ensures outputs { IfOk result (λ outputs. outs_of outputs.items ≡ (step_of_piece (number_at place) (take n wire.old.up.bytes) moment server.old).outs) }
-    ensures server { OnOk result (server.new ≡ server_behind (number_at place) (take n wire.old.up.bytes) server.old (step_of_piece (number_at place) (take n wire.old.up.bytes) moment server.old)) }
+    ensures outputs { IfOk result (λ outputs. outs_of outputs.items ≡ (step_of_piece (number_at position) (take n wire.old.up.bytes) moment server.old).outs) }
+    ensures server { OnOk result (server.new ≡ server_after (number_at position) (take n wire.old.up.bytes) server.old (step_of_piece (number_at position) (take n wire.old.up.bytes) moment server.old)) }
     ensures wire { OnOk result (wire.new ≡ handed_up n wire.old) }
 {
-    let outputs = serve_piece(alloc, server, place as u64 + 1, wire.up.first(n), moment)?;
+    let outputs = serve_piece(alloc, server, position as u64 + 1, wire.up.first(n), moment)?;
     wire.up.hand(n);
     Ok(outputs)
 }
 
 impl World {
     // So many bytes of the connection at a place go to the server, and what it puts out goes into the pipes down.
-    fn serve(&mut self, place: usize, count: Count) -> Result<(), NoMemory>
-        ensures { OnOk result (self.new ≡ served_by place count (slice_get self.old.wires place) self.old) }
+    fn serve(&mut self, position: usize, count: Count) -> Result<(), NoMemory>
+        ensures { OnOk result (self.new ≡ served_by position count (slice_get self.old.wires position) self.old) }
     {
-        if place >= self.wires.len() {
+        if position >= self.wires.len() {
             return Ok(());
         }
-        let n = amount(count, &self.wires[place].up);
+        let n = amount(count, &self.wires[position].up);
         if n == 0 {
             return Ok(());
         }
         let outputs = serve_wire(
             self.alloc,
             &mut self.server,
-            place,
-            &mut self.wires[place],
+            position,
+            &mut self.wires[position],
             n,
             self.moment,
         )?;
@@ -81,24 +81,24 @@ impl World {
     }
 
     // The server is told that the connection at a place is gone, once nothing is under way and nothing comes.
-    fn tell_up(&mut self, place: usize)
-        ensures { self.new ≡ end_told_up place self.old }
+    fn tell_up(&mut self, position: usize)
+        ensures { self.new ≡ end_reported_up position self.old }
     {
-        if place >= self.wires.len() {
+        if position >= self.wires.len() {
             return;
         }
-        if self.wires[place].up.is_end_due() {
-            self.server.gone(place as u64 + 1, self.moment);
-            self.wires[place].up.tell_end();
+        if self.wires[position].up.is_end_due() {
+            self.server.gone(position as u64 + 1, self.moment);
+            self.wires[position].up.tell_end();
         }
     }
 
     /// Bytes of the connection at a place are handed to the server.
-    pub(crate) fn up(&mut self, place: usize, count: Count) -> Result<(), NoMemory>
-        ensures { OnOk result (self.new ≡ moved (Up place count) self.old) }
+    pub(crate) fn up(&mut self, position: usize, count: Count) -> Result<(), NoMemory>
+        ensures { OnOk result (self.new ≡ moved (Up position count) self.old) }
     {
-        self.serve(place, count)?;
-        self.tell_up(place);
+        self.serve(position, count)?;
+        self.tell_up(position);
         Ok(())
     }
 }

@@ -1,8 +1,8 @@
 //! A line of a schedule as moves.
 ghost use Rattle.std.specs.Prelude.{◌≡◌, ◌≤◌, false, true, length, IsTrue, OnOk};
-ghost use Rattle.base_io.specs.Names.{place_of};
+ghost use Rattle.base_io.specs.Names.{position_of};
 ghost use Rattle.cmd_schedule.specs.Grammar.{is_name};
-ghost use Rattle.cmd_network.specs.Places;
+ghost use Rattle.cmd_network.specs.Positions;
 ghost use Rattle.cmd_world.specs.Lines.{common_moves, move_of, pass_of, passes_of, passes_where, round_from, rounds_of, stepped};
 ghost use Rattle.cmd_world.specs.Moves.{CatchUp, Close, Cut, Dial, Down, Forget, Say, Up, all_moved};
 ghost use Rattle.cmd_world.specs.Standing.{IsNumbered, MayAsk, MayStep};
@@ -12,8 +12,8 @@ use base_io::NoMemory;
 use cmd_schedule::{Count, Step, WireLine, WireStep};
 
 // The place of the connection under a number.
-fn place_under(number: u32) -> Option<usize>
-    ensures { result ≡ Places.place_under number }
+fn position_under(number: u32) -> Option<usize>
+    ensures { result ≡ Positions.position_under number }
 {
     match number {
         0 => None,
@@ -23,19 +23,19 @@ fn place_under(number: u32) -> Option<usize>
 
 impl World {
     // All bytes of the connection at a place to the server, and then all to its device.
-    fn pass(&mut self, place: usize) -> Result<(), NoMemory>
-        ensures { OnOk result (self.new ≡ all_moved (pass_of place) self.old) }
+    fn pass(&mut self, position: usize) -> Result<(), NoMemory>
+        ensures { OnOk result (self.new ≡ all_moved (pass_of position) self.old) }
     {
-        self.up(place, Count::All)?;
-        self.down(place, Count::All)
+        self.up(position, Count::All)?;
+        self.down(position, Count::All)
     }
 
     // The same so many times.
-    fn passes(&mut self, place: usize, times: u32) -> Result<(), NoMemory>
-        ensures { OnOk result (self.new ≡ all_moved (passes_of times place) self.old) }
+    fn passes(&mut self, position: usize, times: u32) -> Result<(), NoMemory>
+        ensures { OnOk result (self.new ≡ all_moved (passes_of times position) self.old) }
     {
         for i in 0..times {
-            self.pass(place)?;
+            self.pass(position)?;
         }
         Ok(())
     }
@@ -44,8 +44,8 @@ impl World {
     fn round(&mut self, count: usize) -> Result<(), NoMemory>
         ensures { OnOk result (self.new ≡ all_moved (round_from 0 count) self.old) }
     {
-        for place in 0..count {
-            self.pass(place)?;
+        for position in 0..count {
+            self.pass(position)?;
         }
         Ok(())
     }
@@ -70,10 +70,10 @@ impl World {
         private: bool,
     ) -> Result<(), NoMemory>
         requires { IsTrue (is_name to.now) }
-        ensures { OnOk result (self.new ≡ all_moved (move_of (λ place. Say place line to.now text.now private) (place_of device.now self.old.names)) self.old) }
+        ensures { OnOk result (self.new ≡ all_moved (move_of (λ position. Say position line to.now text.now private) (position_of device.now self.old.names)) self.old) }
     {
         match self.index.find(device) {
-            Some(place) => self.say(place, line, to, text, private),
+            Some(position) => self.say(position, line, to, text, private),
             None => Ok(()),
         }
     }
@@ -81,10 +81,10 @@ impl World {
     // The user of a device asks for the archive.
     fn catch_up_of(&mut self, line: u64, device: &str, most: u32) -> Result<(), NoMemory>
         requires { (1 ≤ most) × (most ≤ 100) }
-        ensures { OnOk result (self.new ≡ all_moved (move_of (λ place. CatchUp place line most) (place_of device.now self.old.names)) self.old) }
+        ensures { OnOk result (self.new ≡ all_moved (move_of (λ position. CatchUp position line most) (position_of device.now self.old.names)) self.old) }
     {
         match self.index.find(device) {
-            Some(place) => self.catch_up(place, line, most),
+            Some(position) => self.catch_up(position, line, most),
             None => Ok(()),
         }
     }
@@ -113,70 +113,70 @@ impl World {
     // A device dials.
     fn dial_of(&mut self, device: &str) -> Result<(), NoMemory>
         requires { IsNumbered self.old }
-        ensures { OnOk result (self.new ≡ all_moved (move_of Dial (place_of device.now self.old.names)) self.old) }
+        ensures { OnOk result (self.new ≡ all_moved (move_of Dial (position_of device.now self.old.names)) self.old) }
     {
         match self.index.find(device) {
-            Some(place) => self.dial(place),
+            Some(position) => self.dial(position),
             None => Ok(()),
         }
     }
 
     // It leaves its connection, and its session ends.
     fn forget_of(&mut self, device: &str)
-        ensures { self.new ≡ all_moved (move_of Forget (place_of device.now self.old.names)) self.old }
+        ensures { self.new ≡ all_moved (move_of Forget (position_of device.now self.old.names)) self.old }
     {
         match self.index.find(device) {
-            Some(place) => self.forget(place),
+            Some(position) => self.forget(position),
             None => {}
         }
     }
 
     // It closes its stream.
     fn close_of(&mut self, device: &str) -> Result<(), NoMemory>
-        ensures { OnOk result (self.new ≡ all_moved (move_of Close (place_of device.now self.old.names)) self.old) }
+        ensures { OnOk result (self.new ≡ all_moved (move_of Close (position_of device.now self.old.names)) self.old) }
     {
         match self.index.find(device) {
-            Some(place) => self.close(place),
+            Some(position) => self.close(position),
             None => Ok(()),
         }
     }
 
     // Bytes of a connection go to the server.
     fn up_of(&mut self, number: u32, count: Count) -> Result<(), NoMemory>
-        ensures { OnOk result (self.new ≡ all_moved (move_of (λ place. Up place count) (Places.place_under number)) self.old) }
+        ensures { OnOk result (self.new ≡ all_moved (move_of (λ position. Up position count) (Positions.position_under number)) self.old) }
     {
-        match place_under(number) {
-            Some(place) => self.up(place, count),
+        match position_under(number) {
+            Some(position) => self.up(position, count),
             None => Ok(()),
         }
     }
 
     // Bytes of a connection go to its device.
     fn down_of(&mut self, number: u32, count: Count) -> Result<(), NoMemory>
-        ensures { OnOk result (self.new ≡ all_moved (move_of (λ place. Down place count) (Places.place_under number)) self.old) }
+        ensures { OnOk result (self.new ≡ all_moved (move_of (λ position. Down position count) (Positions.position_under number)) self.old) }
     {
-        match place_under(number) {
-            Some(place) => self.down(place, count),
+        match position_under(number) {
+            Some(position) => self.down(position, count),
             None => Ok(()),
         }
     }
 
     // The network cuts a connection.
     fn cut_of(&mut self, number: u32, up: u32, down: u32)
-        ensures { self.new ≡ all_moved (move_of (λ place. Cut place up down) (Places.place_under number)) self.old }
+        ensures { self.new ≡ all_moved (move_of (λ position. Cut position up down) (Positions.position_under number)) self.old }
     {
-        match place_under(number) {
-            Some(place) => self.cut(place, up as usize, down as usize),
+        match position_under(number) {
+            Some(position) => self.cut(position, up as usize, down as usize),
             None => {}
         }
     }
 
     // All bytes of a connection are handed over, so many times.
     fn pass_of(&mut self, number: u32, times: u32) -> Result<(), NoMemory>
-        ensures { OnOk result (self.new ≡ all_moved (passes_where times (Places.place_under number)) self.old) }
+        ensures { OnOk result (self.new ≡ all_moved (passes_where times (Positions.position_under number)) self.old) }
     {
-        match place_under(number) {
-            Some(place) => self.passes(place, times),
+        match position_under(number) {
+            Some(position) => self.passes(position, times),
             None => Ok(()),
         }
     }

@@ -11,33 +11,33 @@ impl World {
     /// The user of the device at a place submits a message to an account, by a line of the schedule.
     pub(crate) fn say(
         &mut self,
-        place: usize,
+        position: usize,
         line: u64,
         to: &str,
         text: &str,
         private: bool,
     ) -> Result<(), NoMemory>
         requires { IsTrue (is_name to.now) }
-        ensures { OnOk result (self.new ≡ moved (Say place line to.now text.now private) self.old) }
+        ensures { OnOk result (self.new ≡ moved (Say position line to.now text.now private) self.old) }
     {
-        if place >= self.devices.len() {
+        if position >= self.devices.len() {
             return Ok(());
         }
-        let here = self.devices[place].here();
-        let put = self.devices[place].say(self.alloc, line, to, text, private)?;
+        let here = self.devices[position].here();
+        let put = self.devices[position].say(self.alloc, line, to, text, private)?;
         put_up_wire(&mut self.wires, here, put.as_slice())
     }
 
     /// The user of the device at a place asks for the archive, by a line of the schedule.
-    pub(crate) fn catch_up(&mut self, place: usize, line: u64, most: u32) -> Result<(), NoMemory>
+    pub(crate) fn catch_up(&mut self, position: usize, line: u64, most: u32) -> Result<(), NoMemory>
         requires { (1 ≤ most) × (most ≤ 100) }
-        ensures { OnOk result (self.new ≡ moved (CatchUp place line most) self.old) }
+        ensures { OnOk result (self.new ≡ moved (CatchUp position line most) self.old) }
     {
-        if place >= self.devices.len() {
+        if position >= self.devices.len() {
             return Ok(());
         }
-        let here = self.devices[place].here();
-        let put = self.devices[place].catch_up(self.alloc, line, most)?;
+        let here = self.devices[position].here();
+        let put = self.devices[position].catch_up(self.alloc, line, most)?;
         put_up_wire(&mut self.wires, here, put.as_slice())
     }
 
@@ -51,9 +51,9 @@ impl World {
     }
 
     /// The network cuts the connection at a place.
-    pub(crate) fn cut(&mut self, place: usize, up: usize, down: usize)
-        ensures { self.new ≡ moved (Cut place up down) self.old }
+    pub(crate) fn cut(&mut self, position: usize, up: usize, down: usize)
+        ensures { self.new ≡ moved (Cut position up down) self.old }
     {
-        cut_wire(&mut self.wires, place, up, down);
+        cut_wire(&mut self.wires, position, up, down);
     }
 }

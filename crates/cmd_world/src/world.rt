@@ -30,7 +30,7 @@ impl Model for World {
     ghost use Rattle.xml_framer.specs.StateCodes.{state_coded};
     ghost use Rattle.cmd_world.specs.Worlds as worlds;
 
-    ghost Value = { worlds.World };
+    ghost Value = { worlds.ByteWorld };
 
     ghost coded = { Prim.hlevel (codes, state_coded) };
 

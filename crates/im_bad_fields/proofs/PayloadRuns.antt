@@ -8,13 +8,13 @@ use Rattle.base64.specs.Engines.{standard}
 use Rattle.base64.specs.GeneralPurpose.{IsBytes, decode_of}
 use Rattle.base64.specs.declared.decode.DecodeError.{DecodeError}
 use Rattle.im_bad_fields.specs.BadFields.{is_bad}
-use Rattle.im_bad_fields.specs.PayloadTexts.{as_base64, payload_behind, payload_goes_on, payload_may_end}
+use Rattle.im_bad_fields.specs.PayloadTexts.{as_base64, payload_after, payload_goes_on, payload_may_end}
 use Rattle.im_bad_fields.specs.declared.payload.PayloadText.{PayloadText}
 use Rattle.im_bad_fields.specs.declared.payload.PayloadText.TheVariants.{Empty, Equals, Neither}
 use Rattle.auth_primitives.proofs.ByteSteps.{IsBytes-append}
 use Rattle.auth_primitives.proofs.AcceptedLaws.{accepted_is_decoded}
 use Rattle.auth_primitives.specs.Canonical.{is_base64}
-use Rattle.auth_primitives.specs.Reading.{base64_behind, base64_goes_on, is_accepted, is_at_end}
+use Rattle.auth_primitives.specs.Reading.{base64_after, base64_goes_on, is_accepted, is_at_end}
 use Rattle.auth_primitives.specs.declared.text.Base64Text.{Base64Text}
 use Rattle.auth_primitives.specs.declared.text.Base64Text.TheVariants.{Whole}
 use Rattle.im_payload.specs.declared.fault.ExtFault.{ExtFault}
@@ -27,15 +27,15 @@ use Rattle.xml_trees.specs.declared.elements.Node.{Node}
 
 -- ---- a text
 
-pub behind_append : (p : PayloadText) (front rest : List ℕ) → payload_behind p (front ++ rest) ≡ payload_behind (payload_behind p front) rest
-behind_append p [] rest = refl
-behind_append p (b ∷ front) rest = behind_append (payload_goes_on p b) front rest
+pub after_append : (p : PayloadText) (front rest : List ℕ) → payload_after p (front ++ rest) ≡ payload_after (payload_after p front) rest
+after_append p [] rest = refl
+after_append p (b ∷ front) rest = after_append (payload_goes_on p b) front rest
 
-neither_stays : (bytes : List ℕ) → payload_behind Neither bytes ≡ Neither
+neither_stays : (bytes : List ℕ) → payload_after Neither bytes ≡ Neither
 neither_stays [] = refl
 neither_stays (b ∷ bytes) = neither_stays bytes
 
-base64_so : (o : Option Base64Text) (bytes : List ℕ) → payload_behind (as_base64 o) bytes ≡ as_base64 (option_and_then (λ s. base64_behind s bytes) o)
+base64_so : (o : Option Base64Text) (bytes : List ℕ) → payload_after (as_base64 o) bytes ≡ as_base64 (option_and_then (λ s. base64_after s bytes) o)
 base64_so None bytes = neither_stays bytes
 base64_so (Some s) [] = refl
 base64_so (Some s) (b ∷ bytes) = base64_so (base64_goes_on s b) bytes
@@ -52,7 +52,7 @@ base64_bad : (text : List ℕ) → IsBytes text → is_bad (decoded (decode_of s
 unfolding is_base64
 base64_bad text fits = decoded_bad (decode_of standard text) ∙ ap not (sym (accepted_is_decoded text fits))
 
-begins_with_equals : (bytes : List ℕ) → IsBytes (61 ∷ bytes) → is_bad (payload_read (61 ∷ bytes)) ≡ not (payload_may_end (payload_behind Equals bytes))
+begins_with_equals : (bytes : List ℕ) → IsBytes (61 ∷ bytes) → is_bad (payload_read (61 ∷ bytes)) ≡ not (payload_may_end (payload_after Equals bytes))
 unfolding payload_read
 begins_with_equals [] fits = refl
 begins_with_equals (c ∷ cs) fits =
@@ -65,15 +65,15 @@ unlike_equals b bytes other =
     let first : b ≡ 61 = cc same in
     false≢true (sym other ∙ eq-eqb b 61 first))
 
-begins_otherwise : (b : ℕ) (bytes : List ℕ) → (b == 61) ≡ false → IsBytes (b ∷ bytes) → is_bad (payload_read (b ∷ bytes)) ≡ not (payload_may_end (payload_behind Empty (b ∷ bytes)))
+begins_otherwise : (b : ℕ) (bytes : List ℕ) → (b == 61) ≡ false → IsBytes (b ∷ bytes) → is_bad (payload_read (b ∷ bytes)) ≡ not (payload_may_end (payload_after Empty (b ∷ bytes)))
 unfolding payload_read
 begins_otherwise b bytes other fits =
     let read : payload_read (b ∷ bytes) ≡ decoded (decode_of standard (b ∷ bytes)) = rw (unlike_equals b bytes other) refl in
-    let behind : payload_behind Empty (b ∷ bytes) ≡ as_base64 (base64_behind Whole (b ∷ bytes)) = rw other (base64_so (base64_goes_on Whole b) bytes) in
-    ap is_bad read ∙ base64_bad (b ∷ bytes) fits ∙ ap not (sym (may_end_so (base64_behind Whole (b ∷ bytes)))) ∙ sym (ap (λ p. not (payload_may_end p)) behind)
+    let following : payload_after Empty (b ∷ bytes) ≡ as_base64 (base64_after Whole (b ∷ bytes)) = rw other (base64_so (base64_goes_on Whole b) bytes) in
+    ap is_bad read ∙ base64_bad (b ∷ bytes) fits ∙ ap not (sym (may_end_so (base64_after Whole (b ∷ bytes)))) ∙ sym (ap (λ p. not (payload_may_end p)) following)
 
 -- the text is no payload exactly where it is not read to an end
-pub text_bad : (text : List ℕ) → IsBytes text → is_bad (payload_read text) ≡ not (payload_may_end (payload_behind Empty text))
+pub text_bad : (text : List ℕ) → IsBytes text → is_bad (payload_read text) ≡ not (payload_may_end (payload_after Empty text))
 unfolding payload_read
 text_bad [] fits = base64_bad [] fits
 text_bad (b ∷ bytes) fits =
@@ -84,8 +84,8 @@ text_bad (b ∷ bytes) fits =
       | inr other ↦ begins_otherwise b bytes other fits
     ]
   where
-    equals_first : (b : ℕ) (bytes : List ℕ) → b ≡ 61 → IsBytes (b ∷ bytes) → is_bad (payload_read (b ∷ bytes)) ≡ not (payload_may_end (payload_behind Empty (b ∷ bytes)))
-    equals_first b bytes same fits = subst (λ c. is_bad (payload_read (c ∷ bytes)) ≡ not (payload_may_end (payload_behind Empty (c ∷ bytes)))) (sym same) (begins_with_equals bytes (subst (λ c. IsBytes (c ∷ bytes)) same fits))
+    equals_first : (b : ℕ) (bytes : List ℕ) → b ≡ 61 → IsBytes (b ∷ bytes) → is_bad (payload_read (b ∷ bytes)) ≡ not (payload_may_end (payload_after Empty (b ∷ bytes)))
+    equals_first b bytes same fits = subst (λ c. is_bad (payload_read (c ∷ bytes)) ≡ not (payload_may_end (payload_after Empty (c ∷ bytes)))) (sym same) (begins_with_equals bytes (subst (λ c. IsBytes (c ∷ bytes)) same fits))
 
 -- ---- nodes
 
@@ -97,14 +97,14 @@ node_texts nodes i node lt is =
     ap (λ ns. text_of (nodes_view ns)) ahead ∙ text_of-joined (node_view node) (nodes_view (drop (i + 1) nodes))
 
 -- the texts ahead, behind those so far, where this is a node's text
-pub node_read : (p q : PayloadText) (t : List ℕ) (nodes : List Node) (i : ℕ) (node : Node) → i < length nodes → node ≡ get_or nodes i node → text_of (node_view node) ≡ t → q ≡ payload_behind p t
-    → payload_behind q (text_of (nodes_view (drop (i + 1) nodes))) ≡ payload_behind p (text_of (nodes_view (drop i nodes)))
+pub node_read : (p q : PayloadText) (t : List ℕ) (nodes : List Node) (i : ℕ) (node : Node) → i < length nodes → node ≡ get_or nodes i node → text_of (node_view node) ≡ t → q ≡ payload_after p t
+    → payload_after q (text_of (nodes_view (drop (i + 1) nodes))) ≡ payload_after p (text_of (nodes_view (drop i nodes)))
 node_read p q t nodes i node lt is here next =
     let ahead = text_of (nodes_view (drop (i + 1) nodes)) in
-    ap (λ s. payload_behind s ahead) next
-    ∙ sym (behind_append p t ahead)
-    ∙ ap (λ s. payload_behind p (s ++ ahead)) (sym here)
-    ∙ sym (ap (payload_behind p) (node_texts nodes i node lt is))
+    ap (λ s. payload_after s ahead) next
+    ∙ sym (after_append p t ahead)
+    ∙ ap (λ s. payload_after p (s ++ ahead)) (sym here)
+    ∙ sym (ap (payload_after p) (node_texts nodes i node lt is))
 
 pub node_bytes : (t : List ℕ) (nodes : List Node) (i : ℕ) (node : Node) → i < length nodes → node ≡ get_or nodes i node → text_of (node_view node) ≡ t → IsBytes t
     → IsBytes (text_of (nodes_view (drop (i + 1) nodes))) → IsBytes (text_of (nodes_view (drop i nodes)))

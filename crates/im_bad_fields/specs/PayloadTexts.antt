@@ -19,9 +19,9 @@ payload_goes_on (Base64 text) b = as_base64 (base64_goes_on text b)
 payload_goes_on Neither b = Neither
 
 -- behind bytes more
-abbrev pub payload_behind : PayloadText → List ℕ → PayloadText
-payload_behind p [] = p
-payload_behind p (b ∷ bytes) = payload_behind (payload_goes_on p b) bytes
+abbrev pub payload_after : PayloadText → List ℕ → PayloadText
+payload_after p [] = p
+payload_after p (b ∷ bytes) = payload_after (payload_goes_on p b) bytes
 
 abbrev pub payload_may_end : PayloadText → Bool
 payload_may_end Empty = true

@@ -1,7 +1,7 @@
 //! The text of a payload of SASL's elements (RFC 6120, section 6.4), judged where it lies, in one piece or in many.
 ghost use Rattle.std.specs.Prelude.{◌≡◌};
 ghost use Rattle.im_bad_fields.specs.BadFields.{is_bad};
-ghost use Rattle.im_bad_fields.specs.PayloadTexts.{payload_behind, payload_goes_on, payload_may_end};
+ghost use Rattle.im_bad_fields.specs.PayloadTexts.{payload_after, payload_goes_on, payload_may_end};
 ghost use Rattle.im_login.specs.Readings.{payload_read};
 ghost use Rattle.xml_trees.specs.Readers.{text_of};
 ghost use Rattle.xml_trees.specs.Views.{nodes_view};
@@ -37,7 +37,7 @@ impl PayloadText {
 
     /// The text with these bytes more.
     fn followed_by_all(self, bytes: &[u8]) -> PayloadText
-        ensures { result ≡ payload_behind self bytes.now }
+        ensures { result ≡ payload_after self bytes.now }
     {
         let mut payload = self;
         for byte in bytes {

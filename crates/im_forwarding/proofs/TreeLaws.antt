@@ -14,7 +14,7 @@ use Rattle.im_forwarding.specs.Results.{AskerView, archived_elem, archived_messa
 use Rattle.im_mam.specs.ArchiveAnswers.{result_elem}
 use Rattle.im_messages.specs.Ids.{without_ids}
 use Rattle.im_payload.proofs.WhereLemmas.{attr_stays}
-use Rattle.im_payload.proofs.Written.{behind_text}
+use Rattle.im_payload.proofs.Written.{after_text}
 use Rattle.im_payload.specs.Names.{archive}
 use Rattle.im_stamp.specs.Dates.{stamp_at}
 use Rattle.im_stanza.proofs.WrittenAttrs.{attrs_stay}
@@ -22,7 +22,7 @@ use Rattle.im_stanza.proofs.WrittenLaws.{message_stays}
 use Rattle.im_stanza.specs.Names.{client_ns, xml_ns}
 use Rattle.im_stanza.specs.Views.{MessageView}
 use Rattle.im_stanza.specs.Written.{attr_where, attrs_written, message_elem, unless_empty}
-use Rattle.xml_trees.proofs.TidyLaws.{tidied_IsTree, tidied_behind_AreTidy, tidied_stays}
+use Rattle.xml_trees.proofs.TidyLaws.{tidied_IsTree, tidied_after_AreTidy, tidied_stays}
 use Rattle.xml_trees.proofs.TidySteps.{two_steps}
 use Rattle.xml_trees.specs.Attributes.{attribute, sorted_attributes}
 use Rattle.xml_trees.specs.Tidied.{inner_tidied, texts_joined, tidied, tidied_nodes}
@@ -49,7 +49,7 @@ kept_stay by (text t rest) tidy = ap (text t) (kept_stay by rest tidy.2)
 
 kept_AreTidy : (by : List ℕ) (ks : Nodes) → AreTidy ks → AreTidy (texts_joined [] (without_ids by ks))
 kept_AreTidy by ks tidy =
-    subst AreTidy (sym (two_steps [] (without_ids by ks)) ∙ ap (texts_joined []) (kept_stay by ks tidy)) (tidied_behind_AreTidy [] (without_ids by ks))
+    subst AreTidy (sym (two_steps [] (without_ids by ks)) ∙ ap (texts_joined []) (kept_stay by ks tidy)) (tidied_after_AreTidy [] (without_ids by ks))
 
 no_text_after : (ks : Nodes) (e : Elem) → NoTextFirst ks → NoTextFirst (joined ks (child e no_nodes))
 no_text_after no_nodes e first = tt
@@ -93,7 +93,7 @@ copy_IsTree c full tidy =
 -- ---- a result
 
 body_stays : (b : Body) → tidied (body_elem b) ≡ body_elem b
-body_stays b = λ i. element client_ns (codes "body") (attr_stays xml_ns (codes "lang") (unless_empty b.lang) i) (behind_text b.text i)
+body_stays b = λ i. element client_ns (codes "body") (attr_stays xml_ns (codes "lang") (unless_empty b.lang) i) (after_text b.text i)
 
 origin_stays : (origin : List ℕ) → tidied_nodes (origin_node origin) ≡ origin_node origin
 origin_stays [] = refl
@@ -104,7 +104,7 @@ entry_stays [] origin = origin_stays origin
 entry_stays (b ∷ bs) origin = λ i. child (body_stays b i) (entry_stays bs origin i)
 
 archived_IsTree : (e : EntryView) → IsTree (archived_elem e)
-archived_IsTree e = message_IsTree (archived_message e) (subst AreTidy (entry_stays e.bodies e.origin) (tidied_behind_AreTidy [] (entry_nodes e.bodies e.origin)))
+archived_IsTree e = message_IsTree (archived_message e) (subst AreTidy (entry_stays e.bodies e.origin) (tidied_after_AreTidy [] (entry_nodes e.bodies e.origin)))
 
 queryid_stays : (queryid id : List ℕ) → sorted_attributes (attribute [] (codes "id") id ∷ attr_where [] (codes "queryid") (unless_empty queryid)) ≡ attribute [] (codes "id") id ∷ attr_where [] (codes "queryid") (unless_empty queryid)
 queryid_stays [] id = refl

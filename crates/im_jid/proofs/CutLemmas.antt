@@ -26,8 +26,8 @@ before_first_uncut p (x ∷ xs) =
           rw (none, next) (or_from _ _ none (before_first_uncut p xs))
     ]
 
-drop_behind : (xs : List ℕ) (y : ℕ) (ys : List ℕ) → drop (length xs + 1) (xs ++ y ∷ ys) ≡ ys
-drop_behind xs y ys = drop-append-add xs (y ∷ ys) 1
+drop_after : (xs : List ℕ) (y : ℕ) (ys : List ℕ) → drop (length xs + 1) (xs ++ y ∷ ys) ≡ ys
+drop_after xs y ys = drop-append-add xs (y ∷ ys) 1
 
 within : (xs : List ℕ) (y : ℕ) (ys : List ℕ) → nat_lt (length xs) (length (xs ++ y ∷ ys)) ≡ true
 within xs y ys = let size = length-append xs (y ∷ ys) in grind (arith, nat_tests)
@@ -52,7 +52,7 @@ cut_full bare resource none =
     record {
       len = here;
       front = rw here (take-append_seam bare (47 ∷ resource));
-      back = rw (here, within bare 47 resource) (ap Some (drop_behind bare 47 resource));
+      back = rw (here, within bare 47 resource) (ap Some (drop_after bare 47 resource));
     }
 
 pub cut_bare : (bare : List ℕ) → list_any is_slash bare ≡ false → IsCutBare bare
@@ -77,7 +77,7 @@ cut_local local domain none =
     record {
       start = rw (here, within local 64 domain) refl;
       front = rw (here, within local 64 domain) (ap Some (take-append_seam local (64 ∷ domain)));
-      back = rw (here, within local 64 domain) (drop_behind local 64 domain);
+      back = rw (here, within local 64 domain) (drop_after local 64 domain);
     }
 
 pub cut_domain : (domain : List ℕ) → list_any is_at domain ≡ false → IsCutDomain domain

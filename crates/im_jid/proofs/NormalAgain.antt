@@ -17,7 +17,7 @@ use Rattle.im_jid.specs.Answers.{Answers, Appends}
 use Rattle.im_jid.specs.Cuts.{is_slash, bare_len, bare_of, resource_of, domain_start, local_of_bare, domain_of_bare, local_of, domain_of}
 use Rattle.im_jid.specs.Forms.{is_local_byte, local_form, domain_form, resource_form}
 use Rattle.im_jid.specs.Indexed.{IsIndexed}
-use Rattle.im_jid.specs.Normal.{joined, followed_by_at, behind_slash, local_front, resource_back, normal, IsPartLength, IsAddress, local_text, resource_text, address_text as whole, AreNormalParts, IsJoined}
+use Rattle.im_jid.specs.Normal.{joined, followed_by_at, after_slash, local_front, resource_back, normal, IsPartLength, IsAddress, local_text, resource_text, address_text as whole, AreNormalParts, IsJoined}
 use Rattle.im_jid.proofs.CutLemmas.{before_first_uncut, cut_full, cut_bare, cut_local, cut_domain}
 use Rattle.im_jid.proofs.TextCuts.{bare_size}
 use Rattle.im_jid.proofs.PartForms.{resource_form_utf8, IsLocalForm, local_form_ok, local_form_again, local_uncut, local_ascii, IsDomainForm, domain_form_ok, domain_form_again, domain_uncut, domain_ascii, IsResourceForm, resource_form_ok, resource_form_again}
@@ -120,13 +120,13 @@ local_text_from : (given : Option (List ℕ)) (out : List ℕ) → local_front g
 local_text_from None out is = record { part = None; form = tt; is = cc }
 local_text_from (Some given) out is = followed_from given out (local_form given) refl is
 
-behind_from : (given out : List ℕ) (form : Result (List ℕ) JidFault) → IsUtf8 given → resource_form given ≡ form → behind_slash form ≡ Ok out → IsResourceText out
-behind_from given out (Err e) utf8 f is = cc
-behind_from given out (Ok part) utf8 f is = record { part = Some part; form = resource_form_ok given part utf8 f; is = cc }
+after_from : (given out : List ℕ) (form : Result (List ℕ) JidFault) → IsUtf8 given → resource_form given ≡ form → after_slash form ≡ Ok out → IsResourceText out
+after_from given out (Err e) utf8 f is = cc
+after_from given out (Ok part) utf8 f is = record { part = Some part; form = resource_form_ok given part utf8 f; is = cc }
 
 resource_text_from : (given : Option (List ℕ)) (out : List ℕ) → IfSome given IsUtf8 → resource_back given ≡ Ok out → IsResourceText out
 resource_text_from None out utf8 is = record { part = None; form = tt; is = cc }
-resource_text_from (Some given) out utf8 is = behind_from given out (resource_form given) utf8 refl is
+resource_text_from (Some given) out utf8 is = after_from given out (resource_form given) utf8 refl is
 
 -- what stands behind the first `/` of a text is a text
 resource_utf8 : (text : List ℕ) → IsUtf8 text → IfSome (resource_of text) IsUtf8
@@ -293,7 +293,7 @@ resource_back_utf8 None out is =
     let same : [] ≡ out = cc in subst IsUtf8 same IsUtf8-nil
 resource_back_utf8 (Some given) out is = by_form (resource_form given) refl is
   where
-    by_form : (form : Result (List ℕ) JidFault) → resource_form given ≡ form → behind_slash form ≡ Ok out → IsUtf8 out
+    by_form : (form : Result (List ℕ) JidFault) → resource_form given ≡ form → after_slash form ≡ Ok out → IsUtf8 out
     by_form (Err e) f is' = cc
     by_form (Ok part) f is' =
         let same : 47 ∷ part ≡ out = cc in
@@ -361,7 +361,7 @@ with_resource_err text given old new e result handed is h =
 slash_from : (given part : List ℕ) → resource_back (Some given) ≡ Ok part → (resource : List ℕ) × (47 ∷ resource ≡ part)
 slash_from given part is = by_form (resource_form given) is
   where
-    by_form : (form : Result (List ℕ) JidFault) → behind_slash form ≡ Ok part → (resource : List ℕ) × (47 ∷ resource ≡ part)
+    by_form : (form : Result (List ℕ) JidFault) → after_slash form ≡ Ok part → (resource : List ℕ) × (47 ∷ resource ≡ part)
     by_form (Err e) is' = cc
     by_form (Ok resource) is' = (resource, cc)
 

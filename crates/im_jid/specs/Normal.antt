@@ -17,9 +17,9 @@ abbrev pub followed_by_at : Result (List ℕ) JidFault → Result (List ℕ) Jid
 followed_by_at (Ok local) = Ok (local ++ 64 ∷ [])
 followed_by_at (Err e) = Err e
 
-abbrev pub behind_slash : Result (List ℕ) JidFault → Result (List ℕ) JidFault
-behind_slash (Ok resource) = Ok (47 ∷ resource)
-behind_slash (Err e) = Err e
+abbrev pub after_slash : Result (List ℕ) JidFault → Result (List ℕ) JidFault
+after_slash (Ok resource) = Ok (47 ∷ resource)
+after_slash (Err e) = Err e
 
 -- the local part in normal form with its `@`, and nothing where there is no local part
 abbrev pub local_front : Option (List ℕ) → Result (List ℕ) JidFault
@@ -29,7 +29,7 @@ local_front (Some given) = followed_by_at (local_form given)
 -- the resource in normal form with its `/`, and nothing where there is no resource
 abbrev pub resource_back : Option (List ℕ) → Result (List ℕ) JidFault
 resource_back None = Ok []
-resource_back (Some given) = behind_slash (resource_form given)
+resource_back (Some given) = after_slash (resource_form given)
 
 -- The normal form of a text as an address, or why it has none. From bytes to bytes.
 abbrev pub normal : List ℕ → Result (List ℕ) JidFault

@@ -113,7 +113,7 @@ pub(crate) fn carrier_element(
 }
 
 /// The same as a tree.
-#[tactic(auto, using(im_payload::proofs::Written::behind_text))]
+#[tactic(auto, using(im_payload::proofs::Written::after_text))]
 pub(crate) fn carrier_tree(alloc: Global, name: &str, payload: &[u8]) -> Result<Tree, NoMemory>
     ensures { IfOk result (λ tree. tree ≡ carrier name.now payload.now) }
 {

@@ -66,7 +66,7 @@ impl Auth {
     }
 
     /// The element as a tree.
-    #[tactic(auto, using(im_payload::proofs::Written::behind_text))]
+    #[tactic(auto, using(im_payload::proofs::Written::after_text))]
     pub fn tree(&self, alloc: Global) -> Result<Tree, NoMemory>
         ensures { IfOk result (λ tree. tree ≡ auth_of self.now.mechanism self.now.payload.items) }
     {

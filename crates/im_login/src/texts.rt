@@ -8,7 +8,7 @@ ghost use Rattle.xml_trees.specs.Views.{nodes_view};
 use xml_trees::Node;
 
 // What stands behind a text. `None` where it isn't there.
-fn behind<'a>(bytes: &'a [u8], text: &str) -> Option<&'a [u8]>
+fn following<'a>(bytes: &'a [u8], text: &str) -> Option<&'a [u8]>
     ensures { MatchOption result ((rest : List ℕ) → bytes.now ≢ text.now ++ rest) (λ rest. bytes.now ≡ text.now ++ rest.now) }
 {
     bytes.strip_prefix(text.as_bytes())
@@ -22,7 +22,7 @@ pub(crate) fn is_text(nodes: &[Node], expected: &str) -> bool
     let mut rest = expected.as_bytes();
     for node in nodes {
         if let Node::Text(text) = node {
-            match behind(rest, text.as_str()) {
+            match following(rest, text.as_str()) {
                 Some(bytes) => rest = bytes,
                 None => return false,
             }

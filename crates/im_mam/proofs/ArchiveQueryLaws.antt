@@ -2,13 +2,13 @@
 use Rattle.std.proofs.Common.{◌≡◌, ◌≢◌, ℕ, ◌<◌, ◌≤◌, ◌^◌, true, List, [], ◌∷◌, Option, Some, None, is_none, is_some, option_map, codes, refl, sym, ap, ◌∙◌, subst, arith, append-nil}
 use Rattle.std.specs.Fmt.{decimal}
 use Rattle.std.specs.Result.{result_ok}
-use Rattle.im_payload.proofs.CheckLemmas.{right_behind, right_refused, right_test, right_value, same_value, wrong_front}
+use Rattle.im_payload.proofs.CheckLemmas.{right_after, right_refused, right_test, right_value, same_value, wrong_front}
 use Rattle.im_extensions.proofs.ForwardingLaws.{moment_low, stamp_again}
 use Rattle.im_payload.proofs.Numbers.{optional_fits, written_number}
 use Rattle.im_payload.proofs.WhereLemmas.{attr_stays, more_stays}
-use Rattle.im_payload.proofs.Written.{behind_text}
+use Rattle.im_payload.proofs.Written.{after_text}
 use Rattle.im_payload.specs.Names.{archive, data_forms, result_sets}
-use Rattle.im_mam.specs.ArchiveQuery.{IsFiltered, IsLimited, IsMamQuery, IsStampWhere, WritesMamQuery, form_checks, form_elem, has_known_fields, is_for_archive, is_query, limit_elem, max_in, optional_address, optional_moment, place_in, place_item, place_of, query_checks, query_elem, set_checks}
+use Rattle.im_mam.specs.ArchiveQuery.{IsFiltered, IsLimited, IsMamQuery, IsStampWhere, WritesMamQuery, form_checks, form_elem, has_known_fields, is_for_archive, is_query, limit_elem, max_in, optional_address, optional_moment, place_item, position_in, position_of, query_checks, query_elem, set_checks}
 use Rattle.im_payload.specs.Checks.{IsExactBy, IsFirstWrong, first_wrong}
 use Rattle.im_mam.specs.DataForms.{field_value, field_where, form_of, form_type_elem, value_in}
 use Rattle.im_payload.specs.Faults.{IsFault}
@@ -24,8 +24,8 @@ use Rattle.xml_trees.specs.Attributes.{attribute}
 use Rattle.xml_trees.specs.Readers.{child_of, text_of}
 use Rattle.xml_trees.specs.Tidied.{text_node, tidied, tidied_nodes}
 use Rattle.xml_trees.specs.Trees.{Elem, element, no_nodes, child, joined}
-use Rattle.mam_pages.specs.declared.query.Place.{Place}
-use Rattle.mam_pages.specs.declared.query.Place.TheVariants.{First, After, Before, Last}
+use Rattle.mam_pages.specs.declared.query.PagePosition.{PagePosition}
+use Rattle.mam_pages.specs.declared.query.PagePosition.TheVariants.{First, After, Before, Last}
 use Rattle.im_stanza.specs.Errors.{trees_where}
 use Rattle.im_stanza.specs.Written.{IsNormal, unless_empty}
 
@@ -33,11 +33,11 @@ use Rattle.im_stanza.specs.Written.{IsNormal, unless_empty}
 
 item_stays : (name : List ℕ) (given : Option (List ℕ)) → option_map tidied (set_item_where name given) ≡ set_item_where name given
 item_stays name None = refl
-item_stays name (Some t) = ap Some (λ i. element result_sets name [] (behind_text t i))
+item_stays name (Some t) = ap Some (λ i. element result_sets name [] (after_text t i))
 
 field_stays : (name : List ℕ) (given : Option (List ℕ)) → option_map tidied (field_where name given) ≡ field_where name given
 field_stays name None = refl
-field_stays name (Some t) = ap Some (λ i. element data_forms (codes "field") (attribute [] (codes "var") name ∷ []) (child (element data_forms (codes "value") [] (behind_text t i)) no_nodes))
+field_stays name (Some t) = ap Some (λ i. element data_forms (codes "field") (attribute [] (codes "var") name ∷ []) (child (element data_forms (codes "value") [] (after_text t i)) no_nodes))
 
 form_type_stays : tidied_nodes (child (form_type_elem archive) no_nodes) ≡ child (form_type_elem archive) no_nodes
 form_type_stays = refl
@@ -52,22 +52,22 @@ form_stays peer start end =
     let all = more_stays three (field_where (codes "end") end) three_stay (field_stays (codes "end") end) in
     ap (element data_forms (codes "x") (attribute [] (codes "type") (codes "submit") ∷ [])) all
 
-place_stays : (place : Place) → option_map tidied (place_item place) ≡ place_item place
-place_stays First = refl
-place_stays (After id) = item_stays (codes "after") (Some id)
-place_stays (Before id) = item_stays (codes "before") (Some id)
-place_stays Last = refl
+position_stays : (position : PagePosition) → option_map tidied (place_item position) ≡ place_item position
+position_stays First = refl
+position_stays (After id) = item_stays (codes "after") (Some id)
+position_stays (Before id) = item_stays (codes "before") (Some id)
+position_stays Last = refl
 
-limit_stays : (place : Place) (max : Option ℕ) → tidied (limit_elem place max) ≡ limit_elem place max
-limit_stays place max =
-    let one = more_stays no_nodes (place_item place) refl (place_stays place) in
-    ap (element result_sets (codes "set") []) (more_stays (trees_where (place_item place)) (set_item_where (codes "max") (option_map decimal max)) one (item_stays (codes "max") (option_map decimal max)))
+limit_stays : (position : PagePosition) (max : Option ℕ) → tidied (limit_elem position max) ≡ limit_elem position max
+limit_stays position max =
+    let one = more_stays no_nodes (place_item position) refl (position_stays position) in
+    ap (element result_sets (codes "set") []) (more_stays (trees_where (place_item position)) (set_item_where (codes "max") (option_map decimal max)) one (item_stays (codes "max") (option_map decimal max)))
 
 query_stays : (v : MamQuery) (e : Elem) → WritesMamQuery v e → tidied e ≡ e
 query_stays v e w =
     let form : tidied w.form ≡ w.form = ap tidied w.form_is.shape ∙ form_stays v.query.peer w.form_is.start w.form_is.end ∙ sym w.form_is.shape in
     ap tidied w.shape
-    ∙ (λ i. element archive (codes "query") (attr_stays [] (codes "queryid") (unless_empty v.queryid) i) (child (form i) (child (limit_stays v.query.place v.query.max i) no_nodes)))
+    ∙ (λ i. element archive (codes "query") (attr_stays [] (codes "queryid") (unless_empty v.queryid) i) (child (form i) (child (limit_stays v.query.position v.query.max i) no_nodes)))
     ∙ sym w.shape
 
 pub query_tree : (v : MamQuery) (e tree : Elem) → WritesMamQuery v e → tree ≡ tidied e → WritesMamQuery v tree
@@ -136,21 +136,21 @@ moment_again given (Some ms) (Some t) is spelled = ap (option_map Some) (stamp_a
 
 -- the set
 
-abbrev limit_text : List ℕ → Place → Option ℕ → Option (List ℕ)
-limit_text name place max = option_map elem_text (child_of result_sets name (limit_elem place max))
+abbrev limit_text : List ℕ → PagePosition → Option ℕ → Option (List ℕ)
+limit_text name position max = option_map elem_text (child_of result_sets name (limit_elem position max))
 
-place_again : (place : Place) (max : Option ℕ) → place ≢ Before [] → place_of (limit_text (codes "after") place max) (limit_text (codes "before") place max) ≡ Some place
-place_again First None some = refl
-place_again First (Some m) some = refl
-place_again (After id) None some = ap (λ t. Some (After t)) (text_of-text_node id)
-place_again (After id) (Some m) some = ap (λ t. Some (After t)) (text_of-text_node id)
-place_again (Before []) max some = absurd (some refl)
-place_again (Before (c ∷ cs)) None some = ap (λ t. Some (Before t)) (append-nil (c ∷ cs))
-place_again (Before (c ∷ cs)) (Some m) some = ap (λ t. Some (Before t)) (append-nil (c ∷ cs))
-place_again Last None some = refl
-place_again Last (Some m) some = refl
+position_again : (position : PagePosition) (max : Option ℕ) → position ≢ Before [] → position_of (limit_text (codes "after") position max) (limit_text (codes "before") position max) ≡ Some position
+position_again First None some = refl
+position_again First (Some m) some = refl
+position_again (After id) None some = ap (λ t. Some (After t)) (text_of-text_node id)
+position_again (After id) (Some m) some = ap (λ t. Some (After t)) (text_of-text_node id)
+position_again (Before []) max some = absurd (some refl)
+position_again (Before (c ∷ cs)) None some = ap (λ t. Some (Before t)) (append-nil (c ∷ cs))
+position_again (Before (c ∷ cs)) (Some m) some = ap (λ t. Some (Before t)) (append-nil (c ∷ cs))
+position_again Last None some = refl
+position_again Last (Some m) some = refl
 
-before_some : (after before : Option (List ℕ)) → place_of after before ≡ Some (Before []) → ⊥
+before_some : (after before : Option (List ℕ)) → position_of after before ≡ Some (Before []) → ⊥
 before_some None None is = let p = is in cc
 before_some (Some id) None is = let p = is in cc
 before_some None (Some []) is = let p = is in cc
@@ -160,7 +160,7 @@ before_some (Some a) (Some b) is = let p = is in cc
 spelled_max : (m : ℕ) → m < 2 ^ 32 → optional_number (2 ^ 32) (Some (text_of (text_node (decimal m)))) ≡ Some (Some m)
 spelled_max m low = ap (λ t. option_map Some (number_below (2 ^ 32) t)) (text_of-text_node (decimal m)) ∙ ap (option_map Some) (written_number (2 ^ 32) m (omega arith) low)
 
-max_again : (place : Place) (max : Option ℕ) → ((m : ℕ) → max ≡ Some m → m < 2 ^ 32) → optional_number (2 ^ 32) (limit_text (codes "max") place max) ≡ Some max
+max_again : (position : PagePosition) (max : Option ℕ) → ((m : ℕ) → max ≡ Some m → m < 2 ^ 32) → optional_number (2 ^ 32) (limit_text (codes "max") position max) ≡ Some max
 max_again First None low = refl
 max_again (After id) None low = refl
 max_again (Before id) None low = refl
@@ -170,7 +170,7 @@ max_again (After id) (Some m) low = spelled_max m (low m refl)
 max_again (Before id) (Some m) low = spelled_max m (low m refl)
 max_again Last (Some m) low = spelled_max m (low m refl)
 
-index_again : (place : Place) (max : Option ℕ) → is_none (child_of result_sets (codes "index") (limit_elem place max)) ≡ true
+index_again : (position : PagePosition) (max : Option ℕ) → is_none (child_of result_sets (codes "index") (limit_elem position max)) ≡ true
 index_again First None = refl
 index_again (After id) None = refl
 index_again (Before id) None = refl
@@ -187,12 +187,12 @@ queryid_again [] form set = refl
 queryid_again (c ∷ cs) form set = refl
 
 query_again : (e : Elem) (v : MamQuery) (start end : Option (List ℕ)) → IsMamQuery e v → IsStampWhere v.query.start start → IsStampWhere v.query.end end
-    → IsMamQuery (query_elem v.queryid (form_elem v.query.peer start end) (limit_elem v.query.place v.query.max)) v
+    → IsMamQuery (query_elem v.queryid (form_elem v.query.peer start end) (limit_elem v.query.position v.query.max)) v
 query_again e v start end is at_start at_end =
     let filtered = is.filtered in
     let limited = is.limited in record {
       named = refl;
-      queryid = queryid_again v.queryid (form_elem v.query.peer start end) (limit_elem v.query.place v.query.max);
+      queryid = queryid_again v.queryid (form_elem v.query.peer start end) (limit_elem v.query.position v.query.max);
       filtered = record {
         for_archive = refl;
         known = known_again v.query.peer start end;
@@ -202,15 +202,15 @@ query_again e v start end is at_start at_end =
         end_is = ap optional_moment (end_again v.query.peer start end) ∙ moment_again (field_value (codes "end") e) v.query.end end filtered.end_is at_end;
       };
       limited = record {
-        place_is = place_again v.query.place v.query.max (λ before. before_some (set_text (codes "after") e) (set_text (codes "before") e) (limited.place_is ∙ ap Some before));
-        max_is = max_again v.query.place v.query.max (λ m there. optional_fits (2 ^ 32) (set_text (codes "max") e) m (limited.max_is ∙ ap Some there));
-        no_index = index_again v.query.place v.query.max;
+        position_is = position_again v.query.position v.query.max (λ before. before_some (set_text (codes "after") e) (set_text (codes "before") e) (limited.position_is ∙ ap Some before));
+        max_is = max_again v.query.position v.query.max (λ m there. optional_fits (2 ^ 32) (set_text (codes "max") e) m (limited.max_is ∙ ap Some there));
+        no_index = index_again v.query.position v.query.max;
       };
     }
 
 query_back : (e written : Elem) (v : MamQuery) → IsMamQuery e v → WritesMamQuery v written → IsMamQuery written v
 query_back e written v is w =
-    let shape = w.shape ∙ ap (λ form. query_elem v.queryid form (limit_elem v.query.place v.query.max)) w.form_is.shape in
+    let shape = w.shape ∙ ap (λ form. query_elem v.queryid form (limit_elem v.query.position v.query.max)) w.form_is.shape in
     subst (λ t. IsMamQuery t v) (sym shape) (query_again e v w.form_is.start w.form_is.end is w.form_is.start_spelled w.form_is.end_spelled)
 
 query_one : (e : Elem) (v w : MamQuery) → IsMamQuery e v → IsMamQuery e w → v ≡ w
@@ -221,7 +221,7 @@ query_one e v w a b i =
         peer = same_value v.query.peer w.query.peer (sym a.filtered.peer_is ∙ b.filtered.peer_is) i;
         start = same_value v.query.start w.query.start (sym a.filtered.start_is ∙ b.filtered.start_is) i;
         end = same_value v.query.end w.query.end (sym a.filtered.end_is ∙ b.filtered.end_is) i;
-        place = same_value v.query.place w.query.place (sym a.limited.place_is ∙ b.limited.place_is) i;
+        position = same_value v.query.position w.query.position (sym a.limited.position_is ∙ b.limited.position_is) i;
         max = same_value v.query.max w.query.max (sym a.limited.max_is ∙ b.limited.max_is) i;
       };
     }
@@ -240,15 +240,15 @@ form_right e peer start end is =
     (right_value (optional_moment (field_value (codes "start") e)) start field.Start ends is.start_is
     (right_value (optional_moment (field_value (codes "end") e)) end field.End [] is.end_is refl))))
 
-set_right : (e : Elem) (place : Place) (max : Option ℕ) → IsLimited e place max → first_wrong (set_checks e) ≡ None
-set_right e place max is =
+set_right : (e : Elem) (position : PagePosition) (max : Option ℕ) → IsLimited e position max → first_wrong (set_checks e) ≡ None
+set_right e position max is =
     let index = (is_none (set_child (codes "index") e), field.UnknownField) ∷ [] in
-    right_value (place_in e) place field.Place ((is_some (max_in e), field.Max) ∷ index) is.place_is
+    right_value (position_in e) position field.PagePosition ((is_some (max_in e), field.Max) ∷ index) is.position_is
     (right_value (max_in e) max field.Max index is.max_is (right_test (is_none (set_child (codes "index") e)) field.UnknownField [] is.no_index refl))
 
 query_right : (e : Elem) (v : MamQuery) → IsMamQuery e v → first_wrong (query_checks e) ≡ None
 query_right e v is =
-    right_behind (form_checks e) (set_checks e) (form_right e v.query.peer v.query.start v.query.end is.filtered) ∙ set_right e v.query.place v.query.max is.limited
+    right_after (form_checks e) (set_checks e) (form_right e v.query.peer v.query.start v.query.end is.filtered) ∙ set_right e v.query.position v.query.max is.limited
 
 pub query_exact : IsExactBy is_query query_checks IsMamQuery WritesMamQuery
 query_exact = record {
@@ -266,5 +266,5 @@ form_fault e NoMemory named wrong = tt
 
 pub set_fault : (e : Elem) (fault : ExtFault) → is_query e ≡ true → first_wrong (form_checks e) ≡ None → IsFault true (IsFirstWrong (set_checks e)) fault → IsFault (is_query e) (IsFirstWrong (query_checks e)) fault
 set_fault e NotThis named right wrong = absurd (let p = wrong in cc)
-set_fault e (Bad f) named right wrong = (named, right_behind (form_checks e) (set_checks e) right ∙ wrong.1)
+set_fault e (Bad f) named right wrong = (named, right_after (form_checks e) (set_checks e) right ∙ wrong.1)
 set_fault e NoMemory named right wrong = tt

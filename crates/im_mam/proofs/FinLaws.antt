@@ -4,7 +4,7 @@ use Rattle.std.specs.Fmt.{decimal}
 use Rattle.im_payload.proofs.CheckLemmas.{right_refused, right_value, same_value}
 use Rattle.im_payload.proofs.Numbers.{spelled_fits, written_number}
 use Rattle.im_payload.proofs.WhereLemmas.{attr_stays, more_stays}
-use Rattle.im_payload.proofs.Written.{behind_text}
+use Rattle.im_payload.proofs.Written.{after_text}
 use Rattle.im_mam.specs.ArchiveAnswers.{IsFin, fin_checks, fin_elem, fin_elem_with, fin_elem_without_index, first_item_where, index_in, is_fin, number_or_zero, page_elem}
 use Rattle.im_payload.specs.Names.{archive, result_sets}
 use Rattle.im_payload.specs.Checks.{IsExactBy, first_wrong}
@@ -24,11 +24,11 @@ use Rattle.im_stanza.specs.Written.{attr_where}
 
 first_stays : (first : Option (List ℕ)) (index : Option ℕ) → option_map tidied (first_item_where first index) ≡ first_item_where first index
 first_stays None index = refl
-first_stays (Some id) index = ap Some (λ i. element result_sets (codes "first") (attr_stays [] (codes "index") (option_map decimal index) i) (behind_text id i))
+first_stays (Some id) index = ap Some (λ i. element result_sets (codes "first") (attr_stays [] (codes "index") (option_map decimal index) i) (after_text id i))
 
 item_stays : (name : List ℕ) (given : Option (List ℕ)) → option_map tidied (set_item_where name given) ≡ set_item_where name given
 item_stays name None = refl
-item_stays name (Some t) = ap Some (λ i. element result_sets name [] (behind_text t i))
+item_stays name (Some t) = ap Some (λ i. element result_sets name [] (after_text t i))
 
 page_stays : (index : Option ℕ) (v : Fin) → tidied (page_elem index v) ≡ page_elem index v
 page_stays index v =

@@ -1,6 +1,6 @@
 -- What is read of a query is what the function of its element answers.
 use Rattle.std.proofs.Common.{◌≡◌, Bool, true, false, Option, Some, None, is_none, is_some, List, [], ◌∷◌, Result, Ok, Err, IfOk, IfErr, codes, refl, sym, ap, ◌∙◌}
-use Rattle.im_mam.specs.ArchiveQuery.{IsMamQuery, has_known_fields, is_for_archive, is_query, max_in, optional_address, optional_moment, place_in, query_checks}
+use Rattle.im_mam.specs.ArchiveQuery.{IsMamQuery, has_known_fields, is_for_archive, is_query, max_in, optional_address, optional_moment, position_in, query_checks}
 use Rattle.im_mam.specs.DataForms.{field_value, form_of}
 use Rattle.im_mam.specs.Readings.{filters_read, if_right, limits_read, mam_query_read, query_with, with_field}
 use Rattle.im_mam.specs.ResultSets.{set_child}
@@ -29,7 +29,7 @@ has o x f read is = ap (λ given. with_field given f read) is
 
 limits_right : (e : Elem) (v : MamQuery) → IsMamQuery e v → limits_read e v.query.peer v.query.start v.query.end ≡ Ok v
 limits_right e v is =
-    has (place_in e) v.query.place _ _ is.limited.place_is
+    has (position_in e) v.query.position _ _ is.limited.position_is
     ∙ has (max_in e) v.query.max _ _ is.limited.max_is
     ∙ passes (is_none (set_child (codes "index") e)) _ _ is.limited.no_index
     ∙ (λ i. Ok (record { queryid = sym is.queryid i; query = v.query }))
@@ -71,17 +71,17 @@ query_wrong : (e : Elem) → Judges (query_checks e) (filters_read e)
 query_wrong e =
     let index = (is_none (set_child (codes "index") e), field.UnknownField) ∷ [] in
     let maxes = (is_some (max_in e), field.Max) ∷ index in
-    let places = (is_some (place_in e), field.Place) ∷ maxes in
-    let ends = (is_some (optional_moment (field_value (codes "end") e)), field.End) ∷ places in
+    let positions = (is_some (position_in e), field.PagePosition) ∷ maxes in
+    let ends = (is_some (optional_moment (field_value (codes "end") e)), field.End) ∷ positions in
     let starts = (is_some (optional_moment (field_value (codes "start") e)), field.Start) ∷ ends in
     let peers = (is_some (optional_address (field_value (codes "with") e)), field.Peer) ∷ starts in
     let others = (has_known_fields (form_of e), field.UnknownField) ∷ peers in
     judged_if (is_for_archive (form_of e)) field.FormType others _ (judged_if (has_known_fields (form_of e)) field.UnknownField peers _
     (judged_with (optional_address (field_value (codes "with") e)) field.Peer starts _ (λ peer.
     judged_with (optional_moment (field_value (codes "start") e)) field.Start ends _ (λ start.
-    judged_with (optional_moment (field_value (codes "end") e)) field.End places _ (λ end.
-    judged_with (place_in e) field.Place maxes _ (λ place. judged_with (max_in e) field.Max index _ (λ max.
-    judged_if (is_none (set_child (codes "index") e)) field.UnknownField [] _ (nothing_wrong (Ok (query_with e peer start end place max))))))))))
+    judged_with (optional_moment (field_value (codes "end") e)) field.End positions _ (λ end.
+    judged_with (position_in e) field.PagePosition maxes _ (λ position. judged_with (max_in e) field.Max index _ (λ max.
+    judged_if (is_none (set_child (codes "index") e)) field.UnknownField [] _ (nothing_wrong (Ok (query_with e peer start end position max))))))))))
 
 -- ---- so the relation and the checks say what is read
 

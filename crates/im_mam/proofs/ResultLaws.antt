@@ -57,9 +57,9 @@ result_exact = record {
 -- the forwarded message is judged behind the id
 pub inside_fault : (e : Elem) (fault : ExtFault) → is_result e ≡ true → IsSome (attr_named (codes "id") e) → IsFault true (IsFirstWrong (forward_checks None (the_forwarded e))) fault → IsFault (is_result e) (IsFirstWrong (result_checks e)) fault
 inside_fault e NotThis named there wrong = absurd (let p = wrong in cc)
-inside_fault e (Bad f) named there wrong = (named, behind (attr_named (codes "id") e) there ∙ wrong.1)
+inside_fault e (Bad f) named there wrong = (named, following (attr_named (codes "id") e) there ∙ wrong.1)
   where
-    behind : (given : Option (List ℕ)) → IsSome given → first_wrong ((is_some given, field.Id) ∷ forward_checks None (the_forwarded e)) ≡ first_wrong (forward_checks None (the_forwarded e))
-    behind None there = absurd (let p = there in cc)
-    behind (Some id) there = refl
+    following : (given : Option (List ℕ)) → IsSome given → first_wrong ((is_some given, field.Id) ∷ forward_checks None (the_forwarded e)) ≡ first_wrong (forward_checks None (the_forwarded e))
+    following None there = absurd (let p = there in cc)
+    following (Some id) there = refl
 inside_fault e NoMemory named there wrong = tt

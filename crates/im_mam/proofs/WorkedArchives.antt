@@ -4,7 +4,7 @@ use Rattle.std.proofs.Common.{◌≡◌, true, false, [], ◌∷◌, codes, Some
 use Rattle.std.specs.Fmt.{decimal}
 use Rattle.im_mam.specs.ArchiveAnswers.{fin_checks, fin_elem, fin_elem_without_index, number_or_zero, result_checks}
 use Rattle.im_payload.specs.Names.{archive, data_forms, result_sets}
-use Rattle.im_mam.specs.ArchiveQuery.{max_in, place_in, query_checks}
+use Rattle.im_mam.specs.ArchiveQuery.{max_in, position_in, query_checks}
 use Rattle.im_extensions.specs.Carbons.{carbon_checks, is_sent}
 use Rattle.im_payload.specs.Checks.{first_wrong}
 use Rattle.im_mam.specs.DataForms.{field_elem, form_type_elem, value_in}
@@ -15,7 +15,7 @@ use Rattle.im_mam.specs.ResultSets.{set_item, set_text}
 use Rattle.im_payload.specs.declared.fault.Field.TheVariants as field
 use Rattle.xml_trees.specs.Attributes.{attribute}
 use Rattle.xml_trees.specs.Trees.{Elem, element, Nodes, no_nodes, child, text}
-use Rattle.mam_pages.specs.declared.query.Place.TheVariants.{First, After, Before, Last}
+use Rattle.mam_pages.specs.declared.query.PagePosition.TheVariants.{First, After, Before, Last}
 
 abbrev query : Nodes → Elem
 query inside = element archive (codes "query") (attribute [] (codes "queryid") (codes "f27") ∷ []) inside
@@ -35,8 +35,8 @@ set items = query (child (element result_sets (codes "set") [] items) no_nodes)
 bare_right : first_wrong (query_checks (query no_nodes)) ≡ None
 bare_right = refl
 
-bare_place : place_in (query no_nodes) ≡ Some First
-bare_place = refl
+bare_position : position_in (query no_nodes) ≡ Some First
+bare_position = refl
 
 bare_max : max_in (query no_nodes) ≡ Some None
 bare_max = refl
@@ -48,25 +48,25 @@ next_page = set (child (set_item (codes "max") (codes "010")) (child (set_item (
 next_right : first_wrong (query_checks next_page) ≡ None
 next_right = refl
 
-next_place : place_in next_page ≡ Some (After (codes "28482-98726-73623"))
-next_place = refl
+next_position : position_in next_page ≡ Some (After (codes "28482-98726-73623"))
+next_position = refl
 
 next_max : max_in next_page ≡ Some (Some 10)
 next_max = refl
 
 -- <set><before/></set>, <set><after/></set> and <set><before>7</before></set>
-last_page : place_in (set (child (set_item (codes "before") []) no_nodes)) ≡ Some Last
+last_page : position_in (set (child (set_item (codes "before") []) no_nodes)) ≡ Some Last
 last_page = refl
 
-behind_nothing : place_in (set (child (set_item (codes "after") []) no_nodes)) ≡ Some (After [])
-behind_nothing = refl
+after_nothing : position_in (set (child (set_item (codes "after") []) no_nodes)) ≡ Some (After [])
+after_nothing = refl
 
-page_before : place_in (set (child (set_item (codes "before") (codes "7")) no_nodes)) ≡ Some (Before (codes "7"))
+page_before : position_in (set (child (set_item (codes "before") (codes "7")) no_nodes)) ≡ Some (Before (codes "7"))
 page_before = refl
 
 -- both
-two_places : first_wrong (query_checks (set (child (set_item (codes "before") []) (child (set_item (codes "after") (codes "7")) no_nodes)))) ≡ Some field.Place
-two_places = refl
+two_positions : first_wrong (query_checks (set (child (set_item (codes "before") []) (child (set_item (codes "after") (codes "7")) no_nodes)))) ≡ Some field.PagePosition
+two_positions = refl
 
 bad_max : first_wrong (query_checks (set (child (set_item (codes "max") (codes "ten")) (child (set_item (codes "index") (codes "3")) no_nodes)))) ≡ Some field.Max
 bad_max = refl

@@ -17,8 +17,8 @@ use Rattle.xml_trees.specs.Readers.{elements_of, is_named}
 use Rattle.xml_trees.specs.Trees.{Elem, element, Nodes, no_nodes, child, joined, nodes_of}
 use Rattle.im_jid.specs.Normal.{normal}
 use Rattle.mam_pages.specs.declared.query.PageQuery.{PageQuery}
-use Rattle.mam_pages.specs.declared.query.Place.{Place}
-use Rattle.mam_pages.specs.declared.query.Place.TheVariants.{First, After, Before, Last}
+use Rattle.mam_pages.specs.declared.query.PagePosition.{PagePosition}
+use Rattle.mam_pages.specs.declared.query.PagePosition.TheVariants.{First, After, Before, Last}
 use Rattle.im_stanza.specs.Errors.{trees_where}
 use Rattle.im_stanza.specs.Written.{IsNormal, attr_where, unless_empty}
 
@@ -69,25 +69,25 @@ pub record IsFiltered (e : Elem) (peer : Option (List ℕ)) (start end : Option 
 -- ---- the set, which may be absent
 
 -- the place of a page, by the texts of `after` and `before`, of which one is there at most; an empty `before` is the end
-abbrev pub place_of : Option (List ℕ) → Option (List ℕ) → Option Place
-place_of None None = Some First
-place_of (Some id) None = Some (After id)
-place_of None (Some []) = Some Last
-place_of None (Some (c ∷ cs)) = Some (Before (c ∷ cs))
-place_of (Some after) (Some before) = None
+abbrev pub position_of : Option (List ℕ) → Option (List ℕ) → Option PagePosition
+position_of None None = Some First
+position_of (Some id) None = Some (After id)
+position_of None (Some []) = Some Last
+position_of None (Some (c ∷ cs)) = Some (Before (c ∷ cs))
+position_of (Some after) (Some before) = None
 
-abbrev pub place_in : Elem → Option Place
-place_in e = place_of (set_text (codes "after") e) (set_text (codes "before") e)
+abbrev pub position_in : Elem → Option PagePosition
+position_in e = position_of (set_text (codes "after") e) (set_text (codes "before") e)
 
 abbrev pub max_in : Elem → Option (Option ℕ)
 max_in e = optional_number (2 ^ 32) (set_text (codes "max") e)
 
 abbrev pub set_checks : Elem → List Check
-set_checks e = (is_some (place_in e), field.Place) ∷ (is_some (max_in e), field.Max) ∷ (is_none (set_child (codes "index") e), field.UnknownField) ∷ []
+set_checks e = (is_some (position_in e), field.PagePosition) ∷ (is_some (max_in e), field.Max) ∷ (is_none (set_child (codes "index") e), field.UnknownField) ∷ []
 
 -- where the page lies, and how many items it has at most
-pub record IsLimited (e : Elem) (place : Place) (max : Option ℕ) : Type 0 where
-  pub place_is : place_in e ≡ Some place
+pub record IsLimited (e : Elem) (position : PagePosition) (max : Option ℕ) : Type 0 where
+  pub position_is : position_in e ≡ Some position
   pub max_is : max_in e ≡ Some max
   pub no_index : is_none (set_child (codes "index") e) ≡ true
 
@@ -97,7 +97,7 @@ pub record IsMamQuery (e : Elem) (v : MamQuery) : Type 0 where
   pub named : is_query e ≡ true
   pub queryid : v.queryid ≡ attr_or_empty (codes "queryid") e
   pub filtered : IsFiltered e v.query.peer v.query.start v.query.end
-  pub limited : IsLimited e v.query.place v.query.max
+  pub limited : IsLimited e v.query.position v.query.max
 
 -- the form is judged before the set
 abbrev pub query_checks : Elem → List Check
@@ -120,14 +120,14 @@ form_items peer start end =
 abbrev pub form_elem : Option (List ℕ) → Option (List ℕ) → Option (List ℕ) → Elem
 form_elem peer start end = element data_forms (codes "x") (attribute [] (codes "type") (codes "submit") ∷ []) (form_items peer start end)
 
-abbrev pub place_item : Place → Option Elem
+abbrev pub place_item : PagePosition → Option Elem
 place_item First = None
 place_item (After id) = Some (set_item (codes "after") id)
 place_item (Before id) = Some (set_item (codes "before") id)
 place_item Last = Some (set_item (codes "before") [])
 
-abbrev pub limit_elem : Place → Option ℕ → Elem
-limit_elem place max = element result_sets (codes "set") [] (joined (trees_where (place_item place)) (trees_where (set_item_where (codes "max") (option_map decimal max))))
+abbrev pub limit_elem : PagePosition → Option ℕ → Elem
+limit_elem position max = element result_sets (codes "set") [] (joined (trees_where (place_item position)) (trees_where (set_item_where (codes "max") (option_map decimal max))))
 
 abbrev pub query_elem : List ℕ → Elem → Elem → Elem
 query_elem queryid form set = element archive (codes "query") (attr_where [] (codes "queryid") (unless_empty queryid)) (child form (child set no_nodes))
@@ -143,4 +143,4 @@ pub record WritesForm (q : PageQuery) (e : Elem) : Type 0 where
 pub record WritesMamQuery (v : MamQuery) (e : Elem) : Type 0 where
   pub form : Elem
   pub form_is : WritesForm v.query form
-  pub shape : e ≡ query_elem v.queryid form (limit_elem v.query.place v.query.max)
+  pub shape : e ≡ query_elem v.queryid form (limit_elem v.query.position v.query.max)

@@ -4,7 +4,7 @@ use Rattle.im_extensions.specs.ForwardReadings.{forward_read}
 use Rattle.im_extensions.specs.Forwarding.{the_forwarded}
 use Rattle.im_extensions.specs.declared.forwarding.Forwarded.{Forwarded}
 use Rattle.im_mam.specs.ArchiveAnswers.{index_in, is_fin, is_result, number_or_zero}
-use Rattle.im_mam.specs.ArchiveQuery.{has_known_fields, is_for_archive, is_query, max_in, optional_address, optional_moment, place_in}
+use Rattle.im_mam.specs.ArchiveQuery.{has_known_fields, is_for_archive, is_query, max_in, optional_address, optional_moment, position_in}
 use Rattle.im_mam.specs.DataForms.{field_value, form_of}
 use Rattle.im_mam.specs.ResultSets.{set_child, set_text}
 use Rattle.im_mam.specs.declared.archive_answers.MamResult.{MamResult}
@@ -12,7 +12,7 @@ use Rattle.im_mam.specs.declared.archive_query.MamQuery.{MamQuery}
 use Rattle.mam_pages.specs.declared.fin.Fin.{Fin}
 use Rattle.im_payload.specs.Readings.{where_this}
 use Rattle.im_payload.specs.Shapes.{attr_or_empty, flag}
-use Rattle.mam_pages.specs.declared.query.Place.{Place}
+use Rattle.mam_pages.specs.declared.query.PagePosition.{PagePosition}
 use Rattle.im_payload.specs.declared.fault.ExtFault.{ExtFault}
 use Rattle.im_payload.specs.declared.fault.ExtFault.TheVariants.{Bad}
 use Rattle.im_payload.specs.declared.fault.Field.{Field}
@@ -49,13 +49,13 @@ with_field None field read = Err (Bad field)
 with_field (Some x) field read = read x
 
 -- `query`: the form is judged before the set, and each field of theirs in the order in which it is told
-abbrev pub query_with : Elem → Option (List ℕ) → Option ℕ → Option ℕ → Place → Option ℕ → MamQuery
-query_with e peer start end place max = record { queryid = attr_or_empty (codes "queryid") e; query = record { peer = peer; start = start; end = end; place = place; max = max } }
+abbrev pub query_with : Elem → Option (List ℕ) → Option ℕ → Option ℕ → PagePosition → Option ℕ → MamQuery
+query_with e peer start end position max = record { queryid = attr_or_empty (codes "queryid") e; query = record { peer = peer; start = start; end = end; position = position; max = max } }
 
 abbrev pub limits_read : Elem → Option (List ℕ) → Option ℕ → Option ℕ → Result MamQuery ExtFault
 limits_read e peer start end =
-    with_field (place_in e) field.Place (λ place. with_field (max_in e) field.Max (λ max.
-    if_right (is_none (set_child (codes "index") e)) field.UnknownField (Ok (query_with e peer start end place max))))
+    with_field (position_in e) field.PagePosition (λ position. with_field (max_in e) field.Max (λ max.
+    if_right (is_none (set_child (codes "index") e)) field.UnknownField (Ok (query_with e peer start end position max))))
 
 abbrev pub filters_read : Elem → Result MamQuery ExtFault
 filters_read e =

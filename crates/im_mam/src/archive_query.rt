@@ -3,7 +3,7 @@ ghost use Rattle.std.specs.Prelude.{◌≡◌, None, Some, true, codes, IfErr, I
 ghost use Rattle.std.specs.List.{list_all};
 ghost use Rattle.std.specs.Fmt.{decimal};
 ghost use Rattle.std.specs.Option.{option_copied, option_map};
-ghost use Rattle.im_mam.specs.ArchiveQuery.{IsFiltered, IsLimited, IsMamQuery, IsStampWhere, WritesForm, WritesMamQuery, form_checks, has_known_fields, is_for_archive, is_known, is_query, limit_elem, max_in, optional_address, optional_moment, place_in, place_item, place_of, query_checks, set_checks};
+ghost use Rattle.im_mam.specs.ArchiveQuery.{IsFiltered, IsLimited, IsMamQuery, IsStampWhere, WritesForm, WritesMamQuery, form_checks, has_known_fields, is_for_archive, is_known, is_query, limit_elem, max_in, optional_address, optional_moment, place_item, position_in, position_of, query_checks, set_checks};
 ghost use Rattle.im_payload.specs.Checks.{IsFirstWrong};
 ghost use Rattle.im_mam.specs.DataForms.{field_value, form_of};
 ghost use Rattle.im_payload.specs.Faults.{IsFault};
@@ -26,7 +26,7 @@ use im_payload::{
     ARCHIVE, DATA_FORMS, ExtFault, Field, RESULT_SETS, attr_text, moment_in, moment_text,
     optional_u32, push_text_child, push_unless_empty, push_value,
 };
-use mam_pages::{PageQuery, Place};
+use mam_pages::{PagePosition, PageQuery};
 use std::alloc::Global;
 use xml_trees::{Element, Node, Tree};
 
@@ -149,45 +149,45 @@ fn filters_in(alloc: Global, element: &Element) -> Result<Filters, ExtFault>
 }
 
 // The place by the texts of `after` and `before`. `None` where both are there.
-fn place_of(after: Option<Text>, before: Option<Text>) -> Option<Place>
-    ensures { result ≡ place_of after before }
+fn position_of(after: Option<Text>, before: Option<Text>) -> Option<PagePosition>
+    ensures { result ≡ position_of after before }
 {
     match (after, before) {
-        (None, None) => Some(Place::First),
-        (Some(id), None) => Some(Place::After(id)),
-        (None, Some(id)) => Some(before_place(id)),
+        (None, None) => Some(PagePosition::First),
+        (Some(id), None) => Some(PagePosition::After(id)),
+        (None, Some(id)) => Some(before_position(id)),
         (Some(_), Some(_)) => None,
     }
 }
 
 // The place before an id, which is the end where the id is empty.
-fn before_place(id: Text) -> Place
-    ensures { Some result ≡ place_of None (Some id) }
+fn before_position(id: Text) -> PagePosition
+    ensures { Some result ≡ position_of None (Some id) }
 {
     if id.as_str().is_empty() {
-        Place::Last
+        PagePosition::Last
     } else {
-        Place::Before(id)
+        PagePosition::Before(id)
     }
 }
 
 // The place and the greatest number of items that the set asks for. `Bad` of its first field that is wrong, in the order
-// `Place`, `Max`, `UnknownField`.
-fn limits_in(alloc: Global, element: &Element) -> Result<(Place, Option<u32>), ExtFault>
+// `PagePosition`, `Max`, `UnknownField`.
+fn limits_in(alloc: Global, element: &Element) -> Result<(PagePosition, Option<u32>), ExtFault>
     ensures ok { IfOk result (λ v. IsLimited (elem_view element.now) v.0 v.1) }
     ensures err { IfErr result (IsFault true (IsFirstWrong (set_checks (elem_view element.now)))) }
 {
     let after = set_text(alloc, element, "after")?;
     let before = set_text(alloc, element, "before")?;
-    let Some(place) = place_of(after, before) else {
-        return Err(ExtFault::Bad(Field::Place));
+    let Some(position) = position_of(after, before) else {
+        return Err(ExtFault::Bad(Field::PagePosition));
     };
     let max = set_text(alloc, element, "max")?;
     let max = optional_u32(text_where(&max), Field::Max)?;
     if set_child(element, "index").is_some() {
         return Err(ExtFault::Bad(Field::UnknownField));
     }
-    Ok((place, max))
+    Ok((position, max))
 }
 
 // The query that an element stands for, field by field.
@@ -202,12 +202,12 @@ fn query_in(alloc: Global, element: &Element) -> Result<MamQuery, ExtFault>
         Ok(filters) => filters,
         Err(fault) => return Err(fault),
     };
-    let (place, max) = limits_in(alloc, element)?;
+    let (position, max) = limits_in(alloc, element)?;
     let query = PageQuery {
         peer: filters.peer,
         start: filters.start,
         end: filters.end,
-        place,
+        position,
         max,
     };
     Ok(MamQuery {
@@ -244,15 +244,15 @@ fn form_element(alloc: Global, query: &PageQuery) -> Result<Element, NoMemory>
 
 // Adds the place of a page to a set.
 #[tactic(auto, using(im_payload::proofs::WhereLemmas::nothing_added, im_payload::proofs::WhereLemmas::one_added))]
-fn push_place(alloc: Global, set: &mut Element, place: &Place) -> Result<(), NoMemory>
-    ensures ok { OnOk result (elem_view set.new ≡ with_nodes (elem_view set.old) (trees_where (place_item place.now))) }
+fn push_position(alloc: Global, set: &mut Element, position: &PagePosition) -> Result<(), NoMemory>
+    ensures ok { OnOk result (elem_view set.new ≡ with_nodes (elem_view set.old) (trees_where (place_item position.now))) }
     ensures err { OnErr result (elem_view set.new ≡ elem_view set.old) }
 {
-    match place {
-        Place::First => Ok(()),
-        Place::After(id) => push_text_child(alloc, set, RESULT_SETS, "after", id.as_str()),
-        Place::Before(id) => push_text_child(alloc, set, RESULT_SETS, "before", id.as_str()),
-        Place::Last => push_text_child(alloc, set, RESULT_SETS, "before", ""),
+    match position {
+        PagePosition::First => Ok(()),
+        PagePosition::After(id) => push_text_child(alloc, set, RESULT_SETS, "after", id.as_str()),
+        PagePosition::Before(id) => push_text_child(alloc, set, RESULT_SETS, "before", id.as_str()),
+        PagePosition::Last => push_text_child(alloc, set, RESULT_SETS, "before", ""),
     }
 }
 
@@ -271,10 +271,10 @@ fn push_max(alloc: Global, set: &mut Element, max: Option<u32>) -> Result<(), No
 
 // The set of a query.
 fn limit_element(alloc: Global, query: &PageQuery) -> Result<Element, NoMemory>
-    ensures { IfOk result (λ e. elem_view e ≡ limit_elem query.now.place query.now.max) }
+    ensures { IfOk result (λ e. elem_view e ≡ limit_elem query.now.position query.now.max) }
 {
     let mut set = set_element(alloc)?;
-    push_place(alloc, &mut set, &query.place)?;
+    push_position(alloc, &mut set, &query.position)?;
     push_max(alloc, &mut set, query.max)?;
     Ok(set)
 }
@@ -298,10 +298,11 @@ impl MamQuery {
     /// one name the first. The set may be absent, and so may its `max`; `<after/>` is the empty id, an empty `before` the place
     /// `Last`, and without both the place is `First`.
     ///
-    /// `NotThis` where the tree is another element. Else `Bad` of the first of these that is wrong: `FormType` where a form's
-    /// `FORM_TYPE` is not the archive's namespace, `UnknownField` where the form has another field, `Peer` where `with` is no
-    /// address, `Start` and `End` where these have no stamp from 1970 on, `Place` where the set has both `after` and `before`,
-    /// `Max` where it is no number below 2^32, and `UnknownField` where the set has an `index`.
+    /// `NotThis` where the tree is another element. Else `Bad` of the first of these that is wrong: `FormType` where a
+    /// form's `FORM_TYPE` is not the archive's namespace, `UnknownField` where the form has another field, `Peer` where
+    /// `with` is no address, `Start` and `End` where these have no stamp from 1970 on, `PagePosition` where the set has
+    /// both `after` and `before`, `Max` where it is no number below 2^32, and `UnknownField` where the set has an
+    /// `index`.
     pub fn read(alloc: Global, tree: &Tree) -> Result<MamQuery, ExtFault>
         ensures ok { IfOk result (λ v. IsMamQuery tree.now v) }
         ensures err { IfErr result (IsFault (is_query tree.now) (IsFirstWrong (query_checks tree.now))) }

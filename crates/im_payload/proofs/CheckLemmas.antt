@@ -24,20 +24,20 @@ pub same_value : {A : Type 0} (x y : A) → Some x ≡ Some y → x ≡ y
 same_value x y same = cc
 
 -- checks behind others
-behind_right : (test : Bool) (field : Field) (front behind : List Check) → (first_wrong front ≡ None → first_wrong (front ++ behind) ≡ first_wrong behind) → first_wrong ((test, field) ∷ front) ≡ None
-    → first_wrong ((test, field) ∷ front ++ behind) ≡ first_wrong behind
-behind_right true field front behind again right = again right
-behind_right false field front behind again right = absurd (let p = right in cc)
+after_right : (test : Bool) (field : Field) (front following : List Check) → (first_wrong front ≡ None → first_wrong (front ++ following) ≡ first_wrong following) → first_wrong ((test, field) ∷ front) ≡ None
+    → first_wrong ((test, field) ∷ front ++ following) ≡ first_wrong following
+after_right true field front following again right = again right
+after_right false field front following again right = absurd (let p = right in cc)
 
-pub right_behind : (front behind : List Check) → first_wrong front ≡ None → first_wrong (front ++ behind) ≡ first_wrong behind
-right_behind [] behind right = refl
-right_behind (check ∷ front) behind right = behind_right check.0 check.1 front behind (right_behind front behind) right
+pub right_after : (front following : List Check) → first_wrong front ≡ None → first_wrong (front ++ following) ≡ first_wrong following
+right_after [] following right = refl
+right_after (check ∷ front) following right = after_right check.0 check.1 front following (right_after front following) right
 
-behind_wrong : (test : Bool) (other : Field) (front behind : List Check) (field : Field) → (first_wrong front ≡ Some field → first_wrong (front ++ behind) ≡ Some field) → first_wrong ((test, other) ∷ front) ≡ Some field
-    → first_wrong ((test, other) ∷ front ++ behind) ≡ Some field
-behind_wrong true other front behind field again wrong = again wrong
-behind_wrong false other front behind field again wrong = wrong
+after_wrong : (test : Bool) (other : Field) (front following : List Check) (field : Field) → (first_wrong front ≡ Some field → first_wrong (front ++ following) ≡ Some field) → first_wrong ((test, other) ∷ front) ≡ Some field
+    → first_wrong ((test, other) ∷ front ++ following) ≡ Some field
+after_wrong true other front following field again wrong = again wrong
+after_wrong false other front following field again wrong = wrong
 
-pub wrong_front : (front behind : List Check) (field : Field) → first_wrong front ≡ Some field → first_wrong (front ++ behind) ≡ Some field
-wrong_front [] behind field wrong = absurd (let p = wrong in cc)
-wrong_front (check ∷ front) behind field wrong = behind_wrong check.0 check.1 front behind field (wrong_front front behind field) wrong
+pub wrong_front : (front following : List Check) (field : Field) → first_wrong front ≡ Some field → first_wrong (front ++ following) ≡ Some field
+wrong_front [] following field wrong = absurd (let p = wrong in cc)
+wrong_front (check ∷ front) following field wrong = after_wrong check.0 check.1 front following field (wrong_front front following field) wrong

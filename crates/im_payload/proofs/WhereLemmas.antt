@@ -2,7 +2,7 @@
 use Rattle.std.proofs.Common.{◌≡◌, List, [], ◌++◌, ℕ, Option, Some, None, option_map, refl, sym, ap, ◌∙◌}
 use Rattle.xml_trees.proofs.Folds.{joined_assoc, joined_none}
 use Rattle.xml_trees.specs.Attributes.{sorted_attributes}
-use Rattle.xml_trees.specs.Tidied.{text_node, tidied, tidied_behind, tidied_nodes}
+use Rattle.xml_trees.specs.Tidied.{text_node, tidied, tidied_after, tidied_nodes}
 use Rattle.xml_trees.specs.Trees.{Elem, element, Nodes, no_nodes, child, text, joined, with_nodes}
 use Rattle.im_stanza.specs.Errors.{trees_where}
 use Rattle.im_stanza.specs.Written.{attr_where}
@@ -13,12 +13,12 @@ attr_stays ns name None = refl
 attr_stays ns name (Some t) = refl
 
 -- a child behind nodes, where there is one
-tidied_more : (run : List ℕ) (nodes : Nodes) (more : Option Elem) → tidied_behind run (joined nodes (trees_where more)) ≡ joined (tidied_behind run nodes) (trees_where (option_map tidied more))
+tidied_more : (run : List ℕ) (nodes : Nodes) (more : Option Elem) → tidied_after run (joined nodes (trees_where more)) ≡ joined (tidied_after run nodes) (trees_where (option_map tidied more))
 tidied_more run no_nodes None = sym (joined_none (text_node run))
 tidied_more run no_nodes (Some e) = refl
 tidied_more run (child e rest) more =
     ap (λ nodes. joined (text_node run) (child (tidied e) nodes)) (tidied_more [] rest more)
-    ∙ sym (joined_assoc (text_node run) (child (tidied e) (tidied_behind [] rest)) (trees_where (option_map tidied more)))
+    ∙ sym (joined_assoc (text_node run) (child (tidied e) (tidied_after [] rest)) (trees_where (option_map tidied more)))
 tidied_more run (text t rest) more = tidied_more (run ++ t) rest more
 
 pub more_stays : (nodes : Nodes) (more : Option Elem) → tidied_nodes nodes ≡ nodes → option_map tidied more ≡ more → tidied_nodes (joined nodes (trees_where more)) ≡ joined nodes (trees_where more)

@@ -2,12 +2,12 @@
 use Rattle.std.proofs.Common.{◌≡◌, ℕ, List, [], ◌∷◌, length, refl, sym, ap, arith}
 use Rattle.im_payload.specs.Writing.{text_child_where}
 use Rattle.xml_trees.proofs.Folds.{joined_none}
-use Rattle.xml_trees.specs.Tidied.{text_node, tidied_behind}
+use Rattle.xml_trees.specs.Tidied.{text_node, tidied_after}
 use Rattle.xml_trees.specs.Trees.{Elem, element, no_nodes, with_nodes}
 
-pub behind_text : (t : List ℕ) → tidied_behind [] (text_node t) ≡ text_node t
-behind_text [] = refl
-behind_text (c ∷ cs) = refl
+pub after_text : (t : List ℕ) → tidied_after [] (text_node t) ≡ text_node t
+after_text [] = refl
+after_text (c ∷ cs) = refl
 
 pub text_node_none : (t : List ℕ) → t ≡ [] → text_node t ≡ no_nodes
 text_node_none [] h = refl

@@ -4,8 +4,8 @@ use Rattle.std.specs.Prelude.{ℕ, Bool, true, false, List, [], ◌++◌, Option
 use Rattle.std.specs.Fmt.{decimal}
 use Rattle.im_extensions.specs.Ids.{origin_id_elem}
 use Rattle.im_mam.specs.ArchiveQuery.{form_elem, limit_elem, query_elem}
-use Rattle.mam_pages.specs.declared.query.Place.{Place}
-use Rattle.mam_pages.specs.declared.query.Place.TheVariants.{First, After}
+use Rattle.mam_pages.specs.declared.query.PagePosition.{PagePosition}
+use Rattle.mam_pages.specs.declared.query.PagePosition.TheVariants.{First, After}
 use Rattle.im_payload.specs.Bare.{bare}
 use Rattle.im_payload.specs.Names.{carbons}
 use Rattle.im_requests.specs.Sessions.{setting_item}
@@ -44,12 +44,12 @@ submission_text id to text private = written_item (submission_item id to text pr
 abbrev pub queryid_text : ℕ → List ℕ
 queryid_text number = codes "q" ++ decimal number
 
-abbrev pub place_behind : Option (List ℕ) → Place
-place_behind None = First
-place_behind (Some id) = After id
+abbrev pub position_after : Option (List ℕ) → PagePosition
+position_after None = First
+position_after (Some id) = After id
 
 abbrev pub page_elem : List ℕ → Option (List ℕ) → ℕ → Elem
-page_elem queryid after max = query_elem queryid (form_elem None None None) (limit_elem (place_behind after) (Some max))
+page_elem queryid after max = query_elem queryid (form_elem None None None) (limit_elem (position_after after) (Some max))
 
 -- the page behind the entry of an id, or the first page, of so many results at most
 abbrev pub page_item : List ℕ → Option (List ℕ) → ℕ → ItemOut

@@ -1,7 +1,7 @@
 //! What a client submits, and what it asks of its archive.
 ghost use Rattle.std.specs.Prelude.{◌≡◌, IfOk};
 ghost use Rattle.std.specs.Option.{option_copied};
-ghost use Rattle.im_requests.specs.Messages.{chat_elem, page_elem, page_text, place_behind, queryid_text, submission_nodes, submission_text};
+ghost use Rattle.im_requests.specs.Messages.{chat_elem, page_elem, page_text, position_after, queryid_text, submission_nodes, submission_text};
 ghost use Rattle.im_stanza.specs.Written.{unless_empty};
 ghost use Rattle.xml_trees.specs.Views.{elem_view, nodes_view};
 ghost use Rattle.xml_writer.specs.Canon.{canon};
@@ -12,7 +12,7 @@ use im_extensions::OriginId;
 use im_mam::MamQuery;
 use im_payload::{CARBONS, text_element};
 use im_stanza::{CLIENT, MessageKind, StanzaAttrs, stanza_element};
-use mam_pages::{PageQuery, Place};
+use mam_pages::{PagePosition, PageQuery};
 use std::alloc::Global;
 use xml_trees::{Element, Node, Nodes};
 
@@ -93,12 +93,12 @@ pub fn submitted(alloc: Global, given: &Submission<'_>) -> Result<Bytes, NoMemor
 }
 
 // Where a page begins.
-fn place_behind(alloc: Global, after: Option<&str>) -> Result<Place, NoMemory>
-    ensures { IfOk result (λ place. place ≡ place_behind (option_copied after.entry)) }
+fn position_after(alloc: Global, after: Option<&str>) -> Result<PagePosition, NoMemory>
+    ensures { IfOk result (λ position. position ≡ position_after (option_copied after.entry)) }
 {
     match after {
-        None => Ok(Place::First),
-        Some(id) => Ok(Place::After(Text::from_str(alloc, id)?)),
+        None => Ok(PagePosition::First),
+        Some(id) => Ok(PagePosition::After(Text::from_str(alloc, id)?)),
     }
 }
 
@@ -111,7 +111,7 @@ fn page_element(alloc: Global, asked: &PageRequest<'_>) -> Result<Element, NoMem
         peer: None,
         start: None,
         end: None,
-        place: place_behind(alloc, asked.after)?,
+        position: position_after(alloc, asked.after)?,
         max: Some(asked.max),
     };
     let queryid = Text::from_str(alloc, asked.queryid)?;

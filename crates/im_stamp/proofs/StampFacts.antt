@@ -5,7 +5,7 @@ use Rattle.std.specs.Char.{is_ascii_digit}
 use Rattle.std.specs.List.{list_all, prefix_len}
 use Rattle.std.specs.Prelude.{slice_index}
 use Rattle.jiff_core.specs.Calendar.{IsCivilDate, days_in_month}
-use Rattle.im_stamp.specs.Stamps.{Zone, utc, ahead, behind, IsZone, clock_text, date_text, fraction_text, millis, seconds_ahead, two, zone_text}
+use Rattle.im_stamp.specs.Stamps.{Zone, utc, ahead, following, IsZone, clock_text, date_text, fraction_text, millis, seconds_ahead, two, zone_text}
 use Rattle.im_stamp.specs.StampReading.{counted_digit, digit_count, fraction_len, has_clock, has_date, is_day, is_offset, is_pair, is_zone, millis_of, offset_of, two_at, year_of, zone_of}
 
 pub digit_is : (d : ℕ) → d < 10 → is_ascii_digit (48 + d) ≡ true
@@ -98,7 +98,7 @@ pub zone_back : (z : Zone) → IsZone z → is_zone (zone_text z) ≡ true
 unfolding is_zone
 zone_back utc within = refl
 zone_back (ahead h m) within = offset_back 43 h m refl within.0 within.1
-zone_back (behind h m) within = offset_back 45 h m refl within.0 within.1
+zone_back (following h m) within = offset_back 45 h m refl within.0 within.1
 
 pub seconds_back : (z : Zone) → IsZone z → offset_of (zone_text z) ≡ seconds_ahead z
 unfolding offset_of
@@ -108,7 +108,7 @@ seconds_back (ahead h m) within =
     let a : two_at t 1 ≡ h = two_back h t 1 (omega (arith, within.0)) refl refl in
     let b : two_at t 4 ≡ m = two_back m t 4 (omega (arith, within.1)) refl refl in
     rw (a, b) refl
-seconds_back (behind h m) within =
+seconds_back (following h m) within =
     let t = 45 ∷ (two h ++ 58 ∷ two m) in
     let a : two_at t 1 ≡ h = two_back h t 1 (omega (arith, within.0)) refl refl in
     let b : two_at t 4 ≡ m = two_back m t 4 (omega (arith, within.1)) refl refl in
@@ -122,7 +122,7 @@ and_parts false b h = cc h
 no_digits : (z : Zone) → prefix_len is_ascii_digit (zone_text z) ≡ 0
 no_digits utc = refl
 no_digits (ahead h m) = refl
-no_digits (behind h m) = refl
+no_digits (following h m) = refl
 
 count_back : (ds z : List ℕ) → list_all is_ascii_digit ds ≡ true → prefix_len is_ascii_digit z ≡ 0 → prefix_len is_ascii_digit (ds ++ z) ≡ length ds
 count_back [] z all none = none
@@ -137,7 +137,7 @@ pub fraction_back : (ds : List ℕ) (z : Zone) → list_all is_ascii_digit ds �
 unfolding fraction_len digit_count
 fraction_back [] utc all = refl
 fraction_back [] (ahead h m) all = refl
-fraction_back [] (behind h m) all = refl
+fraction_back [] (following h m) all = refl
 fraction_back (d ∷ ds) z all =
     let count : prefix_len is_ascii_digit ((d ∷ ds) ++ zone_text z) ≡ suc (length ds) = count_back (d ∷ ds) (zone_text z) all (no_digits z) in
     rw (count, some_digits (length ds)) (omega arith)
@@ -159,7 +159,7 @@ long_enough y mo d h mi s ds z = by_length (length (fraction_text ds ++ zone_tex
     some : (ds : List ℕ) (z : Zone) → 1 ≤ length (fraction_text ds ++ zone_text z)
     some [] utc = omega arith
     some [] (ahead h m) = omega arith
-    some [] (behind h m) = omega arith
+    some [] (following h m) = omega arith
     some (d ∷ ds) z = omega arith
 
 pub millis_back : (ds rest : List ℕ) → millis_of (fraction_text ds ++ rest) (length (fraction_text ds)) ≡ millis ds

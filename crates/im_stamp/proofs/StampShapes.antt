@@ -9,7 +9,7 @@ use Rattle.std.specs.Prelude.{slice_index}
 use Rattle.std.specs.Str.{bytes_eq}
 use Rattle.jiff_core.specs.Calendar.{IsCivilDate, IsYear, days_in_month}
 use Rattle.jiff_core.proofs.SignedLemmas.{signed_arith}
-use Rattle.im_stamp.specs.Stamps.{IsStamp, IsZone, Parts, Zone, utc, ahead, behind, fraction_text, millis, zone_text}
+use Rattle.im_stamp.specs.Stamps.{IsStamp, IsZone, Parts, Zone, utc, ahead, following, fraction_text, millis, zone_text}
 use Rattle.im_stamp.specs.StampReading.{digit_count, fraction_len, has_clock, has_date, is_day, is_offset, is_pair, is_stamp, is_zone, two_at, year_of, zone_of}
 use Rattle.im_stamp.proofs.StampFacts.{and_parts, whole}
 
@@ -118,7 +118,7 @@ offset_found t h =
           record { zone = ahead (two_at t 1) (two_at t 4); within = (h_low, m_low); spelled = all ∙ (λ i. sign i ∷ hours.0 i ∷ hours.1 i ∷ colon i ∷ minutes.0 i ∷ minutes.1 i ∷ none i) }
       | inr minus ↦
           let sign : slice_index t 0 ≡ 45 = same (slice_index t 0) 45 minus in
-          record { zone = behind (two_at t 1) (two_at t 4); within = (h_low, m_low); spelled = all ∙ (λ i. sign i ∷ hours.0 i ∷ hours.1 i ∷ colon i ∷ minutes.0 i ∷ minutes.1 i ∷ none i) }
+          record { zone = following (two_at t 1) (two_at t 4); within = (h_low, m_low); spelled = all ∙ (λ i. sign i ∷ hours.0 i ∷ hours.1 i ∷ colon i ∷ minutes.0 i ∷ minutes.1 i ∷ none i) }
     ]
 
 zone_is : (t : List ℕ) → is_zone t ≡ true → ZoneOf t
@@ -140,8 +140,8 @@ record DigitsOf (t : List ℕ) : Type 0 where
 front_on : (n x : ℕ) (t : List ℕ) → drop (1 + n) (x ∷ t) ≡ drop n t
 front_on n x t = let e : 1 + n ≡ suc n = omega arith in rw e refl
 
-behind_front : (n x : ℕ) (t : List ℕ) → drop (n + 1) (x ∷ t) ≡ drop n t
-behind_front n x t = let e : n + 1 ≡ suc n = omega arith in rw e refl
+after_front : (n x : ℕ) (t : List ℕ) → drop (n + 1) (x ∷ t) ≡ drop n t
+after_front n x t = let e : n + 1 ≡ suc n = omega arith in rw e refl
 
 digits_at : (x : ℕ) (t : List ℕ) (b : Bool) → is_ascii_digit x ≡ b → DigitsOf t → DigitsOf (x ∷ t)
 digits_at x t true is more = record {
@@ -172,12 +172,12 @@ unfolding fraction_len digit_count
 rest_by x more true is h =
     let parts = and_parts (x == 46) (nat_lt 0 (prefix_len is_ascii_digit more)) is in
     let ds = digits_found more in
-    let z = zone_is (drop (prefix_len is_ascii_digit more) more) (rw (is, behind_front (prefix_len is_ascii_digit more) x more) at h) in
+    let z = zone_is (drop (prefix_len is_ascii_digit more) more) (rw (is, after_front (prefix_len is_ascii_digit more) x more) at h) in
     let point = same x 46 parts.0 in
     let there = under 0 (prefix_len is_ascii_digit more) parts.1 in
     let some : 0 < length ds.digits = omega (arith, ds.count, there) in
-    let behind = ds.split ∙ ap (λ (r : List ℕ). ds.digits ++ r) z.spelled in
-    record { digits = ds.digits; all = ds.all; zone = z.zone; within = z.within; spelled = rw (some_fraction ds.digits some) (λ i. point i ∷ behind i) }
+    let following = ds.split ∙ ap (λ (r : List ℕ). ds.digits ++ r) z.spelled in
+    record { digits = ds.digits; all = ds.all; zone = z.zone; within = z.within; spelled = rw (some_fraction ds.digits some) (λ i. point i ∷ following i) }
 rest_by x more false is h =
     let z = zone_is (x ∷ more) (rw is at h) in
     record { digits = []; all = refl; zone = z.zone; within = z.within; spelled = z.spelled }

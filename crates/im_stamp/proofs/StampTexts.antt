@@ -33,8 +33,8 @@ stamp_ascii year month day clock y m d c =
     let time = joined_ascii (two (clock / 3600000)) (two (clock / 60000 % 60)) (two (clock / 1000 % 60)) 58 (omega arith) (two_ascii (clock / 3600000) (omega arith)) (two_ascii (clock / 60000 % 60) (omega arith)) (two_ascii (clock / 1000 % 60) (omega arith)) in
     let finer = cons_ascii 46 (three (clock % 1000) ++ 90 ∷ []) (omega arith) (IsAscii-append (three (clock % 1000)) (90 ∷ []) (three_ascii (clock % 1000) (omega arith)) (cons_ascii 90 [] (omega arith) nil_ascii)) in
     let clocked = clock_text (clock / 3600000) (clock / 60000 % 60) (clock / 1000 % 60) in
-    let behind = 46 ∷ (three (clock % 1000) ++ 90 ∷ []) in
-    IsAscii-append (date_text year month day) (84 ∷ (clocked ++ behind)) date (cons_ascii 84 (clocked ++ behind) (omega arith) (IsAscii-append clocked behind time finer))
+    let following = 46 ∷ (three (clock % 1000) ++ 90 ∷ []) in
+    IsAscii-append (date_text year month day) (84 ∷ (clocked ++ following)) date (cons_ascii 84 (clocked ++ following) (omega arith) (IsAscii-append clocked following time finer))
 
 pub written_is_text : (ms : ℕ) (text : List ℕ) → IsWritten ms text → IsUtf8 text
 written_is_text ms text w =

@@ -26,12 +26,12 @@ clock_text hour minute second = two hour ++ 58 ∷ (two minute ++ 58 ∷ two sec
 pub data Zone : Type 0 where
   utc : Zone
   ahead : ℕ → ℕ → Zone
-  behind : ℕ → ℕ → Zone
+  following : ℕ → ℕ → Zone
 
 abbrev pub zone_text : Zone → List ℕ
 zone_text utc = codes "Z"
 zone_text (ahead hours minutes) = 43 ∷ (two hours ++ 58 ∷ two minutes)
-zone_text (behind hours minutes) = 45 ∷ (two hours ++ 58 ∷ two minutes)
+zone_text (following hours minutes) = 45 ∷ (two hours ++ 58 ∷ two minutes)
 
 -- the fraction, by its digits, of which there may be none
 abbrev pub fraction_text : List ℕ → List ℕ
@@ -52,7 +52,7 @@ pub record Parts : Type 0 where
 abbrev pub IsZone : Zone → Type 0
 IsZone utc = Unit {0}
 IsZone (ahead hours minutes) = (hours < 24) × (minutes < 60)
-IsZone (behind hours minutes) = (hours < 24) × (minutes < 60)
+IsZone (following hours minutes) = (hours < 24) × (minutes < 60)
 
 -- A text is a stamp of these parts: the date exists, hours are at most 23, and minutes and seconds at most 59.
 pub record IsStamp (text : List ℕ) (p : Parts) : Type 0 where
@@ -69,7 +69,7 @@ pub record IsStamp (text : List ℕ) (p : Parts) : Type 0 where
 abbrev pub seconds_ahead : Zone → ℤ
 seconds_ahead utc = pos 0
 seconds_ahead (ahead hours minutes) = pos (hours * 3600 + minutes * 60)
-seconds_ahead (behind hours minutes) = neg_ℤ (pos (hours * 3600 + minutes * 60))
+seconds_ahead (following hours minutes) = neg_ℤ (pos (hours * 3600 + minutes * 60))
 
 -- the whole seconds since 1970 of a day number, a clock and a zone
 abbrev pub seconds_since : ℤ → ℕ → ℤ → ℤ

@@ -145,8 +145,8 @@ fn zone_of(text: &[u8]) -> &[u8]
     requires { 20 ≤ length text.now }
     ensures { result.now ≡ zone_of text.now }
 {
-    let behind = &text[19..];
-    &behind[fraction_len(behind)..]
+    let following = &text[19..];
+    &following[fraction_len(following)..]
 }
 
 #[tactic(auto, unfolding(crate::specs::StampReading::is_stamp))]
@@ -270,6 +270,9 @@ pub fn read_stamp(text: &str) -> Result<u64, StampFault>
     if !is_stamp(bytes) {
         return Err(StampFault::BadStamp);
     }
-    let behind = &bytes[19..];
-    moment_at(seconds_of(bytes), millis_of(behind, fraction_len(behind)))
+    let following = &bytes[19..];
+    moment_at(
+        seconds_of(bytes),
+        millis_of(following, fraction_len(following)),
+    )
 }

@@ -150,8 +150,8 @@ presence_kind_unique (Some name) kind is =
         | inr g ↦
             let some : Some name ≢ None = λ p. cc in
             let present : Some name ≢ Some (codes "unavailable") = λ p. e cc in
-            let fine : Some name ≢ Some (codes "error") = λ p. g cc in
-            is.other some present fine ∙ sym ((presence_kind_is (Some name)).other some present fine)
+            let bounded : Some name ≢ Some (codes "error") = λ p. g cc in
+            is.other some present bounded ∙ sym ((presence_kind_is (Some name)).other some present bounded)
       ]
     ]
 

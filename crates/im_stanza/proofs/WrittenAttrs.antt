@@ -96,15 +96,15 @@ attr_tidied ns name (element a b attrs kids) = ap (option_map (λ (x : Attribute
 abbrev Behind : List ℕ → List ℕ → List Attribute → Type 0
 Behind ns name rest = (v : List ℕ) → AllByRecursion (λ y. name_order (given_attr ns name v) y ≡ Less) rest
 
-behind_where : (ns name ns' name' : List ℕ) (given : Option (List ℕ)) (rest : List Attribute) → ((v w : List ℕ) → name_order (given_attr ns name v) (given_attr ns' name' w) ≡ Less)
+after_where : (ns name ns' name' : List ℕ) (given : Option (List ℕ)) (rest : List Attribute) → ((v w : List ℕ) → name_order (given_attr ns name v) (given_attr ns' name' w) ≡ Less)
     → Behind ns name rest → Behind ns name (attr_where ns' name' given ++ rest)
-behind_where ns name ns' name' None rest less behind = behind
-behind_where ns name ns' name' (Some w) rest less behind = λ v. (less v w, behind v)
+after_where ns name ns' name' None rest less following = following
+after_where ns name ns' name' (Some w) rest less following = λ v. (less v w, following v)
 
 ascends : (ns name : List ℕ) (given : Option (List ℕ)) (rest : List Attribute) → Behind ns name rest → IsStrictlySortedBy name_order rest → IsStrictlySortedBy name_order (attr_where ns name given ++ rest)
 unfolding IsStrictlySortedBy
-ascends ns name None rest behind sorted = sorted
-ascends ns name (Some v) rest behind sorted = (behind v, sorted)
+ascends ns name None rest following sorted = sorted
+ascends ns name (Some v) rest following sorted = (following v, sorted)
 
 nothing_ascends : IsStrictlySortedBy name_order []
 unfolding IsStrictlySortedBy
@@ -129,11 +129,11 @@ module _ (from id to kind lang : Option (List ℕ)) where
   five_ascend : IsStrictlySortedBy name_order all_five
   five_ascend =
       ascends [] (codes "from") from last_four
-      (behind_where [] (codes "from") [] (codes "id") id last_three (λ v w. refl) (behind_where [] (codes "from") [] (codes "to") to last_two (λ v w. refl) (behind_where [] (codes "from") [] (codes "type") kind last_one (λ v w. refl) (behind_where [] (codes "from") xml_ns (codes "lang") lang [] (λ v w. refl) (λ v. tt)))))
+      (after_where [] (codes "from") [] (codes "id") id last_three (λ v w. refl) (after_where [] (codes "from") [] (codes "to") to last_two (λ v w. refl) (after_where [] (codes "from") [] (codes "type") kind last_one (λ v w. refl) (after_where [] (codes "from") xml_ns (codes "lang") lang [] (λ v w. refl) (λ v. tt)))))
       (ascends [] (codes "id") id last_three
-      (behind_where [] (codes "id") [] (codes "to") to last_two (λ v w. refl) (behind_where [] (codes "id") [] (codes "type") kind last_one (λ v w. refl) (behind_where [] (codes "id") xml_ns (codes "lang") lang [] (λ v w. refl) (λ v. tt))))
-      (ascends [] (codes "to") to last_two (behind_where [] (codes "to") [] (codes "type") kind last_one (λ v w. refl) (behind_where [] (codes "to") xml_ns (codes "lang") lang [] (λ v w. refl) (λ v. tt)))
-      (ascends [] (codes "type") kind last_one (behind_where [] (codes "type") xml_ns (codes "lang") lang [] (λ v w. refl) (λ v. tt)) (ascends xml_ns (codes "lang") lang [] (λ v. tt) nothing_ascends))))
+      (after_where [] (codes "id") [] (codes "to") to last_two (λ v w. refl) (after_where [] (codes "id") [] (codes "type") kind last_one (λ v w. refl) (after_where [] (codes "id") xml_ns (codes "lang") lang [] (λ v w. refl) (λ v. tt))))
+      (ascends [] (codes "to") to last_two (after_where [] (codes "to") [] (codes "type") kind last_one (λ v w. refl) (after_where [] (codes "to") xml_ns (codes "lang") lang [] (λ v w. refl) (λ v. tt)))
+      (ascends [] (codes "type") kind last_one (after_where [] (codes "type") xml_ns (codes "lang") lang [] (λ v w. refl) (λ v. tt)) (ascends xml_ns (codes "lang") lang [] (λ v. tt) nothing_ascends))))
 
   in_order : attrs_written from id to kind lang ≡ all_five
   in_order = simp (append_assoc, append-nil)

@@ -9,8 +9,8 @@ use Rattle.std.specs.Option.{option_map}
 use Rattle.mam_archive.proofs.IdDigits.{id_of_same}
 use Rattle.mam_archive.specs.Entries.{EntryView}
 use Rattle.mam_archive.specs.Ids.{id_of}
-use Rattle.law_client.specs.CatchUps.{FollowFrom, TakesPages, from_first, from_id, pages_for, query_behind}
-use Rattle.mam_pages.proofs.Behind.{cut_behind, length-numbers_behind, place_by}
+use Rattle.law_client.specs.CatchUps.{FollowFrom, TakesPages, from_first, from_id, pages_for, query_after}
+use Rattle.mam_pages.proofs.Behind.{cut_after, length-numbers_after, position_by}
 use Rattle.mam_pages.proofs.CutViews.{view}
 use Rattle.mam_pages.proofs.Placed.{find_kept, placed}
 use Rattle.mam_pages.proofs.SpanPages.{page_after, page_first}
@@ -19,27 +19,27 @@ use Rattle.mam_pages.specs.Cuts.{CutView, fin_of}
 use Rattle.mam_pages.specs.Kept.{Kept}
 use Rattle.mam_pages.specs.Matches.{matching}
 use Rattle.mam_pages.specs.PageOf.{entry_of_id, page_of}
-use Rattle.mam_pages.specs.Spans.{IsNumbered, cut_by, number_of_entry, numbers_behind, numbers_of}
+use Rattle.mam_pages.specs.Spans.{IsNumbered, cut_by, number_of_entry, numbers_after, numbers_of}
 
 -- ---- the page behind a number
 
 -- what such a page request is answered with
 record IsAnswered (kept : Kept) (after : Option (List ℕ)) (most base last : ℕ) : Type 0 where
   pub cut : CutView
-  pub is : page_of kept (query_behind after most) ≡ Some cut
-  pub numbers : cut.numbers ≡ numbers_behind base (min (last - base) most)
+  pub is : page_of kept (query_after after most) ≡ Some cut
+  pub numbers : cut.numbers ≡ numbers_after base (min (last - base) most)
   pub complete : cut.complete ≡ leb (last - base) most
 
 -- the page out of the numbers behind `low`
 answered_at : (kept : Kept) (after : Option (List ℕ)) (most first last base low : ℕ) → IsNumbered first last kept.entries → base ≡ max low (first - 1) → 1 ≤ first
-    → page_of kept (query_behind after most) ≡ Some (cut_by (record { after = low; through = last; most = most; backward = false }) (numbers_of (matching kept (query_behind after most))))
+    → page_of kept (query_after after most) ≡ Some (cut_by (record { after = low; through = last; most = most; backward = false }) (numbers_of (matching kept (query_after after most))))
     → IsAnswered kept after most base last
 answered_at kept after most first last base low known start one is =
-    let all : numbers_behind (first - 1) (last - (first - 1)) ≡ numbers_of (matching kept (query_behind after most)) = matching_all kept (query_behind after most) first last known (λ e. refl) in
+    let all : numbers_after (first - 1) (last - (first - 1)) ≡ numbers_of (matching kept (query_after after most)) = matching_all kept (query_after after most) first last known (λ e. refl) in
     let count = min (last - base) most in
-    let cut = view (numbers_behind base count) (place_by (first - 1) base count) (last - (first - 1)) (leb (last - base) most) false in
-    let same : cut ≡ cut_by (record { after = low; through = last; most = most; backward = false }) (numbers_behind (first - 1) (last - (first - 1))) =
-    cut_behind (record { after = low; through = last; most = most; backward = false }) (first - 1) (last - (first - 1)) base (last - base) count base (place_by (first - 1) base count) (numbers_behind base count) start (omega arith) refl refl refl refl refl in
+    let cut = view (numbers_after base count) (position_by (first - 1) base count) (last - (first - 1)) (leb (last - base) most) false in
+    let same : cut ≡ cut_by (record { after = low; through = last; most = most; backward = false }) (numbers_after (first - 1) (last - (first - 1))) =
+    cut_after (record { after = low; through = last; most = most; backward = false }) (first - 1) (last - (first - 1)) base (last - base) count base (position_by (first - 1) base count) (numbers_after base count) start (omega arith) refl refl refl refl refl in
     record { cut = cut; is = is ∙ ap Some (sym (same ∙ ap (cut_by (record { after = low; through = last; most = most; backward = false })) all)); numbers = refl; complete = refl }
 
 found_at : (first last base : ℕ) (es : List EntryView) → IsNumbered first last es → last < 2 ^ 64 → first ≤ base → base ≤ last → option_map number_of_entry (entry_of_id (id_of base) es) ≡ Some base
@@ -52,17 +52,17 @@ answered kept after most first last base known few small (from_first none start)
     let at = placed first last kept.entries known in
     let most_is : most ≡ min 100 most = omega arith in
     subst (λ (o : Option (List ℕ)). IsAnswered kept o most base last) (sym none)
-    (answered_at kept None most first last base 0 known (omega (arith, at.0)) at.0 (page_first kept (query_behind None most) first last most known refl most_is))
+    (answered_at kept None most first last base 0 known (omega (arith, at.0)) at.0 (page_first kept (query_after None most) first last most known refl most_is))
 answered kept after most first last base known few small (from_id is above below) =
     let at = placed first last kept.entries known in
     let most_is : most ≡ min 100 most = omega arith in
     subst (λ (o : Option (List ℕ)). IsAnswered kept o most base last) (sym is)
     (answered_at kept (Some (id_of base)) most first last base base known (omega (arith, at.0)) at.0
-    (page_after kept (query_behind (Some (id_of base)) most) (id_of base) first last most base known refl (found_at first last base kept.entries known few above below) most_is))
+    (page_after kept (query_after (Some (id_of base)) most) (id_of base) first last most base known refl (found_at first last base kept.entries known few above below) most_is))
 
 -- ---- its last entry
 
-number_at : (k b j : ℕ) → j < k → slice_get (numbers_behind b k) j ≡ Some (b + suc j)
+number_at : (k b j : ℕ) → j < k → slice_get (numbers_after b k) j ≡ Some (b + suc j)
 number_at zero b j low = absurd (omega arith)
 number_at (suc k) b zero low = let next : suc b ≡ b + suc zero = omega arith in ap Some next
 number_at (suc k) b (suc j) low =
@@ -70,9 +70,9 @@ number_at (suc k) b (suc j) low =
     let number : suc b + suc j ≡ b + suc (suc j) = omega arith in
     number_at k (suc b) j below ∙ ap Some number
 
-last_number_is : (cut : CutView) (base count : ℕ) → cut.numbers ≡ numbers_behind base count → 1 ≤ count → (fin_of cut).last ≡ Some (id_of (base + count))
+last_number_is : (cut : CutView) (base count : ℕ) → cut.numbers ≡ numbers_after base count → 1 ≤ count → (fin_of cut).last ≡ Some (id_of (base + count))
 last_number_is cut base count is some =
-    let size : length cut.numbers ≡ count = ap length is ∙ length-numbers_behind base count in
+    let size : length cut.numbers ≡ count = ap length is ∙ length-numbers_after base count in
     let low : count - 1 < count = omega arith in
     let number : base + suc (count - 1) ≡ base + count = omega arith in
     let last : slice_get cut.numbers (length cut.numbers - 1) ≡ Some (base + count) =
@@ -95,7 +95,7 @@ goes_on : (kept : Kept) (after : Option (List ℕ)) (most first last base : ℕ)
 goes_on kept after most first last base a some from more =
     let beyond : most < last - base = more_left (last - base) most (sym a.complete ∙ more) in
     let count : min (last - base) most ≡ most = omega arith in
-    let is : (fin_of a.cut).last ≡ Some (id_of (base + most)) = last_number_is a.cut base most (a.numbers ∙ ap (numbers_behind base) count) some in
+    let is : (fin_of a.cut).last ≡ Some (id_of (base + most)) = last_number_is a.cut base most (a.numbers ∙ ap (numbers_after base) count) some in
     let start : first ≤ base + 1 = starts from in
     record { more = beyond; last_is = is; follow = from_id is (omega arith) (omega arith) }
   where
@@ -108,7 +108,7 @@ same_some e = cc
 
 -- the next page is asked for behind a later entry
 pub later : (kept : Kept) (after : Option (List ℕ)) (most first last base : ℕ) (cut : CutView) → IsNumbered first last kept.entries → last < 2 ^ 64 → 1 ≤ most → most ≤ 100 → FollowFrom first last after base
-    → page_of kept (query_behind after most) ≡ Some cut → cut.complete ≡ false → (base + most < last) × ((fin_of cut).last ≡ Some (id_of (base + most)))
+    → page_of kept (query_after after most) ≡ Some cut → cut.complete ≡ false → (base + most < last) × ((fin_of cut).last ≡ Some (id_of (base + most)))
 later kept after most first last base cut known few some small from is more =
     let a : IsAnswered kept after most base last = answered kept after most first last base known few small from in
     let same : a.cut ≡ cut = same_some (sym a.is ∙ is) in

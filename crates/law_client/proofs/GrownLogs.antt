@@ -54,7 +54,7 @@ held_tiles log live true = refl
 held_tiles log live false = refl
 
 pub grew_by : (old new : LogView) → LogPart old new → GrewByPages old new
-grew_by old new (adds page entry opened place is) = subst (GrewByPages old) (sym is) (same_grew old _ refl refl)
+grew_by old new (adds page entry opened position is) = subst (GrewByPages old) (sym is) (same_grew old _ refl refl)
 grew_by old new (breaks_off is) = subst (GrewByPages old) (sym is) (same_grew old _ refl refl)
 grew_by old new (holds live is) =
     subst (GrewByPages old) (sym is) (same_grew old (after_hold old live) (held_entries old live (may_hold old live.id)) (held_tiles old live (may_hold old live.id)))

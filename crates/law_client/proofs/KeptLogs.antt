@@ -9,14 +9,14 @@ use Rattle.std.specs.Option.{option_map}
 use Rattle.std.specs.Prelude.{nat_lt}
 use Rattle.std.specs.Str.{bytes_eq}
 use Rattle.law_client.proofs.LogParts.{LogPart, adds, asks_anew, breaks_off, holds, takes}
-use Rattle.law_client.specs.Logs.{IsKept, whole_page}
+use Rattle.law_client.specs.Logs.{IsLogKept, whole_page}
 use Rattle.mam_log.proofs.Orders.{bytes_eq-sym}
 use Rattle.mam_log.proofs.Tilings.{IsTiling-nil, IsTiling-push}
 use Rattle.mam_log.proofs.Unheld.{apart-unheld}
 use Rattle.mam_log.proofs.Unlogged.{not_held, not_logged, unlogged-joined, unlogged-push}
 use Rattle.mam_log.specs.HeldIds.{AreApart}
 use Rattle.mam_log.specs.LogCalls.{may_hold, restarted}
-use Rattle.mam_log.specs.LogPages.{IsBehind, ids_of, last_id}
+use Rattle.mam_log.specs.LogPages.{IsAfter, ids_of, last_id}
 use Rattle.mam_log.specs.Views.{LogView, OpenPage, after_fin, end_of, first_repeat, is_among, outcome_of, repeat_of, same_id, with_begun, with_page}
 use Rattle.mam_log.specs.declared.fin.FinFault.{FinFault}
 use Rattle.mam_log.specs.declared.fin.PageOutcome.{PageOutcome}
@@ -26,27 +26,27 @@ use Rattle.mam_pages.specs.declared.fin.Fin.{Fin}
 
 -- ---- a result more
 
-added_behind : (entries : List LogEntry) (o : Option OpenPage) (entry : LogEntry) → IfSome o (λ p. IsBehind entries p.after)
-    → IfSome (option_map (λ (page : OpenPage). record page { results = page.results ++ entry ∷ [] }) o) (λ p. IsBehind entries p.after)
-added_behind entries None entry h = tt
-added_behind entries (Some page) entry h = h
+added_after : (entries : List LogEntry) (o : Option OpenPage) (entry : LogEntry) → IfSome o (λ p. IsAfter entries p.after)
+    → IfSome (option_map (λ (page : OpenPage). record page { results = page.results ++ entry ∷ [] }) o) (λ p. IsAfter entries p.after)
+added_after entries None entry h = tt
+added_after entries (Some page) entry h = h
 
 room_for : (n max : ℕ) → nat_le max n ≡ false → n + 1 ≤ max
-room_for n max place = grind (arith, nat_tests)
+room_for n max position = grind (arith, nat_tests)
 
 added_bound : (o : Option OpenPage) (page : OpenPage) (entry : LogEntry) → o ≡ Some page → nat_le page.max (length page.results) ≡ false
     → IfSome (option_map (λ (p : OpenPage). record p { results = p.results ++ entry ∷ [] }) o) (λ p. length p.results ≤ p.max)
-added_bound None page entry is place = tt
-added_bound (Some p) page entry is place =
+added_bound None page entry is position = tt
+added_bound (Some p) page entry is position =
     let same : p ≡ page = cc in
-    let room : length p.results + 1 ≤ p.max = room_for (length p.results) p.max (rw same place) in
+    let room : length p.results + 1 ≤ p.max = room_for (length p.results) p.max (rw same position) in
     rw (length-append p.results (entry ∷ [])) room
 
 -- ---- the same page, asked for anew
 
-anew_behind : (entries : List LogEntry) (o : Option OpenPage) (queryid : List ℕ) → IfSome (option_map (restarted queryid) o) (λ p. IsBehind entries p.after)
-anew_behind entries None queryid = tt
-anew_behind entries (Some page) queryid = inl refl
+anew_after : (entries : List LogEntry) (o : Option OpenPage) (queryid : List ℕ) → IfSome (option_map (restarted queryid) o) (λ p. IsAfter entries p.after)
+anew_after entries None queryid = tt
+anew_after entries (Some page) queryid = inl refl
 
 anew_bound : (o : Option OpenPage) (queryid : List ℕ) → IfSome (option_map (restarted queryid) o) (λ p. length p.results ≤ p.max)
 anew_bound None queryid = tt
@@ -77,18 +77,18 @@ apart_push (d ∷ ds) e h none = (
   apart_push ds e h.1 (second_false (bytes_eq e.id d.id) (is_among e.id (ids_of ds)) none),
 )
 
-held_by : (log : LogView) (live : LogEntry) (b : Bool) → may_hold log live.id ≡ b → IsKept log → IsKept (if b then record log { held = log.held ++ live ∷ [] } else log)
+held_by : (log : LogView) (live : LogEntry) (b : Bool) → may_hold log live.id ≡ b → IsLogKept log → IsLogKept (if b then record log { held = log.held ++ live ∷ [] } else log)
 held_by log live false may h = h
 held_by log live true may h =
     let logged = is_among live.id (ids_of log.entries) in
     let held = is_among live.id (ids_of log.held) in
-    let place = nat_lt (length log.held) MOST_HELD in
+    let position = nat_lt (length log.held) MOST_HELD in
     record {
       tiling = h.tiling;
-      behind = h.behind;
+      following = h.following;
       bound = h.bound;
-      apart = apart_push log.held live h.apart (not_held logged held place may);
-      unlogged = unlogged-push log.entries log.held live h.unlogged (not_logged logged (not held && place) may);
+      apart = apart_push log.held live h.apart (not_held logged held position may);
+      unlogged = unlogged-push log.entries log.held live h.unlogged (not_logged logged (not held && position) may);
     }
 
 -- ---- a page that is taken over
@@ -117,11 +117,11 @@ judged_well log page fin outcome e =
     let rest = unrepeated (first_repeat (ids_of log.entries) (ids_of page.results)) _ outcome same in
     record { fresh = rest.0; advances = λ last. advanced page.results fin.complete _ outcome rest.1 last }
 
-taken_by : (log : LogView) (page : OpenPage) (fin : Fin) → IsWell log page fin → IsBehind log.entries page.after → IsKept log → IsKept (with_page log page fin)
-taken_by log page fin well behind h =
+taken_by : (log : LogView) (page : OpenPage) (fin : Fin) → IsWell log page fin → IsAfter log.entries page.after → IsLogKept log → IsLogKept (with_page log page fin)
+taken_by log page fin well following h =
     record {
-      tiling = IsTiling-push log.entries log.tiles (whole_page page fin) h.tiling behind well.advances well.fresh;
-      behind = tt;
+      tiling = IsTiling-push log.entries log.tiles (whole_page page fin) h.tiling following well.advances well.fresh;
+      following = tt;
       bound = tt;
       apart = apart-unheld (ids_of page.results) log.held h.apart;
       unlogged = unlogged-joined log.entries page.results log.held h.unlogged;
@@ -130,31 +130,31 @@ taken_by log page fin well behind h =
 pub fin_is : (log : LogView) (page : OpenPage) (fin : Fin) → log.page ≡ Some page → after_fin log fin ≡ with_page log page fin
 fin_is log page fin opened = ap (λ (o : Option OpenPage). elim o as (λ _. LogView) [ None ↦ log | Some p ↦ with_page log p fin ]) opened
 
-behind_of : (entries : List LogEntry) (o : Option OpenPage) (page : OpenPage) → o ≡ Some page → IfSome o (λ p. IsBehind entries p.after) → IsBehind entries page.after
-behind_of entries o page opened h = subst (λ (p : Option OpenPage). IfSome p (λ q. IsBehind entries q.after)) opened h
+after_of : (entries : List LogEntry) (o : Option OpenPage) (page : OpenPage) → o ≡ Some page → IfSome o (λ p. IsAfter entries p.after) → IsAfter entries page.after
+after_of entries o page opened h = subst (λ (p : Option OpenPage). IfSome p (λ q. IsAfter entries q.after)) opened h
 
 -- ---- all
 
-pub kept_by : (old new : LogView) → LogPart old new → IsKept old → IsKept new
-kept_by old new (adds page entry opened place is) h =
-    subst IsKept (sym is)
+pub kept_by : (old new : LogView) → LogPart old new → IsLogKept old → IsLogKept new
+kept_by old new (adds page entry opened position is) h =
+    subst IsLogKept (sym is)
     (record {
       tiling = h.tiling;
-      behind = added_behind old.entries old.page entry h.behind;
-      bound = added_bound old.page page entry opened place;
+      following = added_after old.entries old.page entry h.following;
+      bound = added_bound old.page page entry opened position;
       apart = h.apart;
       unlogged = h.unlogged;
     })
-kept_by old new (breaks_off is) h = subst IsKept (sym is) (record { tiling = h.tiling; behind = tt; bound = tt; apart = h.apart; unlogged = h.unlogged })
-kept_by old new (holds live is) h = subst IsKept (sym is) (held_by old live (may_hold old live.id) refl h)
+kept_by old new (breaks_off is) h = subst IsLogKept (sym is) (record { tiling = h.tiling; following = tt; bound = tt; apart = h.apart; unlogged = h.unlogged })
+kept_by old new (holds live is) h = subst IsLogKept (sym is) (held_by old live (may_hold old live.id) refl h)
 kept_by old new (takes page fin outcome opened judged is) h =
-    subst IsKept (sym (is ∙ fin_is old page fin opened)) (taken_by old page fin (judged_well old page fin outcome judged) (behind_of old.entries old.page page opened h.behind) h)
+    subst IsLogKept (sym (is ∙ fin_is old page fin opened)) (taken_by old page fin (judged_well old page fin outcome judged) (after_of old.entries old.page page opened h.following) h)
 kept_by old new (asks_anew queryid is) h =
-    subst IsKept (sym is) (record { tiling = h.tiling; behind = anew_behind old.entries old.page queryid; bound = anew_bound old.page queryid; apart = h.apart; unlogged = h.unlogged })
+    subst IsLogKept (sym is) (record { tiling = h.tiling; following = anew_after old.entries old.page queryid; bound = anew_bound old.page queryid; apart = h.apart; unlogged = h.unlogged })
 
 -- a page begins
-pub begun_kept : (log : LogView) (queryid : List ℕ) (max : ℕ) → IsKept log → IsKept (with_begun log queryid max)
-begun_kept log queryid max h = record { tiling = h.tiling; behind = inr refl; bound = omega arith; apart = h.apart; unlogged = h.unlogged }
+pub begun_kept : (log : LogView) (queryid : List ℕ) (max : ℕ) → IsLogKept log → IsLogKept (with_begun log queryid max)
+begun_kept log queryid max h = record { tiling = h.tiling; following = inr refl; bound = omega arith; apart = h.apart; unlogged = h.unlogged }
 
-pub empty_kept : IsKept (record { entries = []; tiles = []; page = None; held = [] })
-empty_kept = record { tiling = IsTiling-nil; behind = tt; bound = tt; apart = tt; unlogged = tt }
+pub empty_kept : IsLogKept (record { entries = []; tiles = []; page = None; held = [] })
+empty_kept = record { tiling = IsTiling-nil; following = tt; bound = tt; apart = tt; unlogged = tt }

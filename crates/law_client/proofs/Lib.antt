@@ -16,12 +16,12 @@ pub mod LogLaws
 pub mod CaughtUp
 pub mod NextPages
 -- ---- each thing that is put turned into another
-pub mod RowsTurned
-pub mod OnlineTurned
-pub mod TableTurned
+pub mod RowsRendered
+pub mod OnlineRendered
+pub mod TableRendered
 -- ---- calls
 pub mod CallsMade
-pub mod CallsTurned
+pub mod CallsRendered
 -- ---- rows
 pub mod RowsPut
 -- ---- items and calls

@@ -7,10 +7,10 @@ use Rattle.law_client.proofs.GrownLogs.{grew_by, grew_on, same_grew}
 use Rattle.law_client.proofs.KeptLogs.{begun_kept, kept_by}
 use Rattle.law_client.proofs.LogParts.{LogPart, breaks_off}
 use Rattle.law_client.proofs.Parts.{IsLaw, Part, acks, bound, drops_binding, drops_left, enabled, goes_free, goes_with, goes_without, handled, logs, numbers, opens, outs, states, submits, waits}
-use Rattle.law_client.specs.Logs.{FollowUnbroken, GrewByPages, IsKept}
-use Rattle.cl_handlers.specs.Clients.{Turn}
+use Rattle.law_client.specs.Logs.{FollowUnbroken, GrewByPages, IsLogKept}
+use Rattle.cl_handlers.specs.Clients.{ClientStep}
 use Rattle.cl_handlers.specs.Speech.{Speech}
-use Rattle.mam_log.specs.LogPages.{FollowsOn, IsBehind, LogPage, last_id}
+use Rattle.mam_log.specs.LogPages.{FollowsOn, IsAfter, LogPage, last_id}
 use Rattle.mam_log.specs.Views.{LogView, with_begun}
 use Rattle.mam_log.specs.declared.log_entry.LogEntry.{LogEntry}
 
@@ -21,10 +21,10 @@ data Change (old new : LogView) : Type 0 where
   part : LogPart old new → Change old new
   begun : (queryid : List ℕ) (max : ℕ) → new ≡ with_begun old queryid max → Change old new
 
-abbrev log_in : {A X : Type 0} → Turn A X → LogView
+abbrev log_in : {A X : Type 0} → ClientStep A X → LogView
 log_in t = t.client.log
 
-changed : {A X : Type 0} {speech : Speech A X} (t u : Turn A X) → Part speech t u → Change t.client.log u.client.log
+changed : {A X : Type 0} {speech : Speech A X} (t u : ClientStep A X) → Part speech t u → Change t.client.log u.client.log
 changed t u (outs is notes) = none (ap (λ c. c.log) is)
 changed t u (states s at is) = none (ap log_in is)
 changed t u (goes_free p needs binds is) = none (ap log_in is)
@@ -34,8 +34,8 @@ changed t u (bound at is) = none (ap log_in is)
 changed t u (enabled previd at is) = none (ap log_in is)
 changed t u (drops_left is) = part (breaks_off (ap log_in is))
 changed t u (drops_binding is) = part (breaks_off (ap log_in is))
-changed t u (waits s stanza at place is) = none (ap log_in is)
-changed t u (submits s said at place is) = none (ap log_in is)
+changed t u (waits s stanza at position is) = none (ap log_in is)
+changed t u (submits s said at position is) = none (ap log_in is)
 changed t u (acks s h at low is) = none (ap log_in is)
 changed t u (handled s e at is) = none (ap log_in is)
 changed t u (logs log by is) = part (subst (LogPart t.client.log) (sym (ap log_in is)) by)
@@ -44,20 +44,20 @@ changed t u (numbers number is) = none (ap log_in is)
 
 -- ---- logs are kept
 
-abbrev KeepsLog : {A X : Type 0} → Turn A X → Turn A X → Type 0
-KeepsLog t u = IsKept t.client.log → IsKept u.client.log
+abbrev KeepsLog : {A X : Type 0} → ClientStep A X → ClientStep A X → Type 0
+KeepsLog t u = IsLogKept t.client.log → IsLogKept u.client.log
 
-kept_over : (old new : LogView) → Change old new → IsKept old → IsKept new
-kept_over old new (none is) h = subst IsKept (sym is) h
+kept_over : (old new : LogView) → Change old new → IsLogKept old → IsLogKept new
+kept_over old new (none is) h = subst IsLogKept (sym is) h
 kept_over old new (part by) h = kept_by old new by h
-kept_over old new (begun queryid max is) h = subst IsKept (sym is) (begun_kept old queryid max h)
+kept_over old new (begun queryid max is) h = subst IsLogKept (sym is) (begun_kept old queryid max h)
 
 pub kept_law : {A X : Type 0} (speech : Speech A X) → IsLaw speech KeepsLog
 kept_law speech = record { stays = λ t h. h; joins = λ t u v first rest h. rest (first h); parts = λ t u one h. kept_over t.client.log u.client.log (changed t u one) h }
 
 -- ---- logs grow by pages
 
-abbrev GrowsLog : {A X : Type 0} → Turn A X → Turn A X → Type 0
+abbrev GrowsLog : {A X : Type 0} → ClientStep A X → ClientStep A X → Type 0
 GrowsLog t u = GrewByPages t.client.log u.client.log
 
 grew_over : (old new : LogView) → Change old new → GrewByPages old new
@@ -89,11 +89,11 @@ first_of [] count after anew whole some = anew
 first_of (e ∷ es) count None anew whole some = absurd (both_above (length (e ∷ es)) count (omega arith) some whole)
 first_of (e ∷ es) count (Some id) anew whole some = absurd (cc anew)
 
-behind_last : (before : List LogEntry) (count : ℕ) (after : Option (List ℕ)) → IsBehind before after → (is_none after && (nat_lt 0 (length before) && nat_lt 0 count)) ≡ false → 0 < count → after ≡ last_id before
-behind_last before count after (inl anew) whole some = first_of before count after anew whole some
-behind_last before count after (inr last) whole some = last
+after_last : (before : List LogEntry) (count : ℕ) (after : Option (List ℕ)) → IsAfter before after → (is_none after && (nat_lt 0 (length before) && nat_lt 0 count)) ≡ false → 0 < count → after ≡ last_id before
+after_last before count after (inl anew) whole some = first_of before count after anew whole some
+after_last before count after (inr last) whole some = last
 
 pub follow_unbroken : (before : List LogEntry) (pages : List LogPage) → FollowsOn before pages → FollowUnbroken before pages
 follow_unbroken before [] h = tt
 follow_unbroken before (page ∷ pages) h =
-    (λ whole some. behind_last before (length page.entries) page.after h.0 whole some, follow_unbroken (before ++ page.entries) pages h.2)
+    (λ whole some. after_last before (length page.entries) page.after h.0 whole some, follow_unbroken (before ++ page.entries) pages h.2)

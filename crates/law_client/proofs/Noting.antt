@@ -5,7 +5,7 @@ use Rattle.std.specs.Option.{option_map}
 use Rattle.sm_acks.specs.Counters.{ahead}
 use Rattle.law_client.proofs.Parts.{IsLaw, Part, acks, bound, drops_binding, drops_left, enabled, goes_free, goes_with, goes_without, handled, logs, numbers, opens, outs, states, submits, waits}
 use Rattle.law_client.specs.Noted.{Ends, IsDue, IsNoted, Lead, after_note, ends_of}
-use Rattle.cl_handlers.specs.Clients.{Turn}
+use Rattle.cl_handlers.specs.Clients.{ClientStep}
 use Rattle.cl_handlers.specs.Speech as speech
 use Rattle.cl_handlers.specs.Speech.{Note, in_items}
 use Rattle.sm_outbox.specs.Sessions.{SessionView}
@@ -15,7 +15,7 @@ use Rattle.im_requests.specs.Sessions.{available_item, carbons_item}
 use Rattle.xml_writer.specs.Items.{ItemOut}
 
 abbrev T : Type 0
-T = Turn ItemOut ItemOut
+T = ClientStep ItemOut ItemOut
 
 abbrev shown : T → Option (Ends ItemOut)
 shown t = option_map ends_of t.client.session
@@ -70,8 +70,8 @@ noted_by t u (enabled previd at is) =
     })
 noted_by t u (drops_left is) = subst (IsNoted t) (sym is) (one_noted t _ speech.Ended t.client.session refl refl tt refl)
 noted_by t u (drops_binding is) = subst (IsNoted t) (sym is) (one_noted t _ speech.Ended t.client.session refl refl tt refl)
-noted_by t u (waits s stanza at place is) = subst (IsNoted t) (sym is) (one_noted t _ (speech.Put stanza) (Some s) at refl tt refl)
-noted_by t u (submits s said at place is) = subst (IsNoted t) (sym is) (one_noted t _ (speech.Put _) (Some s) at refl tt refl)
+noted_by t u (waits s stanza at position is) = subst (IsNoted t) (sym is) (one_noted t _ (speech.Put stanza) (Some s) at refl tt refl)
+noted_by t u (submits s said at position is) = subst (IsNoted t) (sym is) (one_noted t _ (speech.Put _) (Some s) at refl tt refl)
 noted_by t u (acks s h at low is) = subst (IsNoted t) (sym is) (one_noted t _ (speech.Acknowledged (ahead h s.waiting.acked)) (Some s) at refl (within s.waiting h low) refl)
 noted_by t u (handled s e at is) = subst (IsNoted t) (sym is) (one_noted t _ (speech.Handled e) (Some s) at refl tt refl)
 noted_by t u (logs log part is) = subst (IsNoted t) (sym is) (nothing_noted t _ refl refl)

@@ -4,10 +4,10 @@ use Rattle.cl_core.specs.Steps.{handles}
 use Rattle.law_client.specs.Standing.{is_binding, needs_session, stanza_of_said}
 use Rattle.law_client.proofs.LogParts.{LogPart}
 use Rattle.cl_handlers.specs.AckRows.{acknowledges}
-use Rattle.cl_handlers.specs.Clients.{Turn}
+use Rattle.cl_handlers.specs.Clients.{ClientStep}
 use Rattle.cl_handlers.specs.SessionRows.{begins, begins_epoch}
 use Rattle.cl_handlers.specs.Speech.{Speech, Stated}
-use Rattle.cl_handlers.specs.Turns.{drops, goes, left, notes, queues, with_log}
+use Rattle.cl_handlers.specs.ClientSteps.{drops, goes, left, notes, queues, with_log}
 use Rattle.cl_handlers.specs.declared.phase.Phase.{Phase}
 use Rattle.cl_handlers.specs.declared.phase.Phase.TheVariants as phase
 use Rattle.mam_log.specs.Views.{LogView, with_begun}
@@ -18,13 +18,13 @@ use Rattle.sm_outbox.specs.declared.said.Said.{Said}
 use Rattle.xml_trees.specs.Trees.{Elem}
 
 -- a submission is kept among those that wait
-abbrev pub keeps_said : {A X : Type 0} → Turn A X → Said → Turn A X
+abbrev pub keeps_said : {A X : Type 0} → ClientStep A X → Said → ClientStep A X
 keeps_said t said = record t { client = record t.client { n = said.n; said = with_said t.client.said said } }
 
-abbrev pub with_pages : {A X : Type 0} → Turn A X → ℕ → Turn A X
+abbrev pub with_pages : {A X : Type 0} → ClientStep A X → ℕ → ClientStep A X
 with_pages t number = record t { client = record t.client { pages = number } }
 
-pub data Part {A X : Type 0} (speech : Speech A X) (t u : Turn A X) : Type 0 where
+pub data Part {A X : Type 0} (speech : Speech A X) (t u : ClientStep A X) : Type 0 where
   outs : u.client ≡ t.client → u.out.notes ≡ t.out.notes → Part speech t u
   states : (s : SessionView A) → t.client.session ≡ Some s → u ≡ notes speech t (Stated s.waiting.handled) → Part speech t u
   goes_free : (p : Phase) → needs_session p ≡ false → is_binding p ≡ false → u ≡ goes t p → Part speech t u
@@ -45,7 +45,7 @@ pub data Part {A X : Type 0} (speech : Speech A X) (t u : Turn A X) : Type 0 whe
 
 -- ---- relations that hold of all that is made of such parts
 
-pub record IsLaw {A X : Type 0} (speech : Speech A X) (P : Turn A X → Turn A X → Type 0) : Type 0 where
-  pub stays : (t : Turn A X) → P t t
-  pub joins : (t u v : Turn A X) → P t u → P u v → P t v
-  pub parts : (t u : Turn A X) → Part speech t u → P t u
+pub record IsLaw {A X : Type 0} (speech : Speech A X) (P : ClientStep A X → ClientStep A X → Type 0) : Type 0 where
+  pub stays : (t : ClientStep A X) → P t t
+  pub joins : (t u v : ClientStep A X) → P t u → P u v → P t v
+  pub parts : (t u : ClientStep A X) → Part speech t u → P t u

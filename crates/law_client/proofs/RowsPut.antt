@@ -15,12 +15,12 @@ use Rattle.cl_login.specs.declared.answers.Next.TheVariants as next
 use Rattle.cl_login.specs.declared.login_state.LoginState.{LoginState}
 use Rattle.cl_login.specs.declared.login_state.LoginState.TheVariants as state
 use Rattle.cl_handlers.specs.AckRows.{ack_row, acknowledges, counts_too_high, request_row}
-use Rattle.cl_handlers.specs.Clients.{ClientView, Turn}
+use Rattle.cl_handlers.specs.Clients.{ClientStep, ClientView}
 use Rattle.cl_handlers.specs.LoginSteps.{follows, goes_on, header_row, login_row, other_element}
 use Rattle.cl_handlers.specs.MessageRows.{bounce_of, error_within, held_by, held_row, is_own_or_absent, live_in, logged, message_row, message_with, other_message, own_id, refuses, result_row, result_to, tells_where}
 use Rattle.cl_handlers.specs.SessionRows.{attaches, begins, binding_row, binds, can_resume, enabling_row, enabling_with, failed_row, features2_row, features2_with, is_stanza, queue_in, resent, resumed_in, resumed_row, resumes_or_binds, resuming_row, resuming_with, tells_bound}
 use Rattle.cl_handlers.specs.Speech.{in_items, spread_all, uttered_where}
-use Rattle.cl_handlers.specs.Turns.{ends, has_to_put, is_apart, is_online, put_in, puts, tells, with_log}
+use Rattle.cl_handlers.specs.ClientSteps.{ends, has_to_put, is_apart, is_online, put_in, puts, tells, with_log}
 use Rattle.cl_handlers.specs.declared.events.CatchUpFault.{CatchUpFault}
 use Rattle.cl_handlers.specs.declared.events.Event.{Event}
 use Rattle.cl_handlers.specs.declared.events.Event.TheVariants.{PageDone}
@@ -76,7 +76,7 @@ use Rattle.xml_trees.specs.Trees.{Elem, name_of}
 use Rattle.xml_writer.specs.Items.{Closing, ItemOut, Opening, Whole}
 
 abbrev pub Items : Type 0
-Items = Turn ItemOut ItemOut
+Items = ClientStep ItemOut ItemOut
 
 -- What is said of the items that the rows put of their own: elements that are neither a message nor an `auth`, and headers.
 pub record IsOfOwn (P : ItemOut → Type 0) : Type 0 where

@@ -8,7 +8,7 @@ use Rattle.cl_login.specs.LoginRows as rows
 use Rattle.law_client.proofs.RowsPut.{ArePut, Asked, IsOfOwn, Items, Step, catches_up_puts, connected_puts, says_puts}
 use Rattle.law_client.specs.Order.{HasNoEnd, IsNoEnd, PutsHeader, PutsInOrder}
 use Rattle.cl_handlers.specs.Speech.{in_items}
-use Rattle.cl_handlers.specs.Turns.{ends, is_apart, is_online}
+use Rattle.cl_handlers.specs.ClientSteps.{ends, is_apart, is_online}
 use Rattle.cl_handlers.specs.declared.events.PeerFault.TheVariants.{Framing}
 use Rattle.cl_handlers.specs.declared.phase.Phase as client
 use Rattle.cl_handlers.specs.declared.phase.Phase.TheVariants as phase
@@ -76,13 +76,13 @@ after_join p [] ys = refl
 after_join p (x ∷ xs) ys = after_join (phase_behind x) xs ys
 
 -- what comes behind may be put: where the connection stands still, and where nothing comes
-may_behind : (xs ys : List ItemOut) (apart : Bool) → (apart ≡ false → phase_after stream.Between xs ≡ stream.Between) → (apart ≡ true → ys ≡ []) → MayAll stream.Between ys → MayAll (phase_after stream.Between xs) ys
-may_behind xs ys true stands silent may = subst (MayAll (phase_after stream.Between xs)) (sym (silent refl)) tt
-may_behind xs ys false stands silent may = subst (λ (p : Phase). MayAll p ys) (sym (stands refl)) may
+may_after : (xs ys : List ItemOut) (apart : Bool) → (apart ≡ false → phase_after stream.Between xs ≡ stream.Between) → (apart ≡ true → ys ≡ []) → MayAll stream.Between ys → MayAll (phase_after stream.Between xs) ys
+may_after xs ys true stands silent may = subst (MayAll (phase_after stream.Between xs)) (sym (silent refl)) tt
+may_after xs ys false stands silent may = subst (λ (p : Phase). MayAll p ys) (sym (stands refl)) may
 
-after_behind : (xs ys : List ItemOut) (apart : Bool) → (apart ≡ false → phase_after stream.Between xs ≡ stream.Between) → (apart ≡ true → ys ≡ []) → phase_after stream.Between ys ≡ stream.Between → (apart ≡ true → ⊥) → phase_after (phase_after stream.Between xs) ys ≡ stream.Between
-after_behind xs ys true stands silent after connected = absurd (connected refl)
-after_behind xs ys false stands silent after connected = ap (λ (p : Phase). phase_after p ys) (stands refl) ∙ after
+after_after : (xs ys : List ItemOut) (apart : Bool) → (apart ≡ false → phase_after stream.Between xs ≡ stream.Between) → (apart ≡ true → ys ≡ []) → phase_after stream.Between ys ≡ stream.Between → (apart ≡ true → ⊥) → phase_after (phase_after stream.Between xs) ys ≡ stream.Between
+after_after xs ys true stands silent after connected = absurd (connected refl)
+after_after xs ys false stands silent after connected = ap (λ (p : Phase). phase_after p ys) (stands refl) ∙ after
 
 -- once apart, items leave it so
 record Follows (t u : Items) : Type 0 where
@@ -97,8 +97,8 @@ joins t u v a b =
       puts = record {
         more = x.more ++ y.more;
         put = y.put ∙ ap (λ put. put ++ y.more) x.put ∙ append_assoc t.out.put x.more y.more;
-        may = may_join stream.Between x.more y.more x.may (may_behind x.more y.more (is_apart u.client.phase) x.stands y.silent y.may);
-        stands = λ e. after_join stream.Between x.more y.more ∙ after_behind x.more y.more (is_apart u.client.phase) x.stands y.silent (y.stands e) (λ is. unlike (is_apart v.client.phase) (b.apart is) e);
+        may = may_join stream.Between x.more y.more x.may (may_after x.more y.more (is_apart u.client.phase) x.stands y.silent y.may);
+        stands = λ e. after_join stream.Between x.more y.more ∙ after_after x.more y.more (is_apart u.client.phase) x.stands y.silent (y.stands e) (λ is. unlike (is_apart v.client.phase) (b.apart is) e);
         silent = λ e. ap (λ put. put ++ y.more) (x.silent e) ∙ y.silent (a.apart e);
         queue = y.queue;
       };

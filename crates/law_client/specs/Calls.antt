@@ -5,7 +5,7 @@ use Rattle.cl_core.specs.Steps.{items_run}
 use Rattle.cl_core.specs.UserCalls.{catch_up_answer, catches_up, closes, dials, forgets, leaves, say_answer, says}
 use Rattle.cl_handlers.specs.Clients.{ClientView}
 use Rattle.cl_handlers.specs.Speech.{Speech}
-use Rattle.cl_handlers.specs.Turns.{left}
+use Rattle.cl_handlers.specs.ClientSteps.{left}
 use Rattle.cl_handlers.specs.declared.account.Account.{Account}
 use Rattle.cl_handlers.specs.declared.phase.Phase.TheVariants.{Apart}
 use Rattle.xml_framer.specs.States.{State}

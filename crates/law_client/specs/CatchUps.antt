@@ -6,16 +6,16 @@ use Rattle.mam_pages.specs.Cuts.{CutView, fin_of}
 use Rattle.mam_pages.specs.Kept.{Kept}
 use Rattle.mam_pages.specs.PageOf.{page_of}
 use Rattle.mam_pages.specs.declared.query.PageQuery.{PageQuery}
-use Rattle.mam_pages.specs.declared.query.Place.{Place}
-use Rattle.mam_pages.specs.declared.query.Place.TheVariants.{First, After}
+use Rattle.mam_pages.specs.declared.query.PagePosition.{PagePosition}
+use Rattle.mam_pages.specs.declared.query.PagePosition.TheVariants.{First, After}
 
 -- what a page request asks for: at most so many entries behind the one with this id, or from the first one on
-abbrev pub place_behind : Option (List ℕ) → Place
-place_behind None = First
-place_behind (Some id) = After id
+abbrev pub position_after : Option (List ℕ) → PagePosition
+position_after None = First
+position_after (Some id) = After id
 
-abbrev pub query_behind : Option (List ℕ) → ℕ → PageQuery
-query_behind after most = record { peer = None; start = None; end = None; place = place_behind after; max = Some most }
+abbrev pub query_after : Option (List ℕ) → ℕ → PageQuery
+query_after after most = record { peer = None; start = None; end = None; position = position_after after; max = Some most }
 
 -- of entries that are numbered from `first` to `last`, the ones that follow are those behind the number `base`
 pub data FollowFrom (first last : ℕ) (after : Option (List ℕ)) (base : ℕ) : Type 0 where
@@ -27,7 +27,7 @@ pub data FollowFrom (first last : ℕ) (after : Option (List ℕ)) (base : ℕ) 
 abbrev pub TakesPages : Kept → ℕ → Option (List ℕ) → ℕ → Type 0
 TakesPages kept most after zero = ⊥
 TakesPages kept most after (suc n) =
-    (cut : CutView) × (page_of kept (query_behind after most) ≡ Some cut)
+    (cut : CutView) × (page_of kept (query_after after most) ≡ Some cut)
     × (((cut.complete ≡ true) × (n ≡ 0)) ⊎ ((cut.complete ≡ false) × TakesPages kept most (fin_of cut).last n))
 
 -- how many pages so many entries make, and one where there is none

@@ -8,6 +8,6 @@ pub mod Directed
 pub mod Noted
 pub mod CatchUps
 -- Each thing that is put turned into another.
-pub mod Turned
+pub mod Rendered
 -- law
 pub mod Order

@@ -2,7 +2,7 @@
 use Rattle.std.specs.Prelude.{◌≡◌, ◌≤◌, ◌<◌, false, List, [], ◌∷◌, ◌++◌, length, map, IfSome, None, Ok}
 use Rattle.mam_log.specs.Breaks.{is_break}
 use Rattle.mam_log.specs.HeldIds.{AreApart}
-use Rattle.mam_log.specs.LogPages.{IsBehind, LogPage, last_id, log_of, tile_of}
+use Rattle.mam_log.specs.LogPages.{IsAfter, LogPage, last_id, log_of, tile_of}
 use Rattle.mam_log.specs.Tilings.{AreUnlogged, IsTiling}
 use Rattle.mam_log.specs.Views.{LogView, OpenPage, end_of}
 use Rattle.mam_log.specs.declared.fin.PageOutcome.{PageOutcome}
@@ -12,9 +12,9 @@ use Rattle.mam_pages.specs.declared.fin.Fin.{Fin}
 -- The entries are those of pages, one behind the other, in which no id stands twice, and the tiles are what is kept of
 -- these pages. The open page was asked for behind the last entry, or anew, and has at most as many results as were asked
 -- for. The ids of the messages that are held differ, and none is in the log.
-pub record IsKept (log : LogView) : Type 0 where
+pub record IsLogKept (log : LogView) : Type 0 where
   pub tiling : IsTiling log.entries log.tiles
-  pub behind : IfSome log.page (λ p. IsBehind log.entries p.after)
+  pub following : IfSome log.page (λ p. IsAfter log.entries p.after)
   pub bound : IfSome log.page (λ p. length p.results ≤ p.max)
   pub apart : AreApart log.held
   pub unlogged : AreUnlogged log.entries log.held

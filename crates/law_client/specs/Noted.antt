@@ -1,7 +1,7 @@
 -- What is noted down of a session (XEP-0198, sections 3 to 5), and what a session has then.
 use Rattle.std.specs.Prelude.{◌≡◌, ℕ, ◌+◌, ◌%◌, ◌^◌, ◌≤◌, List, [], ◌∷◌, ◌++◌, Option, Some, None, IsSomeAnd, length, drop}
 use Rattle.std.specs.Option.{option_map}
-use Rattle.cl_handlers.specs.Clients.{Turn}
+use Rattle.cl_handlers.specs.Clients.{ClientStep}
 use Rattle.cl_handlers.specs.Speech as speech
 use Rattle.cl_handlers.specs.Speech.{Note}
 use Rattle.sm_outbox.specs.Sessions.{SessionView}
@@ -46,7 +46,7 @@ Lead [] first last = last ≡ first
 Lead (note ∷ notes) first last = IsDue note first × Lead notes (after_note note first) last
 
 -- behind the notes stand others, which lead from the session that stood to the one that stands
-pub record IsNoted {A X : Type 0} (old new : Turn A X) : Type 0 where
+pub record IsNoted {A X : Type 0} (old new : ClientStep A X) : Type 0 where
   pub more : List (Note A)
   pub notes : new.out.notes ≡ old.out.notes ++ more
   pub lead : Lead more (option_map ends_of old.client.session) (option_map ends_of new.client.session)

@@ -8,17 +8,17 @@ ghost use Rattle.cl_core.specs.PageRows.{next_queryid, page_done, requests};
 ghost use Rattle.cl_core.specs.Steps.{handles, items_run};
 ghost use Rattle.cl_core.specs.UserCalls.{catch_up_answer, catches_up, say_answer, says};
 ghost use Rattle.law_client.specs.Calls.{Call, CatchUp, Cut, Say, called, calls_run, first_client};
-ghost use Rattle.law_client.specs.CatchUps.{FollowFrom, TakesPages, pages_for, query_behind};
+ghost use Rattle.law_client.specs.CatchUps.{FollowFrom, TakesPages, pages_for, query_after};
 ghost use Rattle.law_client.specs.Directed.{IsDirected, IsResumed};
-ghost use Rattle.law_client.specs.Logs.{FollowUnbroken, GrewByPages, IsKept};
+ghost use Rattle.law_client.specs.Logs.{FollowUnbroken, GrewByPages, IsLogKept};
 ghost use Rattle.law_client.specs.Noted.{IsNoted};
 ghost use Rattle.law_client.specs.Standing.{Stands, SubmissionsWait};
-ghost use Rattle.law_client.specs.Turned.{IsTurned, fed_turned, turn_turned, written, written_fed};
+ghost use Rattle.law_client.specs.Rendered.{IsRendered, fed_rendered, turn_rendered, written, written_fed};
 ghost use Rattle.cl_handlers.specs.AckRows.{ack_row};
-ghost use Rattle.cl_handlers.specs.Clients.{ClientView, Turn};
+ghost use Rattle.cl_handlers.specs.Clients.{ClientStep, ClientView};
 ghost use Rattle.cl_handlers.specs.SessionRows.{begins, resumed_row};
 ghost use Rattle.cl_handlers.specs.Speech.{Note, Speech, in_bytes, in_items};
-ghost use Rattle.cl_handlers.specs.Turns.{put_in};
+ghost use Rattle.cl_handlers.specs.ClientSteps.{put_in};
 ghost use Rattle.cl_handlers.specs.declared.account.Account.{Account};
 ghost use Rattle.xml_framer.specs.declared.items.Item.{Item};
 ghost use Rattle.mam_log.specs.LogPages.{FollowsOn, LogPage};
@@ -46,7 +46,7 @@ use sm_acks::MOST_UNACKNOWLEDGED;
 pub fn a_session_stands_online<A, X>()
     ensures new { (account : Account) → (fresh account).client ≡ first_client account }
     ensures begins { (account : Account) → Stands (first_client {A = A} account) }
-    ensures items { (speech : Speech A X) (items : List Item) (t : Turn A X) → Stands t.client → Stands (items_run speech t items).client }
+    ensures items { (speech : Speech A X) (items : List Item) (t : ClientStep A X) → Stands t.client → Stands (items_run speech t items).client }
     ensures calls { (speech : Speech A X) (calls : List Call) (f : Fed A X) → Stands f.turn.client → Stands (calls_run speech calls f).turn.client }
 {}
 
@@ -54,17 +54,17 @@ pub fn a_session_stands_online<A, X>()
 /// two stanzas that are put; a stanza more that is put, or handled, is that move of its direction, and leaves the other as
 /// it was; so is a count that was stated and that is taken, and a resumption, which puts again all that is under way then.
 pub fn queues_are_directions<A, X>()
-    ensures begins { (speech : Speech A X) (t : Turn A X) (previd : List ℕ) (first second : Direction A) → Moves (Put (speech.say carbons_item)) beginning first → Moves (Put (speech.say available_item)) first second
+    ensures begins { (speech : Speech A X) (t : ClientStep A X) (previd : List ℕ) (first second : Direction A) → Moves (Put (speech.say carbons_item)) beginning first → Moves (Put (speech.say available_item)) first second
         → IsDirected (begins speech t previd).client second beginning }
-    ensures puts { (speech : Speech A X) (t : Turn A X) (s : SessionView A) (stanza : A) (kind : Bool) (sent got next : Direction A) → Sends s.waiting sent → Receives s.waiting got → Moves (Put stanza) sent next
+    ensures puts { (speech : Speech A X) (t : ClientStep A X) (s : SessionView A) (stanza : A) (kind : Bool) (sent got next : Direction A) → Sends s.waiting sent → Receives s.waiting got → Moves (Put stanza) sent next
         → IsDirected (put_in speech t s stanza kind).client next got }
-    ensures requests { (speech : Speech A X) (t : Turn A X) (s : SessionView A) (stanza : A) (kind : Bool) (sent got next : Direction A) → Sends s.waiting sent → Receives s.waiting got → Moves (Put stanza) sent next
+    ensures requests { (speech : Speech A X) (t : ClientStep A X) (s : SessionView A) (stanza : A) (kind : Bool) (sent got next : Direction A) → Sends s.waiting sent → Receives s.waiting got → Moves (Put stanza) sent next
         → IsDirected (requests speech t s stanza kind).client next got }
-    ensures handles { (speech : Speech A X) (t : Turn A X) (s : SessionView A) (e : Elem) (sent got next : Direction A) → Sends s.waiting sent → Receives s.waiting got → Moves Handle got next
+    ensures handles { (speech : Speech A X) (t : ClientStep A X) (s : SessionView A) (e : Elem) (sent got next : Direction A) → Sends s.waiting sent → Receives s.waiting got → Moves Handle got next
         → IsDirected (handles speech t s e).client sent next }
-    ensures acknowledges { (speech : Speech A X) (t : Turn A X) (s : SessionView A) (h n : ℕ) (sent got next : Direction A) → length s.waiting.queue ≤ MOST_UNACKNOWLEDGED → Reached sent → Sends s.waiting sent → Receives s.waiting got
+    ensures acknowledges { (speech : Speech A X) (t : ClientStep A X) (s : SessionView A) (h n : ℕ) (sent got next : Direction A) → length s.waiting.queue ≤ MOST_UNACKNOWLEDGED → Reached sent → Sends s.waiting sent → Receives s.waiting got
         → Moves (Acknowledge n) sent next → h ≡ n % 2 ^ 32 → IsDirected (ack_row speech t s h).client next got }
-    ensures resumes { (speech : Speech A X) (t : Turn A X) (s : SessionView A) (h : ℕ) (sent got next : Direction A) → length s.waiting.queue ≤ MOST_UNACKNOWLEDGED → Reached sent → Sends s.waiting sent → Receives s.waiting got
+    ensures resumes { (speech : Speech A X) (t : ClientStep A X) (s : SessionView A) (h : ℕ) (sent got next : Direction A) → length s.waiting.queue ≤ MOST_UNACKNOWLEDGED → Reached sent → Sends s.waiting sent → Receives s.waiting got
         → Moves Resume sent next → h ≡ length sent.got % 2 ^ 32 → IsResumed speech t (resumed_row speech t s h) next got }
 {}
 
@@ -74,10 +74,10 @@ pub fn queues_are_directions<A, X>()
 /// it, that is a later entry than the one before (`later`), and where it doesn't grow meanwhile the pages are exactly as many
 /// as the missing entries make, and one where none is missing (`takes`, `exactly`).
 pub fn pages_advance<A, X>()
-    ensures next { (speech : Speech A X) (t : Turn A X) (s : SessionView A) (page : OpenPage) (fin : Fin) → t.client.session ≡ Some s → is_full s.waiting ≡ false → fin_answer t.client.log page.queryid fin ≡ Ok More
+    ensures next { (speech : Speech A X) (t : ClientStep A X) (s : SessionView A) (page : OpenPage) (fin : Fin) → t.client.session ≡ Some s → is_full s.waiting ≡ false → fin_answer t.client.log page.queryid fin ≡ Ok More
         → (page_done speech t page fin More).client.log.page ≡ Some (record { queryid = next_queryid t; max = page.max; after = fin.last; results = [] }) }
     ensures later { (kept : Kept) (after : Option (List ℕ)) (most first last base : ℕ) (cut : CutView) → IsNumbered first last kept.entries → last < 2 ^ 64 → 1 ≤ most → most ≤ MOST_RESULTS → FollowFrom first last after base
-        → page_of kept (query_behind after most) ≡ Some cut → cut.complete ≡ false → (base + most < last) × ((fin_of cut).last ≡ Some (id_of (base + most))) }
+        → page_of kept (query_after after most) ≡ Some cut → cut.complete ≡ false → (base + most < last) × ((fin_of cut).last ≡ Some (id_of (base + most))) }
     ensures takes { (kept : Kept) (after : Option (List ℕ)) (most first last base : ℕ) → IsNumbered first last kept.entries → last < 2 ^ 64 → 1 ≤ most → most ≤ MOST_RESULTS → FollowFrom first last after base
         → TakesPages kept most after (pages_for (last - base) most) }
     ensures exactly { (kept : Kept) (after : Option (List ℕ)) (most first last base n : ℕ) → IsNumbered first last kept.entries → last < 2 ^ 64 → 1 ≤ most → most ≤ MOST_RESULTS → FollowFrom first last after base
@@ -88,31 +88,31 @@ pub fn pages_advance<A, X>()
 /// id stands twice; each was asked for behind the last entry before it, but for those at which the log breaks. The ids of
 /// the messages that are held differ, and none of these is in the log.
 pub fn logs_are_tiled<A, X>()
-    ensures begins { (account : Account) → IsKept (first_client {A = A} account).log }
-    ensures items { (speech : Speech A X) (items : List Item) (t : Turn A X) → IsKept t.client.log → IsKept (items_run speech t items).client.log }
-    ensures calls { (speech : Speech A X) (calls : List Call) (f : Fed A X) → IsKept f.turn.client.log → IsKept (calls_run speech calls f).turn.client.log }
+    ensures begins { (account : Account) → IsLogKept (first_client {A = A} account).log }
+    ensures items { (speech : Speech A X) (items : List Item) (t : ClientStep A X) → IsLogKept t.client.log → IsLogKept (items_run speech t items).client.log }
+    ensures calls { (speech : Speech A X) (calls : List Call) (f : Fed A X) → IsLogKept f.turn.client.log → IsLogKept (calls_run speech calls f).turn.client.log }
     ensures breaks { (before : List LogEntry) (pages : List LogPage) → FollowsOn before pages → FollowUnbroken before pages }
 {}
 
 /// A law: a page is taken over whole, or not at all (XEP-0313, section 4.3). What items and calls add to a log are the
 /// results of pages whose ends were judged well, and the entries before them stay as they were.
 pub fn logs_grow_by_pages<A, X>()
-    ensures items { (speech : Speech A X) (items : List Item) (t : Turn A X) → GrewByPages t.client.log (items_run speech t items).client.log }
+    ensures items { (speech : Speech A X) (items : List Item) (t : ClientStep A X) → GrewByPages t.client.log (items_run speech t items).client.log }
     ensures calls { (speech : Speech A X) (calls : List Call) (f : Fed A X) → GrewByPages f.turn.client.log (calls_run speech calls f).turn.client.log }
 {}
 
 /// A law: the table is the same however what is put is written. Where each thing that is queued is turned into another, and
 /// each thing in the stream into some others, what comes of items and of calls is what came of them before, turned so.
 pub fn table_is_the_same_however_written<A, B, X, Y>()
-    ensures items { (p : Speech A X) (q : Speech B Y) (f : A → B) (g : X → List Y) (k : List (Note A) → List (Note B)) → IsTurned p q f g k
-        → (items : List Item) (t : Turn A X) → items_run q (turn_turned f g k t) items ≡ turn_turned f g k (items_run p t items) }
-    ensures calls { (p : Speech A X) (q : Speech B Y) (f : A → B) (g : X → List Y) (k : List (Note A) → List (Note B)) → IsTurned p q f g k
-        → (calls : List Call) (fed : Fed A X) → calls_run q calls (fed_turned f g k fed) ≡ fed_turned f g k (calls_run p calls fed) }
+    ensures items { (p : Speech A X) (q : Speech B Y) (f : A → B) (g : X → List Y) (k : List (Note A) → List (Note B)) → IsRendered p q f g k
+        → (items : List Item) (t : ClientStep A X) → items_run q (turn_rendered f g k t) items ≡ turn_rendered f g k (items_run p t items) }
+    ensures calls { (p : Speech A X) (q : Speech B Y) (f : A → B) (g : X → List Y) (k : List (Note A) → List (Note B)) → IsRendered p q f g k
+        → (calls : List Call) (fed : Fed A X) → calls_run q calls (fed_rendered f g k fed) ≡ fed_rendered f g k (calls_run p calls fed) }
 {}
 
 /// A law: what a client puts, as bytes, is the writing of what it would put as items, and nothing else differs.
 pub fn bytes_are_those_of_items()
-    ensures turned { (items : List Item) (t : Turn ItemOut ItemOut) → items_run in_bytes (written t) items ≡ written (items_run in_items t items) }
+    ensures rendered { (items : List Item) (t : ClientStep ItemOut ItemOut) → items_run in_bytes (written t) items ≡ written (items_run in_items t items) }
     ensures calls { (calls : List Call) (fed : Fed ItemOut ItemOut) → calls_run in_bytes calls (written_fed fed) ≡ written_fed (calls_run in_items calls fed) }
 {}
 
@@ -129,7 +129,7 @@ pub fn calls_are_those_of_the_client<A, X>()
 /// put as; so they are as many. Without a session none waits. (XEP-0198, section 4; XEP-0359.)
 pub fn submissions_wait_in_the_session<A, X>()
     ensures begins { (speech : Speech A X) (account : Account) → SubmissionsWait speech (first_client account) }
-    ensures items { (speech : Speech A X) (items : List Item) (t : Turn A X) → Stands t.client → SubmissionsWait speech t.client → SubmissionsWait speech (items_run speech t items).client }
+    ensures items { (speech : Speech A X) (items : List Item) (t : ClientStep A X) → Stands t.client → SubmissionsWait speech t.client → SubmissionsWait speech (items_run speech t items).client }
     ensures calls { (speech : Speech A X) (calls : List Call) (f : Fed A X) → Stands f.turn.client → SubmissionsWait speech f.turn.client → SubmissionsWait speech (calls_run speech calls f).turn.client }
     ensures number { (speech : Speech A X) (c : ClientView A) (s : SessionView A) → c.session ≡ Some s → SubmissionsWait speech c → count_true s.waiting.submissions ≡ length c.said.waiting }
 {}
@@ -138,6 +138,6 @@ pub fn submissions_wait_in_the_session<A, X>()
 /// that waited and the count of those that were handled to what they are then. Each count that the server was told is that
 /// of the stanzas that were handled, and no more are acknowledged than wait. (XEP-0198, sections 3 to 5.)
 pub fn session_rows_are_moves()
-    ensures items { (items : List Item) (t : Turn ItemOut ItemOut) → IsNoted t (items_run in_items t items) }
+    ensures items { (items : List Item) (t : ClientStep ItemOut ItemOut) → IsNoted t (items_run in_items t items) }
     ensures calls { (calls : List Call) (f : Fed ItemOut ItemOut) → IsNoted f.turn (calls_run in_items calls f).turn }
 {}

@@ -12,7 +12,7 @@ use Rattle.cmd_report.specs.LawfulRuns.{KeepsLaws}
 use Rattle.cmd_report.specs.Lines.{page_line}
 use Rattle.cmd_report.specs.Reports.{AccountView}
 use Rattle.cmd_report.specs.Takes.{archive_of}
-use Rattle.cmd_report.specs.Worlds.{World}
+use Rattle.cmd_report.specs.Worlds.{ReportWorld}
 use Rattle.cmd_report.specs.declared.report.SaidMark.{SaidMark}
 use Rattle.cmd_report.specs.declared.report.SaidMark.TheVariants.{Acknowledged, Undecided, Waiting}
 use Rattle.cmd_schedule.proofs.Lists.{all_map, all_of}
@@ -44,15 +44,15 @@ all_kept keep history same =
     ]
 
 module _ (keep : ℕ) (all : List Step) where
-  all_from : (P : World → Type 0) → ((before : List Step) → P (world_after keep all before)) → (before steps : List Step) → AllByRecursion P (worlds_from keep all before steps)
+  all_from : (P : ReportWorld → Type 0) → ((before : List Step) → P (world_after keep all before)) → (before steps : List Step) → AllByRecursion P (worlds_from keep all before steps)
   all_from P each before [] = (each before, tt)
   all_from P each before (step ∷ steps) = (each before, all_from P each (before ++ step ∷ []) steps)
 
-  first_from : (P : World → Type 0) (before steps : List Step) → P (world_after keep all before) → IsFirst P (worlds_from keep all before steps)
+  first_from : (P : ReportWorld → Type 0) (before steps : List Step) → P (world_after keep all before) → IsFirst P (worlds_from keep all before steps)
   first_from P before [] is = is
   first_from P before (step ∷ steps) is = is
 
-  last_from : (P : World → Type 0) (before steps : List Step) → P (world_after keep all (before ++ steps)) → IsLast P (worlds_from keep all before steps)
+  last_from : (P : ReportWorld → Type 0) (before steps : List Step) → P (world_after keep all (before ++ steps)) → IsLast P (worlds_from keep all before steps)
   last_from P before [] is = subst (λ b. P (world_after keep all b)) (append-nil before) is
   last_from P before (step ∷ []) is = is
   last_from P before (step ∷ next ∷ steps) is =

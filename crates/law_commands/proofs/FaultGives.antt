@@ -8,7 +8,7 @@ use Rattle.xml_tokens.specs.Tags.{is_end}
 use Rattle.xml_tokens.specs.Utf8.{continues}
 use Rattle.xml_framer.specs.Machine.{behind_byte, goes_on, is_too_long, step, taken, taken_in}
 use Rattle.xml_framer.specs.MarkupSteps.{in_phase}
-use Rattle.xml_framer.specs.States.{OpenElement, Turn, counted, fails, gathered, gathered_in, gives, item_ended, may_declare, moved, token_fails, token_place}
+use Rattle.xml_framer.specs.States.{OpenElement, Turn, counted, fails, gathered, gathered_in, gives, item_ended, may_declare, moved, token_fails, token_position}
 use Rattle.xml_framer.specs.TagSteps.{added_to, begun, closed, closed_open, element_from, ends, ends_stream, footer_closes, footer_gathered, header_tag, heads, in_footer, in_opening, in_tag, is_header, is_spelled, is_too_deep, joined_text, leaf, level, misplaced, shallower, starts, tag_anew, tag_closes, tag_gathered, tag_here, tag_in, tag_inside, tag_outside, unlimited}
 use Rattle.xml_trees.specs.Trees.{Elem}
 use Rattle.xml_framer.specs.declared.fault.Why.TheVariants as why
@@ -126,14 +126,14 @@ goes_on_apart : (t : Turn) (b : ℕ) → t.state.fault ≡ None → IsApart t.it
 unfolding goes_on taken
 goes_on_apart t b none =
     let u = moved t (counted t.state) in
-    let long = moved t (fails t.state t.state.places.item_at why.TooLong) in
-    let broken = moved t (fails t.state (token_place t.state) why.Encoding) in
+    let long = moved t (fails t.state t.state.positions.item_at why.TooLong) in
+    let broken = moved t (fails t.state (token_position t.state) why.Encoding) in
     let other = behind_byte (taken u b) b in
     either t.items long (if not (continues t.state.pending b) then broken else other) (is_too_long t.state b) (inl refl)
-    (either t.items broken other (not (continues t.state.pending b)) (inl refl) (behind (taken u b) (taken_apart u.state.lexical.mode u b none)))
+    (either t.items broken other (not (continues t.state.pending b)) (inl refl) (following (taken u b) (taken_apart u.state.lexical.mode u b none)))
   where
-    behind : (v : Turn) → IsApart t.items v → IsApart t.items (behind_byte v b)
-    behind v apart = apart
+    following : (v : Turn) → IsApart t.items v → IsApart t.items (behind_byte v b)
+    following v apart = apart
 
 pub step_apart : (t : Turn) (b : ℕ) → t.state.fault ≡ None → IsApart t.items (step t b)
 step_apart t b none = either t.items t (goes_on t b) (is_some t.state.fault) (inl refl) (goes_on_apart t b none)

@@ -5,7 +5,7 @@ use Rattle.std.proofs.lemmas.List.Elements.{filter-append}
 use Rattle.mam_archive.proofs.Newest.{newest_few}
 use Rattle.mam_archive.specs.Entries.{EntryView, newest, numbered}
 use Rattle.cmd_report.specs.Takes.{Take, archive_of, concerns, entry_of, numbered_from}
-use Rattle.cmd_report.specs.Worlds.{World}
+use Rattle.cmd_report.specs.Worlds.{ReportWorld}
 use Rattle.law_commands.specs.OfWorlds.{AreFronts, AreKeptOf}
 
 mapped : {A B : Type 0} (f : A → B) (xs ys : List A) → map f (xs ++ ys) ≡ map f xs ++ map f ys
@@ -53,7 +53,7 @@ longer_front n m history low =
     let sum : m ≡ n + (m - n) = omega arith in
     (take (m - n) (drop n history), ap (λ k. take k history) sum ∙ take-add n (m - n) history)
 
-pub fronts_of : (keep : ℕ) (account : List ℕ) (history : List EntryView) (least : ℕ) (worlds : List World) → length history ≤ keep → AreKeptOf keep account history least worlds → AreFronts account worlds
+pub fronts_of : (keep : ℕ) (account : List ℕ) (history : List EntryView) (least : ℕ) (worlds : List ReportWorld) → length history ≤ keep → AreKeptOf keep account history least worlds → AreFronts account worlds
 fronts_of keep account history least [] wide kept = tt
 fronts_of keep account history least (w ∷ []) wide kept = tt
 fronts_of keep account history least (w ∷ next ∷ ws) wide (n, low, is, (m, high, next_is, rest)) =

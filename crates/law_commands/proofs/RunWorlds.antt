@@ -6,12 +6,12 @@ use Rattle.std.specs.List.{AllByRecursion, flat_map, slice_get}
 use Rattle.base_io.specs.Names.{is_among}
 use Rattle.base_lemmas.proofs.Lists.{AllByRecursion-weaker}
 use Rattle.mam_archive.specs.Entries.{EntryView, newest}
-use Rattle.cmd_direct.proofs.TurnRuns.{all_places}
+use Rattle.cmd_direct.proofs.TurnRuns.{all_positions}
 use Rattle.cmd_report.specs.LawfulRuns.{tells_moments}
 use Rattle.cmd_report.specs.Lines.{page_line}
 use Rattle.cmd_report.specs.Reports.{AccountView, DeviceView, ReportView}
 use Rattle.cmd_report.specs.Takes.{archive_of}
-use Rattle.cmd_report.specs.Worlds.{World}
+use Rattle.cmd_report.specs.Worlds.{ReportWorld}
 use Rattle.cmd_report.specs.declared.report.SaidLine.{SaidLine}
 use Rattle.cmd_report.specs.declared.report.SaidMark.TheVariants.{Undecided, Waiting}
 use Rattle.cmd_schedule.proofs.Lists.{all_map, each_among}
@@ -27,12 +27,12 @@ use Rattle.sim_1_applications.proofs.Runs.{taken_beginning}
 use Rattle.sim_1_applications.proofs.Shown.{shown_at}
 use Rattle.sim_1_applications.proofs.TakenLaws.{each_device}
 use Rattle.sim_1_applications.proofs.TileRuns.{read_beginning}
-use Rattle.sim_1_applications.proofs.Turned.{history_few}
+use Rattle.sim_1_applications.proofs.Rendered.{history_few}
 use Rattle.sim_1_applications.specs.Devices as sessions
 use Rattle.sim_1_applications.specs.Devices.{OpenPage, Reading, Tile, new_device}
-use Rattle.sim_1_applications.specs.Events.{Event, Reaches, devices_of as new_devices}
+use Rattle.sim_1_applications.specs.Events.{AppEvent, Reaches, devices_of as new_devices}
 use Rattle.sim_1_applications.specs.Histories.{asked_of, asked_with, state_after, states_of}
-use Rattle.sim_1_applications.specs.Reported.{AreShown, IsShown, account_line, history_at, pages_with, take_of, underway_of}
+use Rattle.sim_1_applications.specs.Reported.{AreRepresented, IsShown, account_line, history_at, pages_with, take_of, underway_of}
 use Rattle.sim_1_applications.specs.Runs.{IsRunOf, begins, moves_of, owned_of, steps_in}
 use Rattle.law_commands.proofs.HistoriesGrow.{Extends, archive_grows, front_few, front_is, fronts_of, newest_none}
 use Rattle.law_commands.proofs.Marks.{one_kind, waits_now}
@@ -79,22 +79,22 @@ unpurged (Two keep) n none few = absurd (true≢false none)
 -- ---- states and what the worlds show of them
 
 module _ (owned : List Owned) where
-  first_shown : (P : World → Type 0) (moves : List (List Event)) (w : sessions.World) (worlds : List World) → AreShown owned (states_of w moves) worlds → ((shown : World) → IsShown owned w shown → P shown) → IsFirst P worlds
+  first_shown : (P : ReportWorld → Type 0) (moves : List (List AppEvent)) (w : sessions.AppWorld) (worlds : List ReportWorld) → AreRepresented owned (states_of w moves) worlds → ((shown : ReportWorld) → IsShown owned w shown → P shown) → IsFirst P worlds
   first_shown P [] w [] are each = absurd are
   first_shown P [] w (x ∷ worlds) are each = each x are.0
   first_shown P (move ∷ moves) w [] are each = absurd are
   first_shown P (move ∷ moves) w (x ∷ worlds) are each = each x are.0
 
-  after_both : (xs ys : List Event) (v : sessions.World) → state_after v (xs ++ ys) ≡ state_after (state_after v xs) ys
+  after_both : (xs ys : List AppEvent) (v : sessions.AppWorld) → state_after v (xs ++ ys) ≡ state_after (state_after v xs) ys
   after_both [] ys v = refl
   after_both (x ∷ xs) ys v = after_both xs ys _
 
-  none_left : (w : sessions.World) (moves : List (List Event)) → AreShown owned (states_of w moves) [] → ⊥
+  none_left : (w : sessions.AppWorld) (moves : List (List AppEvent)) → AreRepresented owned (states_of w moves) [] → ⊥
   none_left w [] is = is
   none_left w (m ∷ moves) is = is
 
-  last_shown : (P : World → Type 0) (moves : List (List Event)) (w : sessions.World) (worlds : List World) → AreShown owned (states_of w moves) worlds
-      → ((shown : World) → IsShown owned (state_after w (flat_map (λ move. move) moves)) shown → P shown) → IsLast P worlds
+  last_shown : (P : ReportWorld → Type 0) (moves : List (List AppEvent)) (w : sessions.AppWorld) (worlds : List ReportWorld) → AreRepresented owned (states_of w moves) worlds
+      → ((shown : ReportWorld) → IsShown owned (state_after w (flat_map (λ move. move) moves)) shown → P shown) → IsLast P worlds
   last_shown P [] w [] are each = absurd are
   last_shown P [] w (x ∷ []) are each = each x are.0
   last_shown P [] w (x ∷ y ∷ worlds) are each = absurd are.1
@@ -106,31 +106,31 @@ module _ (owned : List Owned) where
 
   -- ---- archives
 
-  grown : (v w : sessions.World) (name : List ℕ) → IsLater v w → Extends (history_at owned v.takes name) (history_at owned w.takes name)
+  grown : (v w : sessions.AppWorld) (name : List ℕ) → IsLater v w → Extends (history_at owned v.takes name) (history_at owned w.takes name)
   grown v w name later =
       let more = later.takes in
       let longer = archive_grows name (map (take_of owned) v.takes) (map (take_of owned) more.0) in
       (longer.0, ap (archive_of name) (ap (map (take_of owned)) more.1 ∙ mapped (take_of owned) v.takes more.0) ∙ longer.1)
 
-  archive_front : (keep : ℕ) (v w : sessions.World) (name : List ℕ) (shown : World) → IsLater v w → IsShown owned v shown → v.keep ≡ keep → is_among name v.accounts ≡ true
+  archive_front : (keep : ℕ) (v w : sessions.AppWorld) (name : List ℕ) (shown : ReportWorld) → IsLater v w → IsShown owned v shown → v.keep ≡ keep → is_among name v.accounts ≡ true
       → shown.archive name ≡ newest keep (take (length (history_at owned v.takes name)) (history_at owned w.takes name))
   archive_front keep v w name shown later is keeps exists =
       is.archive name exists ∙ (ap (λ k. newest k (history_at owned v.takes name)) keeps
       ∙ ap (newest keep) (sym (front_is (history_at owned v.takes name) (history_at owned w.takes name) (grown v w name later))))
 
-  record Between (xs ys : List Event) (w last : sessions.World) : Type 0 where
-    mid : sessions.World
+  record Between (xs ys : List AppEvent) (w last : sessions.AppWorld) : Type 0 where
+    mid : sessions.AppWorld
     first : Reaches xs w mid
     second : Reaches ys mid last
 
-  split : (xs ys : List Event) (w last : sessions.World) → Reaches (xs ++ ys) w last → Between xs ys w last
+  split : (xs ys : List AppEvent) (w last : sessions.AppWorld) → Reaches (xs ++ ys) w last → Between xs ys w last
   split [] ys w last reaches = record { mid = w; first = refl; second = reaches }
   split (x ∷ xs) ys w last reaches =
       let rest = split xs ys reaches.0 last reaches.2 in
       record { mid = rest.mid; first = (reaches.0, reaches.1, rest.first); second = rest.second }
 
-  kept_along : (keep : ℕ) (name : List ℕ) (moves : List (List Event)) (w last : sessions.World) (worlds : List World) (least : ℕ) → Reaches (flat_map (λ move. move) moves) w last
-      → AreShown owned (states_of w moves) worlds → w.keep ≡ keep → is_among name w.accounts ≡ true → least ≤ length (history_at owned w.takes name)
+  kept_along : (keep : ℕ) (name : List ℕ) (moves : List (List AppEvent)) (w last : sessions.AppWorld) (worlds : List ReportWorld) (least : ℕ) → Reaches (flat_map (λ move. move) moves) w last
+      → AreRepresented owned (states_of w moves) worlds → w.keep ≡ keep → is_among name w.accounts ≡ true → least ≤ length (history_at owned w.takes name)
       → AreKeptOf keep name (history_at owned last.takes name) least worlds
   kept_along keep name [] w last [] least reaches are keeps exists low = absurd are
   kept_along keep name [] w last (x ∷ []) least reaches are keeps exists low =
@@ -150,21 +150,21 @@ module _ (owned : List Owned) where
         low,
         archive_front keep w last name x later are.0 keeps exists,
         kept_along keep name moves parts.mid last worlds (length (history_at owned w.takes name)) parts.second
-            (subst (λ v. AreShown owned (states_of v moves) worlds) (sym (reaches_is move w parts.mid parts.first)) are.1)
+            (subst (λ v. AreRepresented owned (states_of v moves) worlds) (sym (reaches_is move w parts.mid parts.first)) are.1)
             (next.keep ∙ keeps) (ap (is_among name) next.accounts ∙ exists)
             (front_few (history_at owned w.takes name) (history_at owned parts.mid.takes name) (grown w parts.mid name next)),
       )
 
 -- ---- a run
 
-module _ (s : WireView) (worlds : List World) (r : ReportView) (run : IsRunOf s worlds r) where
+module _ (s : WireView) (worlds : List ReportWorld) (r : ReportView) (run : IsRunOf s worlds r) where
   abbrev At : ℕ → DeviceView → Type 0
   At i line = LineAt (keep_of s.version) (history_at (owned_of s) run.last.takes) (owned_of s) run.last.devices i line
 
-  last_state : run.last ≡ state_after (begins s) (flat_map (λ (move : List Event). move) (moves_of run.runs))
-  last_state = reaches_is (flat_map (λ (move : List Event). move) (moves_of run.runs)) (begins s) run.last run.reaches
+  last_state : run.last ≡ state_after (begins s) (flat_map (λ (move : List AppEvent). move) (moves_of run.runs))
+  last_state = reaches_is (flat_map (λ (move : List AppEvent). move) (moves_of run.runs)) (begins s) run.last run.reaches
 
-  asked_first : (i : ℕ) (line : DeviceView) → At i line → (j : ℕ) (shown : World) → slice_get worlds j ≡ Some shown → AreAskedFirst line shown
+  asked_first : (i : ℕ) (line : DeviceView) → At i line → (j : ℕ) (shown : ReportWorld) → slice_get worlds j ≡ Some shown → AreAskedFirst line shown
   asked_first i line at j shown found =
       let g = ground_of s worlds r run in
       let accounts = accounts_of (steps_in s) in
@@ -186,7 +186,7 @@ module _ (s : WireView) (worlds : List World) (r : ReportView) (run : IsRunOf s 
       record {
         begins = first_shown (owned_of s) (λ w. w.asked line.name ≡ 0) (moves_of run.runs) (begins s) worlds run.shown
             (λ shown is. ap shown.asked at.is.name ∙ is.asked i at.o (new_device at.o.account) at.owner (home_at (owned_of s) i at.o at.owner));
-        each = all_places (AreAskedFirst line) worlds (asked_first i line at);
+        each = all_positions (AreAskedFirst line) worlds (asked_first i line at);
         ends = last_shown (owned_of s) (λ w. (length (w.pages line.name) ≡ length line.pages) × (w.asked line.name ≡ length line.pages + length line.underway)) (moves_of run.runs) (begins s) worlds run.shown
             (λ shown is.
             let here : IsShown (owned_of s) run.last shown = subst (λ v. IsShown (owned_of s) v shown) (sym last_state) is in

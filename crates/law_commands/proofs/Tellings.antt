@@ -8,7 +8,7 @@ use Rattle.law_commands.specs.Checks.{AreFaultless, HasFirstFault, IsClientStrea
 use Rattle.law_xml.specs.AllRows.{FaultRow}
 use Rattle.law_xml.specs.Prefixes.{IsPrefix}
 use Rattle.law_xml.specs.StreamLimits.{IsStreamWithin}
-use Rattle.law_xml.specs.Streams.{InForce, StreamTo, place_of}
+use Rattle.law_xml.specs.Streams.{InForce, StreamTo, position_of}
 use Rattle.xml_check.specs.Checked.{Told, sound_with, told, told_fault, told_item, told_items, told_last, told_turn, wrong_with}
 use Rattle.xml_check.specs.Lines.{end_line, fault_line, item_line, strange_at, truncated_line, why_name}
 use Rattle.xml_framer.specs.Limits.{server_limits}
@@ -95,12 +95,12 @@ last_is s fault part f p = ap (λ o. told_fault o (part_of s)) f ∙ ap (told_fa
 module _ (limits : Limits) (counted : limits.bytes < 2 ^ 64) (pieces : Pieces) (stays : Stays) (prefixes : Prefixes limits) (wholes : Wholes limits) (gives : Gives limits) (rows : Rows limits) where
   -- ---- faults
 
-  behind : (a b : List ℕ) → framed limits (a ++ b) ≡ run (framed limits a) b
+  following : (a b : List ℕ) → framed limits (a ++ b) ≡ run (framed limits a) b
   unfolding framed
-  behind a b = pieces (turn (from_start limits) []) a b
+  following a b = pieces (turn (from_start limits) []) a b
 
   stayed : (a b : List ℕ) (f : Fault) → fault_of limits a ≡ Some f → framed limits (a ++ b) ≡ framed limits a
-  stayed a b f e = behind a b ∙ stays (framed limits a) b f e
+  stayed a b f e = following a b ∙ stays (framed limits a) b f e
 
   at_first : fault_of limits [] ≡ None
   unfolding framed
@@ -163,7 +163,7 @@ module _ (limits : Limits) (counted : limits.bytes < 2 ^ 64) (pieces : Pieces) (
   -- the byte that decides the fault gives no item, and no more come
   items_stay : (front rest : List ℕ) (b : ℕ) (f : Fault) → fault_of limits front ≡ None → fault_of limits (front ++ b ∷ []) ≡ Some f → items_of limits (front ++ b ∷ rest) ≡ items_of limits front
   items_stay front rest b f none some =
-      let stepped = behind front (b ∷ []) in
+      let stepped = following front (b ∷ []) in
       let over = ap (λ (t : Turn). t.items) (ap (framed limits) (sym (append_assoc front (b ∷ []) rest)) ∙ stayed (front ++ b ∷ []) rest f some) in
       elim (step_apart (framed limits front) b none) [
         | inl same ↦ over ∙ (ap (λ (t : Turn). t.items) stepped ∙ same)
@@ -186,7 +186,7 @@ module _ (limits : Limits) (counted : limits.bytes < 2 ^ 64) (pieces : Pieces) (
       let high = p.longest q.now q.done q.hand others q.stream q.bytes_are (q.within counted) in
       let fronts = same_front p.done p.hand q.done q.hand (sym p.bytes_are ∙ q.bytes_are) (omega (arith, low, high)) in (
         sym (gives p.done p.now items p.stream (p.within counted)) ∙ (ap (items_of limits) fronts.0 ∙ gives q.done q.now others q.stream (q.within counted)),
-        p.part_is ∙ (ap (λ hand. if is_empty hand then None else Some (place_of (length p.done))) fronts.1 ∙ ap (λ (done : List ℕ). if is_empty q.hand then None else Some (place_of (length done))) fronts.0) ∙ sym q.part_is,
+        p.part_is ∙ (ap (λ hand. if is_empty hand then None else Some (position_of (length p.done))) fronts.1 ∙ ap (λ (done : List ℕ). if is_empty q.hand then None else Some (position_of (length done))) fronts.0) ∙ sym q.part_is,
       )
 
   -- ---- what is told

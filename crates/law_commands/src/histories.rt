@@ -4,7 +4,7 @@ ghost use Rattle.std.specs.Prelude.{ℕ, ◌<◌, List, length};
 ghost use Rattle.cmd_direct.specs.Direct.{direct_report};
 ghost use Rattle.cmd_direct.specs.History.{direct_history};
 ghost use Rattle.cmd_report.specs.Reports.{DeviceView, ReportView};
-ghost use Rattle.cmd_report.specs.Worlds.{World};
+ghost use Rattle.cmd_report.specs.Worlds.{ReportWorld};
 ghost use Rattle.cmd_schedule.specs.Grammar.{IsDirectSchedule};
 ghost use Rattle.cmd_schedule.specs.Schedules.{ScheduleView, WireView, seen_of};
 ghost use Rattle.law_commands.specs.OfWorlds.{HasMove, IsOfWorlds};
@@ -23,12 +23,12 @@ pub fn direct_reports_are_of_their_worlds()
 
 /// A law: the same holds of the report of each run of a wire schedule, over sessions that may stop at any time.
 pub fn runs_are_of_their_worlds()
-    ensures { (s : WireView) (worlds : List World) (r : ReportView) → IsRunOf s worlds r → IsOfWorlds worlds (seen_of s) r }
+    ensures { (s : WireView) (worlds : List ReportWorld) (r : ReportView) → IsRunOf s worlds r → IsOfWorlds worlds (seen_of s) r }
 {}
 
 /// A law: so each page of the report has a move at which it was asked for, and one at which it was taken over. Law 5, which is
 /// about these moves, is about some.
 pub fn pages_have_their_moves()
-    ensures { (worlds : List World) (s : ScheduleView) (r : ReportView) → IsOfWorlds worlds s r → AllByRecursion (λ (d : DeviceView). (k : ℕ) → k < length d.pages
+    ensures { (worlds : List ReportWorld) (s : ScheduleView) (r : ReportView) → IsOfWorlds worlds s r → AllByRecursion (λ (d : DeviceView). (k : ℕ) → k < length d.pages
         → HasMove worlds (λ w. w.asked d.name) k × HasMove worlds (λ w. length (w.pages d.name)) k) r.devices }
 {}

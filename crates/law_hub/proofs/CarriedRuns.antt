@@ -1,6 +1,6 @@
 -- Links carried what the events and the lines of a rerun say.
 use Rattle.std.proofs.Common.{◌≡◌, ◌⊎◌, ℕ, ◌+◌, ◌<◌, ◌≤◌, List, [], ◌∷◌, IfSome, length, subst, sym}
-use Rattle.net_hub.specs.Served.{AreServed, IsServed}
+use Rattle.net_hub.specs.Served.{AreServed, IsLinkServed}
 use Rattle.law_hub.proofs.PutRuns.{outs, puts_are_lines}
 use Rattle.law_hub.proofs.ShownRuns.{feed_leaves, pieces_joined}
 use Rattle.law_hub.specs.Carried.{AreCarried, IsCarried}
@@ -12,7 +12,7 @@ use Rattle.cmd_rerun.specs.Reruns.{lines_of}
 use Rattle.net_hub.specs.Puts.{IsFront}
 
 module _ (file : AccountsView) (events : List EventView) where
-  link_carried : (k : ℕ) (link : LinkView) → IsServed file events k link → IsCarried k events (lines_of (outs file events)) link
+  link_carried : (k : ℕ) (link : LinkView) → IsLinkServed file events k link → IsCarried k events (lines_of (outs file events)) link
   link_carried k link served =
       let bytes = sym (pieces_joined k events served.pieces served.feed) in
       let puts = puts_are_lines file events k in

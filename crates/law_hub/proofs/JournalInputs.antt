@@ -15,7 +15,7 @@ use Rattle.im_jid.proofs.PartForms.{local_form_ok}
 use Rattle.im_jid.specs.Forms.{is_local_byte, local_form}
 use Rattle.im_jid.specs.declared.fault.JidFault.{JidFault}
 use Rattle.cmd_journal.specs.AccountsFiles.{AccountsView, AreRegistered, accounts_text, is_account_name, is_form, is_password, may_register}
-use Rattle.cmd_journal.specs.Journals.{EventView, IsBehindEvents, events_text, journal_header, mark}
+use Rattle.cmd_journal.specs.Journals.{EventView, IsAfterEvents, events_text, journal_header, mark}
 use Rattle.cmd_journal.specs.declared.accounts_file.Registration.{Registration}
 use Rattle.cmd_journal.specs.Texts.{NamedView, archive_text, plain_entry_text}
 use Rattle.cmd_rerun.specs.Reruns.{archives_after, named_archives}
@@ -90,8 +90,8 @@ account_cut version a archives =
     regroup : (w n s d l f e r t u : List ℕ) → (w ++ n ++ (s ++ d) ++ l ++ (f ++ e)) ++ r ++ t ++ u ≡ (w ++ (n ++ (s ++ (d ++ l)))) ++ (f ++ (e ++ ((r ++ t) ++ u)))
     regroup w n s d l f e r t u = simp append_assoc
 
-account_behind : (version : Version) (a : NamedView) (archives : List NamedView) → IsPrint a.name → IsBehindEvents (ending_text version (a ∷ archives))
-account_behind version a archives name =
+account_after : (version : Version) (a : NamedView) (archives : List NamedView) → IsPrint a.name → IsAfterEvents (ending_text version (a ∷ archives))
+account_after version a archives name =
     let print = account_print version a name in
     record {
       line = account_line version a;
@@ -102,19 +102,19 @@ account_behind version a archives name =
       ends = refl;
     }
 
-end_behind : (version : Version) → IsBehindEvents (ending_text version [])
-end_behind version = record { line = codes "end"; rest = []; whole = refl; one_line = refl; spelled = is_utf8-from_IsUtf8 (codes "end") (plain_from_all (codes "end") refl).spelled; ends = refl }
+end_after : (version : Version) → IsAfterEvents (ending_text version [])
+end_after version = record { line = codes "end"; rest = []; whole = refl; one_line = refl; spelled = is_utf8-from_IsUtf8 (codes "end") (plain_from_all (codes "end") refl).spelled; ends = refl }
 
 registered_print : (above : List (List ℕ)) (r : Registration) → IsTrue (may_register above r) → IsPrint r.name
 registered_print above r may =
     let outer = and_parts (is_account_name r.name && not (is_among r.name above)) (is_password r.password) may in
     name_print r.name (and_parts (is_account_name r.name) (not (is_among r.name above)) outer.0).0
 
-pub ending_behind : (version : Version) (above : List (List ℕ)) (rs : List Registration) (archives : List Kept) → AreRegistered above rs → IsBehindEvents (ending_text version (named_archives rs archives))
-ending_behind version above [] archives are = end_behind version
-ending_behind version above (r ∷ rs) [] are = end_behind version
-ending_behind version above (r ∷ rs) (kept ∷ archives) are =
-    account_behind version (record { name = r.name; last = kept.last; entries = kept.entries }) (named_archives rs archives) (registered_print above r are.0)
+pub ending_after : (version : Version) (above : List (List ℕ)) (rs : List Registration) (archives : List Kept) → AreRegistered above rs → IsAfterEvents (ending_text version (named_archives rs archives))
+ending_after version above [] archives are = end_after version
+ending_after version above (r ∷ rs) [] are = end_after version
+ending_after version above (r ∷ rs) (kept ∷ archives) are =
+    account_after version (record { name = r.name; last = kept.last; entries = kept.entries }) (named_archives rs archives) (registered_print above r are.0)
 
 -- ---- the whole
 

@@ -15,7 +15,7 @@ use Rattle.net_traits.specs.Links.{LinkView}
 use Rattle.net_hub.specs.Records.{run_of_file}
 use Rattle.cmd_rerun.specs.Reruns.{archives_after, lines_of, rerun_of}
 use Rattle.cmd_rerun.specs.Journaling.{ending_text, journal_text}
-use Rattle.law_hub.proofs.JournalInputs.{ending_behind, input_is}
+use Rattle.law_hub.proofs.JournalInputs.{ending_after, input_is}
 use Rattle.law_hub.specs.Again.{EndsAlike, IsRerunOf, rerun_input}
 
 module _ (accounts : List ℕ) (n : ℕ) (told : Option ℕ) (drawn : Option (List ℕ)) (old new : List LinkView) (journal : List ℕ) (served : HasServed accounts n told drawn old new journal) where
@@ -33,7 +33,7 @@ module _ (accounts : List ℕ) (n : ℕ) (told : Option ℕ) (drawn : Option (Li
     rest = ending_text served.file.version archives;
     right = record { accounts = served.right; events = served.is.are };
     whole = ap (λ a. rerun_input a journal) served.whole ∙ ap (rerun_input _) served.is.journal ∙ input_is served.file input.events;
-    follows = inr (ending_behind served.file.version [] served.file.accounts _ served.right.accounts);
+    follows = inr (ending_after served.file.version [] served.file.accounts _ served.right.accounts);
   }
 
   pub journal_read : rerun_reading (rerun_input accounts journal) ≡ Ok input

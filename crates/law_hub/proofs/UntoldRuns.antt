@@ -69,11 +69,11 @@ start_orderly file = record {
 ran_sound : (file : AccountsView) (events : List EventView) → AreEvents 0 events → (k : ℕ) → IsSound k (step_of (ran file events))
 ran_sound file events are k = events_sound 0 events (run_at_start file) are (start_orderly file) k
 
-pub told_nothing : (file : AccountsView) (events later : List EventView) (k : ℕ) → AreEvents 0 events → conn_at k (ran file events).server.hall ≡ None → AllByRecursion (IsOther k) later
+pub told_nothing : (file : AccountsView) (events later : List EventView) (k : ℕ) → AreEvents 0 events → conn_at k (ran file events).server.server_state ≡ None → AllByRecursion (IsOther k) later
     → TellsOthers k (ran file events).outs (ran file (events ++ later)).outs
 told_nothing file events later k are closed others =
     let r = ran file events in
-    let absent = found_absent k r.server.hall.conns closed in
+    let absent = found_absent k r.server.server_state.conns closed in
     let gone : IsGone k (step_of (still r.server)) = record { absent = absent; none = (ran_sound file events are k).left absent; quiet = tt } in
     record {
       more = (after_events later (still r.server)).outs;
@@ -81,10 +81,10 @@ told_nothing file events later k are closed others =
       quiet = (events_gone k later (still r.server) others gone).quiet;
     }
 
-pub shut_closed : (file : AccountsView) (events : List EventView) (k : ℕ) → AreEvents 0 events → is_told k (ran file events).outs ≡ true → conn_at k (ran file events).server.hall ≡ None
-shut_closed file events k are told = absent_found k (ran file events).server.hall.conns ((ran_sound file events are k).honest told)
+pub shut_closed : (file : AccountsView) (events : List EventView) (k : ℕ) → AreEvents 0 events → is_told k (ran file events).outs ≡ true → conn_at k (ran file events).server.server_state ≡ None
+shut_closed file events k are told = absent_found k (ran file events).server.server_state.conns ((ran_sound file events are k).honest told)
 
-pub left_closed : (file : AccountsView) (events : List EventView) (k moment : ℕ) → AreEvents 0 events → conn_at k (ran file (events ++ Gone k moment ∷ [])).server.hall ≡ None
+pub left_closed : (file : AccountsView) (events : List EventView) (k moment : ℕ) → AreEvents 0 events → conn_at k (ran file (events ++ Gone k moment ∷ [])).server.server_state ≡ None
 left_closed file events k moment are =
-    ap (λ (u : Run). conn_at k u.server.hall) (events_then events (Gone k moment ∷ []) (run_at_start file))
-    ∙ absent_found k (after_event (Gone k moment) (ran file events)).server.hall.conns (gone_closed k moment (ran file events) (ran_sound file events are k))
+    ap (λ (u : Run). conn_at k u.server.server_state) (events_then events (Gone k moment ∷ []) (run_at_start file))
+    ∙ absent_found k (after_event (Gone k moment) (ran file events)).server.server_state.conns (gone_closed k moment (ran file events) (ran_sound file events are k))

@@ -40,8 +40,8 @@ pub fn rerun_puts_the_same()
 /// A law: whatever happens to a server, nothing is put out for a connection that is not open, until it comes. It is not open
 /// once the server shut it, and once it is gone (RFC 6120, section 4.4).
 pub fn who_is_not_open_is_told_nothing()
-    ensures quiet { (file : AccountsView) (events later : List EventView) (k : ℕ) → AreEvents 0 events → conn_at k (ran file events).server.hall ≡ None → AllByRecursion (IsOther k) later
+    ensures quiet { (file : AccountsView) (events later : List EventView) (k : ℕ) → AreEvents 0 events → conn_at k (ran file events).server.server_state ≡ None → AllByRecursion (IsOther k) later
         → TellsOthers k (ran file events).outs (ran file (events ++ later)).outs }
-    ensures shut { (file : AccountsView) (events : List EventView) (k : ℕ) → AreEvents 0 events → is_told k (ran file events).outs ≡ true → conn_at k (ran file events).server.hall ≡ None }
-    ensures gone { (file : AccountsView) (events : List EventView) (k moment : ℕ) → AreEvents 0 events → conn_at k (ran file (events ++ Gone k moment ∷ [])).server.hall ≡ None }
+    ensures shut { (file : AccountsView) (events : List EventView) (k : ℕ) → AreEvents 0 events → is_told k (ran file events).outs ≡ true → conn_at k (ran file events).server.server_state ≡ None }
+    ensures gone { (file : AccountsView) (events : List EventView) (k moment : ℕ) → AreEvents 0 events → conn_at k (ran file (events ++ Gone k moment ∷ [])).server.server_state ≡ None }
 {}

@@ -6,7 +6,7 @@ use Rattle.std.specs.Prelude.{nat_lt}
 use Rattle.law_limits.proofs.Messages.{drawn_bytes, drawn_short, first_short, reply_short}
 use Rattle.law_limits.proofs.TurnsKept.{ends_within, goes_within, put_within, puts_within}
 use Rattle.law_limits.specs.Answerable.{IsAnswerable}
-use Rattle.law_limits.specs.Within.{IsLoginWithin, IsNonceWithin, IsPhaseWithin, IsTurnWithin}
+use Rattle.law_limits.specs.Within.{IsClientStepWithin, IsLoginWithin, IsNonceWithin, IsPhaseWithin}
 use Rattle.cl_login.specs.LoginRows as rows
 use Rattle.cl_login.specs.Puts.{Row}
 use Rattle.cl_login.specs.declared.account.ClientAccount.{ClientAccount}
@@ -14,10 +14,10 @@ use Rattle.cl_login.specs.declared.answers.Next.{Next}
 use Rattle.cl_login.specs.declared.answers.Next.TheVariants as next
 use Rattle.cl_login.specs.declared.login_state.LoginState.{LoginState}
 use Rattle.cl_login.specs.declared.login_state.LoginState.TheVariants as state
-use Rattle.cl_handlers.specs.Clients.{Turn}
+use Rattle.cl_handlers.specs.Clients.{ClientStep}
 use Rattle.cl_handlers.specs.LoginSteps.{follows, goes_on, header_row, login_row, other_element}
 use Rattle.cl_handlers.specs.Speech.{in_items, uttered_where}
-use Rattle.cl_handlers.specs.Turns.{puts}
+use Rattle.cl_handlers.specs.ClientSteps.{puts}
 use Rattle.cl_handlers.specs.declared.phase.Phase.{Phase}
 use Rattle.cl_handlers.specs.declared.phase.Phase.TheVariants as phase
 use Rattle.im_login.specs.Features.{features_read}
@@ -127,22 +127,22 @@ begins_within domain entropy h =
 
 -- ---- turns
 
-where_within : (t : Turn ItemOut ItemOut) (o : Option ItemOut) → IsTurnWithin t → IfSome o (OutFits server_limits) → IsTurnWithin (puts t (uttered_where in_items o))
+where_within : (t : ClientStep ItemOut ItemOut) (o : Option ItemOut) → IsClientStepWithin t → IfSome o (OutFits server_limits) → IsClientStepWithin (puts t (uttered_where in_items o))
 where_within t None h fit = puts_within t [] h tt
 where_within t (Some item) h fit = put_within t item h fit
 
-went_within : (t : Turn ItemOut ItemOut) (n : Next) → IsTurnWithin t → IsNextWithin n → IsTurnWithin (goes_on t n)
+went_within : (t : ClientStep ItemOut ItemOut) (n : Next) → IsClientStepWithin t → IsNextWithin n → IsClientStepWithin (goes_on t n)
 went_within t (next.Goes s) h at = goes_within t (phase.Login s) h at
 went_within t next.LoggedIn h at = goes_within t phase.Features2 h tt
 went_within t (next.Ends why) h at = ends_within t _ h
 
-pub followed_within : (t : Turn ItemOut ItemOut) (row : Row) → IsTurnWithin t → IsRowWithin row → IsTurnWithin (follows in_items t row)
+pub followed_within : (t : ClientStep ItemOut ItemOut) (row : Row) → IsClientStepWithin t → IsRowWithin row → IsClientStepWithin (follows in_items t row)
 followed_within t row h within = went_within (puts t (uttered_where in_items row.put)) row.next (where_within t row.put h within.put) within.goes
 
-pub dialed_within : (t : Turn ItemOut ItemOut) (entropy : List ℕ) → IsTurnWithin t → IsTurnWithin (follows in_items t (rows.begin_row t.client.account.login.domain entropy))
+pub dialed_within : (t : ClientStep ItemOut ItemOut) (entropy : List ℕ) → IsClientStepWithin t → IsClientStepWithin (follows in_items t (rows.begin_row t.client.account.login.domain entropy))
 dialed_within t entropy h = followed_within t _ h (begins_within t.client.account.login.domain entropy h.client.account.domain)
 
-pub header_within : (t : Turn ItemOut ItemOut) (p : Phase) → IsTurnWithin t → IsPhaseWithin p → IsTurnWithin (header_row in_items t p)
+pub header_within : (t : ClientStep ItemOut ItemOut) (p : Phase) → IsClientStepWithin t → IsPhaseWithin p → IsClientStepWithin (header_row in_items t p)
 header_within t phase.Apart h at = h
 header_within t (phase.Login s) h at = followed_within t (rows.header_row s) h (headed_within s at)
 header_within t phase.Online h at = h
@@ -151,10 +151,10 @@ header_within t phase.Resuming h at = ends_within t _ h
 header_within t phase.Binding h at = ends_within t _ h
 header_within t phase.Enabling h at = ends_within t _ h
 
-pub login_within : (t : Turn ItemOut ItemOut) (s : LoginState) (e : Elem) → IsTurnWithin t → IsLoginWithin s → IsAnswerable e → IsTurnWithin (login_row in_items t s e)
+pub login_within : (t : ClientStep ItemOut ItemOut) (s : LoginState) (e : Elem) → IsClientStepWithin t → IsLoginWithin s → IsAnswerable e → IsClientStepWithin (login_row in_items t s e)
 login_within t s e h at answerable =
     let a = h.client.account in
     followed_within t _ h (element_within t.client.account.login s e a.domain a.name at answerable)
 
-pub other_element_within : (t : Turn ItemOut ItemOut) (e : Elem) → IsTurnWithin t → IsTurnWithin (other_element t e)
+pub other_element_within : (t : ClientStep ItemOut ItemOut) (e : Elem) → IsClientStepWithin t → IsClientStepWithin (other_element t e)
 other_element_within t e h = ends_within t _ h

@@ -17,7 +17,7 @@ use Rattle.xml_trees.specs.Attributes.{Attribute, found, has_name}
 use Rattle.xml_trees.specs.Readers.{attr_of, text_of}
 use Rattle.xml_trees.specs.Tidied.{text_node, texts_joined}
 use Rattle.xml_trees.specs.Trees.{Elem, Nodes, child, element, joined, namespace_of, no_nodes, nodes_of, text}
-use Rattle.xml_writer.specs.Canon.{assignment, assignments, behind_attributes, declared_default, declares_default, default_inside, has_nothing, is_foreign, next_number, number_text, opened, spelled, spelled_attribute, spelled_attributes, spelled_name, streams_namespace, tag_attributes, written, written_nodes}
+use Rattle.xml_writer.specs.Canon.{after_attributes, assignment, assignments, declared_default, declares_default, default_inside, has_nothing, is_foreign, next_number, number_text, opened, spelled, spelled_attribute, spelled_attributes, spelled_name, streams_namespace, tag_attributes, written, written_nodes}
 
 -- ---- attributes as they are spelled
 
@@ -93,9 +93,9 @@ name_written ns name =
     shorter (bytes_eq ns streams_namespace) (7 + length name) (codes "stream:" ++ name) (cond (bytes_eq ns xml_namespace) (codes "xml:" ++ name) name) (omega (arith, length-append (codes "stream:") name))
     (shorter (bytes_eq ns xml_namespace) (7 + length name) (codes "xml:" ++ name) name (omega (arith, length-append (codes "xml:") name)) (omega arith))
 
-behind_written : (b : Bool) (ns name inside : List ℕ) → length (behind_attributes b ns name inside) ≤ 11 + length name + length inside
-behind_written true ns name inside = omega arith
-behind_written false ns name inside =
+after_written : (b : Bool) (ns name inside : List ℕ) → length (after_attributes b ns name inside) ≤ 11 + length name + length inside
+after_written true ns name inside = omega arith
+after_written false ns name inside =
     let tag = name_written ns name in
     omega (arith, tag, length-append inside (60 ∷ 47 ∷ (spelled_name ns name ++ (62 ∷ []))), length-append (spelled_name ns name) (62 ∷ []))
 
@@ -107,21 +107,21 @@ element_up default ns name attrs kids local =
     let declared = default_written default ns in
     let given = locals_written 0 attrs local in
     let inside = written_nodes (default_inside default ns) kids in
-    let behind = behind_written (has_nothing kids) ns name inside in
+    let following = after_written (has_nothing kids) ns name inside in
     omega (
       arith,
       tag,
       declared,
       given,
-      behind,
+      following,
       assignments_add (declared_default default ns) (spelled_attributes 0 attrs),
       length-append (spelled_name ns name) (assignments (tag_attributes default ns attrs)),
-      length-append (opened default ns name attrs) (behind_attributes (has_nothing kids) ns name inside),
+      length-append (opened default ns name attrs) (after_attributes (has_nothing kids) ns name inside),
     )
 
 -- ---- what is inside
 
-inside_written : (default ns name : List ℕ) (kids : Nodes) → length (written_nodes default kids) ≤ length (behind_attributes (has_nothing kids) ns name (written_nodes default kids))
+inside_written : (default ns name : List ℕ) (kids : Nodes) → length (written_nodes default kids) ≤ length (after_attributes (has_nothing kids) ns name (written_nodes default kids))
 inside_written default ns name no_nodes = omega arith
 inside_written default ns name (child e rest) =
     let inside = written_nodes default (child e rest) in omega (arith, length-append inside (60 ∷ 47 ∷ (spelled_name ns name ++ (62 ∷ []))))
@@ -147,22 +147,22 @@ unfolding element_size nodes_size
 value_and_nodes default ns name (element own called attrs kids) v is =
     let value = found_written ns name 0 attrs v is in
     let inside = written_nodes (default_inside default own) kids in
-    let behind = inside_written (default_inside default own) own called kids in
+    let following = inside_written (default_inside default own) own called kids in
     omega (
       arith,
       value,
-      behind,
+      following,
       assignments_add (declared_default default own) (spelled_attributes 0 attrs),
       length-append (spelled_name own called) (assignments (tag_attributes default own attrs)),
-      length-append (opened default own called attrs) (behind_attributes (has_nothing kids) own called inside),
+      length-append (opened default own called attrs) (after_attributes (has_nothing kids) own called inside),
     )
 
 pub nodes_within : (default : List ℕ) (e : Elem) → nodes_size (default_inside default (namespace_of e)) (nodes_of e) ≤ element_size default e
 unfolding element_size nodes_size
 nodes_within default (element own called attrs kids) =
     let inside = written_nodes (default_inside default own) kids in
-    let behind = inside_written (default_inside default own) own called kids in
-    omega (arith, behind, length-append (opened default own called attrs) (behind_attributes (has_nothing kids) own called inside))
+    let following = inside_written (default_inside default own) own called kids in
+    omega (arith, following, length-append (opened default own called attrs) (after_attributes (has_nothing kids) own called inside))
 
 -- ---- nodes
 
@@ -249,12 +249,12 @@ nodes_written : (default : List ℕ) (ks : Nodes) → length (written_nodes defa
 unfolding nodes_size
 nodes_written default ks = refl
 
-longer : (ns name inside whole : List ℕ) → length inside ≤ length whole → length (behind_attributes false ns name inside) ≤ length (behind_attributes false ns name whole)
+longer : (ns name inside whole : List ℕ) → length inside ≤ length whole → length (after_attributes false ns name inside) ≤ length (after_attributes false ns name whole)
 longer ns name inside whole h =
     omega (arith, h, length-append inside (60 ∷ 47 ∷ (spelled_name ns name ++ (62 ∷ []))), length-append whole (60 ∷ 47 ∷ (spelled_name ns name ++ (62 ∷ []))))
 
 less : (default ns name : List ℕ) (fewer attrs : List Attribute) (inner kids : Nodes) → length (assignments (spelled_attributes 0 fewer)) ≤ length (assignments (spelled_attributes 0 attrs))
-    → length (behind_attributes (has_nothing inner) ns name (written_nodes (default_inside default ns) inner)) ≤ length (behind_attributes (has_nothing kids) ns name (written_nodes (default_inside default ns) kids))
+    → length (after_attributes (has_nothing inner) ns name (written_nodes (default_inside default ns) inner)) ≤ length (after_attributes (has_nothing kids) ns name (written_nodes (default_inside default ns) kids))
     → element_size default (element ns name fewer inner) ≤ element_size default (element ns name attrs kids)
 unfolding element_size
 less default ns name fewer attrs inner kids h k =
@@ -266,23 +266,23 @@ less default ns name fewer attrs inner kids h k =
       assignments_add (declared_default default ns) (spelled_attributes 0 attrs),
       length-append (spelled_name ns name) (assignments (tag_attributes default ns fewer)),
       length-append (spelled_name ns name) (assignments (tag_attributes default ns attrs)),
-      length-append (opened default ns name fewer) (behind_attributes (has_nothing inner) ns name (written_nodes (default_inside default ns) inner)),
-      length-append (opened default ns name attrs) (behind_attributes (has_nothing kids) ns name (written_nodes (default_inside default ns) kids)),
+      length-append (opened default ns name fewer) (after_attributes (has_nothing inner) ns name (written_nodes (default_inside default ns) inner)),
+      length-append (opened default ns name attrs) (after_attributes (has_nothing kids) ns name (written_nodes (default_inside default ns) kids)),
     )
 
-text_behind : (ns name default t : List ℕ) (kids : Nodes) → text_of kids ≡ t
-    → length (behind_attributes (has_nothing (text_node t)) ns name (written_nodes default (text_node t))) ≤ length (behind_attributes (has_nothing kids) ns name (written_nodes default kids))
-text_behind ns name default [] no_nodes is = omega arith
-text_behind ns name default (c ∷ cs) no_nodes is = absurd cc
-text_behind ns name default [] (child e rest) is =
+text_after : (ns name default t : List ℕ) (kids : Nodes) → text_of kids ≡ t
+    → length (after_attributes (has_nothing (text_node t)) ns name (written_nodes default (text_node t))) ≤ length (after_attributes (has_nothing kids) ns name (written_nodes default kids))
+text_after ns name default [] no_nodes is = omega arith
+text_after ns name default (c ∷ cs) no_nodes is = absurd cc
+text_after ns name default [] (child e rest) is =
     let inside = written_nodes default (child e rest) in omega (arith, length-append inside (60 ∷ 47 ∷ (spelled_name ns name ++ (62 ∷ []))))
-text_behind ns name default [] (text t rest) is =
+text_after ns name default [] (text t rest) is =
     let inside = written_nodes default (text t rest) in omega (arith, length-append inside (60 ∷ 47 ∷ (spelled_name ns name ++ (62 ∷ []))))
-text_behind ns name default (c ∷ cs) (child e rest) is =
+text_after ns name default (c ∷ cs) (child e rest) is =
     let size = subst (λ x. text_size x ≤ nodes_size default (child e rest)) is (text_of_size default (child e rest)) in
     longer ns name (written_nodes default (text_node (c ∷ cs))) (written_nodes default (child e rest))
     (let same = text_node_size default (c ∷ cs) in omega (arith, size, same, nodes_written default (text_node (c ∷ cs)), nodes_written default (child e rest)))
-text_behind ns name default (c ∷ cs) (text t rest) is =
+text_after ns name default (c ∷ cs) (text t rest) is =
     let size = subst (λ x. text_size x ≤ nodes_size default (text t rest)) is (text_of_size default (text t rest)) in
     longer ns name (written_nodes default (text_node (c ∷ cs))) (written_nodes default (text t rest))
     (let same = text_node_size default (c ∷ cs) in omega (arith, size, same, nodes_written default (text_node (c ∷ cs)), nodes_written default (text t rest)))
@@ -291,10 +291,10 @@ text_behind ns name default (c ∷ cs) (text t rest) is =
 pub only_text : (ns name : List ℕ) (lang : Option (List ℕ)) (attrs : List Attribute) (kids : Nodes) → lang ≡ option_map (λ (a : Attribute). a.value) (found xml_namespace (codes "lang") attrs)
     → (default : List ℕ) → element_size default (element ns name (attr_where xml_namespace (codes "lang") (unless_empty (unwrap_or lang []))) (text_node (text_of kids))) ≤ element_size default (element ns name attrs kids)
 unfolding element_size
-only_text ns name None attrs kids is default = less default ns name [] attrs (text_node (text_of kids)) kids (omega arith) (text_behind ns name (default_inside default ns) (text_of kids) kids refl)
-only_text ns name (Some []) attrs kids is default = less default ns name [] attrs (text_node (text_of kids)) kids (omega arith) (text_behind ns name (default_inside default ns) (text_of kids) kids refl)
+only_text ns name None attrs kids is default = less default ns name [] attrs (text_node (text_of kids)) kids (omega arith) (text_after ns name (default_inside default ns) (text_of kids) kids refl)
+only_text ns name (Some []) attrs kids is default = less default ns name [] attrs (text_node (text_of kids)) kids (omega arith) (text_after ns name (default_inside default ns) (text_of kids) kids refl)
 only_text ns name (Some (c ∷ cs)) attrs kids is default =
     let one = one_language (c ∷ cs) in
     let there = language_written 0 attrs (c ∷ cs) (sym is) in
     less default ns name (record { ns = xml_namespace; name = codes "lang"; value = c ∷ cs } ∷ []) attrs (text_node (text_of kids)) kids (omega (arith, one, there))
-    (text_behind ns name (default_inside default ns) (text_of kids) kids refl)
+    (text_after ns name (default_inside default ns) (text_of kids) kids refl)

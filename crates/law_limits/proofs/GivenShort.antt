@@ -35,7 +35,7 @@ use Rattle.xml_names.specs.declared.expansion.ExpandedAttribute.{ExpandedAttribu
 use Rattle.srv_core.specs.Events.{turn_of}
 use Rattle.law_limits.specs.Keeps.{Comes, IsShort, stanza_limits}
 use Rattle.xml_tokens.specs.Characters.{is_name}
-use Rattle.xml_tokens.specs.Lines.{line_ends, line_ends_behind}
+use Rattle.xml_tokens.specs.Lines.{line_ends, line_ends_after}
 use Rattle.xml_tokens.specs.References.{entity_reference, referred}
 use Rattle.xml_tokens.specs.Tags as tokens
 use Rattle.xml_tokens.specs.Tags.{AreAttributes, IsAttribute}
@@ -50,7 +50,7 @@ use Rattle.xml_trees.specs.Trees.{Elem, Nodes, child, joined, no_nodes}
 
 -- ---- what bytes say is no longer than they are
 
-lines_shorter : (r : Bool) (bs : List ℕ) → length (line_ends_behind r bs) ≤ length bs
+lines_shorter : (r : Bool) (bs : List ℕ) → length (line_ends_after r bs) ≤ length bs
 lines_shorter r [] = omega arith
 lines_shorter r (b ∷ bs) =
     let after = lines_shorter true bs in
@@ -161,11 +161,11 @@ attributes_short (a ∷ more) bytes rest h =
     let raw = h.1.0 in
     let spelled = h.1.1 in
     let value = value_shorter raw a.value h.1.2.spelled in
-    let behind = spelled.after ++ (spelled.quote ∷ (raw ++ (spelled.quote ∷ next))) in
+    let following = spelled.after ++ (spelled.quote ∷ (raw ++ (spelled.quote ∷ next))) in
     let whole = ap length spelled.bytes_are in
-    let a1 = length-append spelled.space (a.name ++ (spelled.before ++ (61 ∷ behind))) in
-    let a2 = length-append a.name (spelled.before ++ (61 ∷ behind)) in
-    let a3 = length-append spelled.before (61 ∷ behind) in
+    let a1 = length-append spelled.space (a.name ++ (spelled.before ++ (61 ∷ following))) in
+    let a2 = length-append a.name (spelled.before ++ (61 ∷ following)) in
+    let a3 = length-append spelled.before (61 ∷ following) in
     let a4 = length-append spelled.after (spelled.quote ∷ (raw ++ (spelled.quote ∷ next))) in
     let a5 = length-append raw (spelled.quote ∷ next) in
     (omega (arith, value, whole, a1, a2, a3, a4, a5), each_wider (length next) (length bytes) more (omega (arith, whole, a1, a2, a3, a4, a5)) (attributes_short more next rest h.2))
@@ -285,9 +285,9 @@ given_come bytes none =
 
 -- ---- pieces
 
-each_behind : (xs ys : List Item) → AllByRecursion Comes (xs ++ ys) → AllByRecursion Comes ys
-each_behind [] ys h = h
-each_behind (x ∷ xs) ys h = each_behind xs ys h.1
+each_after : (xs ys : List Item) → AllByRecursion Comes (xs ++ ys) → AllByRecursion Comes ys
+each_after [] ys h = h
+each_after (x ∷ xs) ys h = each_after xs ys h.1
 
 -- the same of a piece behind bytes before it
 pub piece_comes : (before piece : List ℕ) → (run (turn (from_start server_limits) []) (before ++ piece)).state.fault ≡ None → AllByRecursion Comes (turn_of piece (run (turn (from_start server_limits) []) before).state).items
@@ -296,4 +296,4 @@ piece_comes before piece none =
     let whole = run (turn (from_start server_limits) []) (before ++ piece) in
     let joined : whole ≡ turn (turn_of piece first.state).state (first.items ++ (turn_of piece first.state).items) =
     run_append (turn (from_start server_limits) []) before piece ∙ given_before first.state first.items piece in
-    each_behind first.items (turn_of piece first.state).items (subst (AllByRecursion Comes) (ap (λ (t : Turn). t.items) joined) (given_come (before ++ piece) none))
+    each_after first.items (turn_of piece first.state).items (subst (AllByRecursion Comes) (ap (λ (t : Turn). t.items) joined) (given_come (before ++ piece) none))

@@ -13,20 +13,20 @@ use Rattle.xml_writer.specs.Canon.{assignment, spelled, written_header}
 pub header_plain : (domain : List ℕ) → IsTextWithin most_part domain → IsPlainHeader (client_header domain)
 header_plain domain h = record { to = h.characters; from = tt; id = tt; version = printable_IsCharacters (codes "1.0") refl; lang = tt }
 
-given_long : (value behind : List ℕ) → length (assignment (spelled (codes "to") value) ++ behind) ≡ 6 + length (spelled_value value) + length behind
+given_long : (value following : List ℕ) → length (assignment (spelled (codes "to") value) ++ following) ≡ 6 + length (spelled_value value) + length following
 unfolding assignment
-given_long value behind =
-    omega (arith, length-append (spelled_value value ++ (39 ∷ [])) behind, length-append (spelled_value value) (39 ∷ []))
+given_long value following =
+    omega (arith, length-append (spelled_value value ++ (39 ∷ [])) following, length-append (spelled_value value) (39 ∷ []))
 
-behind_long : length (assignment (spelled (codes "version") (codes "1.0")) ++ codes " xmlns='jabber:client' xmlns:stream='http://etherx.jabber.org/streams'>") ≡ 85
+after_long : length (assignment (spelled (codes "version") (codes "1.0")) ++ codes " xmlns='jabber:client' xmlns:stream='http://etherx.jabber.org/streams'>") ≡ 85
 unfolding assignment value_byte text_byte
-behind_long = refl
+after_long = refl
 
 pub header_short : (domain : List ℕ) → IsTextWithin most_part domain → length (written_header (client_header domain)) ≤ 65536
 header_short domain h =
-    let behind = assignment (spelled (codes "version") (codes "1.0")) ++ codes " xmlns='jabber:client' xmlns:stream='http://etherx.jabber.org/streams'>" in
+    let following = assignment (spelled (codes "version") (codes "1.0")) ++ codes " xmlns='jabber:client' xmlns:stream='http://etherx.jabber.org/streams'>" in
     let short = h.short in
-    omega (arith, given_long domain behind, behind_long, value_short domain, short)
+    omega (arith, given_long domain following, after_long, value_short domain, short)
 
 pub header_fits : (domain : List ℕ) → IsTextWithin most_part domain → HeaderFits server_limits (client_header domain)
 unfolding text_byte value_byte

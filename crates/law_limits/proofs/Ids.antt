@@ -5,24 +5,24 @@ use Rattle.std.proofs.lemmas.Str.{IsUtf8-append}
 use Rattle.std.specs.Fmt.{decimal}
 use Rattle.std.specs.List.{list_all}
 use Rattle.sm_outbox.specs.Submissions.{origin_of}
-use Rattle.xml_tokens.specs.Characters.{are_characters, are_characters_behind, ends_forbidden}
+use Rattle.xml_tokens.specs.Characters.{are_characters, are_characters_after, ends_forbidden}
 use Rattle.xml_tokens.specs.Lines.{IsCharacters}
 use Rattle.law_limits.specs.Bounds.{IsTextWithin, most_part}
-use Rattle.law_limits.proofs.Ascii.{is_printable, printable_IsCharacters, printable_behind}
+use Rattle.law_limits.proofs.Ascii.{is_printable, printable_IsCharacters, printable_after}
 use Rattle.law_limits.proofs.Submissions.{most_origin}
 use Rattle.law_limits.proofs.Texts.{decimal_printable, decimal_within, printable_append}
 
 -- ---- a text with printable ASCII behind it
 
-characters_behind : (a b : ℕ) (xs ys : List ℕ) → are_characters_behind a b xs ≡ true → list_all is_printable ys ≡ true → are_characters_behind a b (xs ++ ys) ≡ true
-characters_behind a b [] ys h k = printable_behind a b ys k
-characters_behind a b (x ∷ xs) ys h k =
-    let p = and_parts (not (ends_forbidden a b x)) (are_characters_behind b x xs) h in
-    and_from (not (ends_forbidden a b x)) (are_characters_behind b x (xs ++ ys)) p.0 (characters_behind b x xs ys p.1 k)
+characters_after : (a b : ℕ) (xs ys : List ℕ) → are_characters_after a b xs ≡ true → list_all is_printable ys ≡ true → are_characters_after a b (xs ++ ys) ≡ true
+characters_after a b [] ys h k = printable_after a b ys k
+characters_after a b (x ∷ xs) ys h k =
+    let p = and_parts (not (ends_forbidden a b x)) (are_characters_after b x xs) h in
+    and_from (not (ends_forbidden a b x)) (are_characters_after b x (xs ++ ys)) p.0 (characters_after b x xs ys p.1 k)
 
 pub IsCharacters-append : (xs ys : List ℕ) → IsCharacters xs → list_all is_printable ys ≡ true → IsCharacters (xs ++ ys)
 unfolding are_characters
-IsCharacters-append xs ys h k = record { utf8 = IsUtf8-append xs ys h.utf8 (printable_IsCharacters ys k).utf8; characters = characters_behind 0 0 xs ys h.characters k }
+IsCharacters-append xs ys h k = record { utf8 = IsUtf8-append xs ys h.utf8 (printable_IsCharacters ys k).utf8; characters = characters_after 0 0 xs ys h.characters k }
 
 -- ---- ids
 

@@ -15,10 +15,10 @@ use Rattle.law_xml.specs.Plain.{IsPlainHeader}
 use Rattle.law_xml.specs.Spells.{written_scope}
 use Rattle.xml_names.specs.Grammar.{IsShort}
 use Rattle.im_payload.specs.Names.{sasl}
-use Rattle.law_limits.proofs.PutParts.{fine_bare, fine_element, no_attributes, other_space, reads, said_fine, space, word}
-use Rattle.law_limits.proofs.PutReplies.{fine_around}
+use Rattle.law_limits.proofs.PutParts.{bounded_bare, bounded_element, no_attributes, other_space, reads, said_bounded, space, word}
+use Rattle.law_limits.proofs.PutReplies.{bounded_around}
 use Rattle.law_limits.proofs.Requests.{stays_tree}
-use Rattle.law_limits.specs.Fine.{ClientReads, IsWord}
+use Rattle.law_limits.specs.Bounded.{ClientReads, IsWord}
 use Rattle.im_replies.specs.Streams.{hex_of, server_header, stream_id}
 use Rattle.im_login.specs.Payloads.{base64_of}
 use Rattle.im_login.specs.Sasl.{carrier, failure_of}
@@ -28,7 +28,7 @@ use Rattle.law_limits.proofs.ElementSizes.{assignment_is}
 use Rattle.law_limits.proofs.Numerals.{hex_length, hex_printable, said_hex}
 use Rattle.law_limits.specs.Texts.{Said, is_printable, value_size}
 use Rattle.im_stanza.specs.Names.{client_ns}
-use Rattle.im_payload.proofs.Written.{behind_text}
+use Rattle.im_payload.proofs.Written.{after_text}
 use Rattle.xml_tokens.specs.Spelling.{text_byte, value_byte}
 use Rattle.xml_trees.proofs.TidyLaws.{tidied_IsTree}
 use Rattle.xml_trees.specs.Tidied.{text_node}
@@ -93,14 +93,14 @@ carrier_read name payload w bytes short =
     let given = encode_of standard payload in
     let long = base64_short payload in
     let said = said_printable 2500000 given (base64_printable payload bytes) (omega (arith, long, short)) in
-    reads (carrier name payload) 1 (0 + 2500000 + 400) (stays_tree (carrier name payload) (λ i. element sasl name [] (behind_text given i)))
-    (fine_element client_ns sasl name [] (text_node given) 0 0 0 2500000 (space sasl refl) w no_attributes (omega arith) (said_fine _ given 2500000 said)) (other_space sasl name refl) (omega arith) (omega arith)
+    reads (carrier name payload) 1 (0 + 2500000 + 400) (stays_tree (carrier name payload) (λ i. element sasl name [] (after_text given i)))
+    (bounded_element client_ns sasl name [] (text_node given) 0 0 0 2500000 (space sasl refl) w no_attributes (omega arith) (said_bounded _ given 2500000 said)) (other_space sasl name refl) (omega arith) (omega arith)
 
 pub failure_read : (condition : List ℕ) → IsWord condition → ClientReads (failure_of condition)
 unfolding sasl
 failure_read condition w =
     reads (failure_of condition) 2 800 (tidied_IsTree (failure_of condition))
-    (fine_around client_ns sasl (codes "failure") 1 400 (element sasl condition [] no_nodes) (space sasl refl) (word (codes "failure") refl) (fine_bare _ sasl condition (space sasl refl) w)) (other_space sasl (codes "failure") refl)
+    (bounded_around client_ns sasl (codes "failure") 1 400 (element sasl condition [] no_nodes) (space sasl refl) (word (codes "failure") refl) (bounded_bare _ sasl condition (space sasl refl) w)) (other_space sasl (codes "failure") refl)
     (omega arith) (omega arith)
 
 -- ---- the header (RFC 6120, section 4.7)

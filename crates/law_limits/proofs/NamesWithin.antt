@@ -61,9 +61,9 @@ address_within account h =
     let short = n.short in
     record { characters = printable_IsCharacters (bare_address account) (printable_append account (64 ∷ domain) n.printable refl); short = omega (arith, length-append account (64 ∷ domain), short) }
 
-none_in : (p : ℕ → Bool) (free : (c : ℕ) → (is_lower c || is_digit c) ≡ true → p c ≡ false) (cs behind : List ℕ) → list_all (λ d. is_lower d || is_digit d) cs ≡ true → list_any p behind ≡ false → list_any p (cs ++ behind) ≡ false
-none_in p free [] behind h none = none
-none_in p free (c ∷ cs) behind h none = let q = and_parts (is_lower c || is_digit c) _ h in rw (free c q.0) (none_in p free cs behind q.1 none)
+none_in : (p : ℕ → Bool) (free : (c : ℕ) → (is_lower c || is_digit c) ≡ true → p c ≡ false) (cs following : List ℕ) → list_all (λ d. is_lower d || is_digit d) cs ≡ true → list_any p following ≡ false → list_any p (cs ++ following) ≡ false
+none_in p free [] following h none = none
+none_in p free (c ∷ cs) following h none = let q = and_parts (is_lower c || is_digit c) _ h in rw (free c q.0) (none_in p free cs following q.1 none)
 
 no_slash : (c : ℕ) → (is_lower c || is_digit c) ≡ true → is_slash c ≡ false
 no_slash c h = grind (arith, nat_tests)

@@ -5,7 +5,7 @@ use Rattle.im_mam.specs.ArchiveQuery.{form_elem, limit_elem}
 use Rattle.im_mam.specs.DataForms.{form_type_elem}
 use Rattle.im_mam.specs.ResultSets.{set_item}
 use Rattle.im_payload.specs.Names.{archive, data_forms, result_sets}
-use Rattle.im_requests.specs.Messages.{page_elem, place_behind}
+use Rattle.im_requests.specs.Messages.{page_elem, position_after}
 use Rattle.im_requests.specs.Sessions.{setting_elem}
 use Rattle.im_stanza.specs.Written.{attr_where, unless_empty}
 use Rattle.xml_trees.specs.Attributes.{attribute, sorted_attributes}
@@ -43,7 +43,7 @@ form_small =
 item_small : (name t : List ℕ) (most : ℕ) → is_tag result_sets name ≡ true → length name ≤ 5 → IsTextWithin most t → IsSmall (set_item name t) (300 + 5 * most) 1
 item_small name t most named short h = wider _ _ _ _ _ (omega (arith, short)) (omega arith) (bare_small result_sets name (text_node t) (5 * most) 0 named (text_small t most h))
 
-limit_small : (after : Option (List ℕ)) (max : ℕ) → IfSome after (IsTextWithin most_id) → max < 2 ^ 32 → IsSmall (limit_elem (place_behind after) (Some max)) 22000 2
+limit_small : (after : Option (List ℕ)) (max : ℕ) → IfSome after (IsTextWithin most_id) → max < 2 ^ 32 → IsSmall (limit_elem (position_after after) (Some max)) 22000 2
 limit_small None max h low =
     wider _ _ _ _ _ (omega arith) (omega arith)
     (bare_small result_sets (codes "set") (child (set_item (codes "max") (decimal max)) no_nodes) _ 1 refl (only_child (set_item (codes "max") (decimal max)) _ 1 (item_small (codes "max") (decimal max) 10 refl (omega arith) (count_within max low))))
@@ -58,10 +58,10 @@ limit_small (Some id) max h low =
 pub query_small : (queryid : List ℕ) (after : Option (List ℕ)) (max : ℕ) → IsTextWithin 21 queryid → IfSome after (IsTextWithin most_id) → max < 2 ^ 32 → IsSmall (page_elem queryid after max) 25000 4
 query_small queryid after max named h low =
     wider _ _ _ _ _ (omega arith) (omega arith)
-    (element_small archive (codes "query") (attr_where [] (codes "queryid") (unless_empty queryid)) (child (form_elem None None None) (child (limit_elem (place_behind after) (Some max)) no_nodes)) 200 (1000 + 22000) 3 refl (one_stays (unless_empty queryid))
+    (element_small archive (codes "query") (attr_where [] (codes "queryid") (unless_empty queryid)) (child (form_elem None None None) (child (limit_elem (position_after after) (Some max)) no_nodes)) 200 (1000 + 22000) 3 refl (one_stays (unless_empty queryid))
     (fewer _ _ 200 _ 16 (omega arith) (omega arith) (attribute_where [] (codes "queryid") (unless_empty queryid) 21 refl (unless_empty_within queryid 21 named)))
-    (child_small (form_elem None None None) (child (limit_elem (place_behind after) (Some max)) no_nodes) 1000 22000 3 form_small
-    (wider_nodes (child (limit_elem (place_behind after) (Some max)) no_nodes) (22000 + 0) 22000 2 3 (omega arith) (omega arith) (only_child (limit_elem (place_behind after) (Some max)) 22000 2 (limit_small after max h low)))))
+    (child_small (form_elem None None None) (child (limit_elem (position_after after) (Some max)) no_nodes) 1000 22000 3 form_small
+    (wider_nodes (child (limit_elem (position_after after) (Some max)) no_nodes) (22000 + 0) 22000 2 3 (omega arith) (omega arith) (only_child (limit_elem (position_after after) (Some max)) 22000 2 (limit_small after max h low)))))
   where
     one_stays : (given : Option (List ℕ)) → sorted_attributes (attr_where [] (codes "queryid") given) ≡ attr_where [] (codes "queryid") given
     one_stays None = refl

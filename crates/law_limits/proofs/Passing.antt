@@ -13,11 +13,11 @@ use Rattle.law_xml.specs.Fitting.{NodesFit}
 use Rattle.law_xml.specs.Plain.{ArePlainNodes}
 use Rattle.im_messages.specs.Ids.{without_ids}
 use Rattle.im_payload.specs.Names.{carbons, delays, forwarding, stanza_ids}
-use Rattle.law_limits.proofs.PutParts.{child_fine, fine_element, fine_more, joined_fine, no_attributes, no_nodes_fine, nodes_more, one_attribute, only_child, other_space, reads, space, word}
-use Rattle.law_limits.proofs.PutReplies.{fine_around, two_attributes, with_none}
-use Rattle.law_limits.proofs.Requests.{message_kind_said, stanza_fine, unless_said}
+use Rattle.law_limits.proofs.PutParts.{bounded_element, bounded_more, child_bounded, joined_bounded, no_attributes, no_nodes_bounded, nodes_more, one_attribute, only_child, other_space, reads, space, word}
+use Rattle.law_limits.proofs.PutReplies.{bounded_around, two_attributes, with_none}
+use Rattle.law_limits.proofs.Requests.{message_kind_said, stanza_bounded, unless_said}
 use Rattle.law_limits.proofs.StampSizes.{stamp_said}
-use Rattle.law_limits.specs.Fine.{AreFine, ClientReads, IsFine, client_tags}
+use Rattle.law_limits.specs.Bounded.{AreBounded, ClientReads, IsBounded, client_tags}
 use Rattle.law_limits.specs.Messages.{MessageFits}
 use Rattle.law_limits.proofs.Characters.{characters_append, printable_characters}
 use Rattle.law_limits.proofs.ElementSizes.{child_size, texts_joined_size, texts_size}
@@ -65,8 +65,8 @@ kept_size default by (child e rest) =
     ]
 kept_size default by (text t rest) = let ih = kept_size default by rest in omega (arith, ih, texts_size default t rest, texts_size default t (without_ids by rest))
 
-pub kept_fine : (default by : List ℕ) (levels m : ℕ) (ks : Nodes) → AreFine default levels m ks → AreFine default levels m (without_ids by ks)
-kept_fine default by levels m ks h =
+pub kept_bounded : (default by : List ℕ) (levels m : ℕ) (ks : Nodes) → AreBounded default levels m ks → AreBounded default levels m (without_ids by ks)
+kept_bounded default by levels m ks h =
     let a = h.shallow in
     let b = h.short in
     record { plain = kept_plain by ks h.plain; tags = kept_tags default by ks h.tags; shallow = omega (arith, a, kept_depth by ks); short = omega (arith, b, kept_size default by ks) }
@@ -115,8 +115,8 @@ one_depth run no_nodes = let none = text_depth run in omega (arith, none)
 one_depth run (child e rest) = let ih = one_depth [] rest in omega (arith, ih, run_depth run (child e (texts_joined [] rest)))
 one_depth run (text t rest) = one_depth (run ++ t) rest
 
-pub texts_fine : (default : List ℕ) (levels m : ℕ) (ks : Nodes) → AreFine default levels m ks → AreFine default levels m (texts_joined [] ks)
-texts_fine default levels m ks h =
+pub texts_bounded : (default : List ℕ) (levels m : ℕ) (ks : Nodes) → AreBounded default levels m ks → AreBounded default levels m (texts_joined [] ks)
+texts_bounded default levels m ks h =
     let a = h.shallow in
     let b = h.short in
     let none = text_nothing in
@@ -124,58 +124,58 @@ texts_fine default levels m ks h =
 
 -- ---- the message for the sessions of an account
 
-id_fine : (by : List ℕ) (number : Option ℕ) → Said 12282 by → AreFine client_ns 1 12900 (id_node by number)
-id_fine by None h = nodes_more client_ns 0 1 0 12900 no_nodes (no_nodes_fine client_ns) (omega arith) (omega arith)
-id_fine by (Some n) h =
+id_bounded : (by : List ℕ) (number : Option ℕ) → Said 12282 by → AreBounded client_ns 1 12900 (id_node by number)
+id_bounded by None h = nodes_more client_ns 0 1 0 12900 no_nodes (no_nodes_bounded client_ns) (omega arith) (omega arith)
+id_bounded by (Some n) h =
     only_child client_ns 1 12900 (stanza_id_elem (record { id = id_of n; by = by }))
-    (fine_more client_ns 1 1 12874 12900 (stanza_id_elem (record { id = id_of n; by = by }))
+    (bounded_more client_ns 1 1 12874 12900 (stanza_id_elem (record { id = id_of n; by = by }))
     (with_none client_ns stanza_ids (codes "stanza-id") (attribute [] (codes "by") by ∷ attribute [] (codes "id") (id_of n) ∷ []) 2 12474 (space stanza_ids refl) (word (codes "stanza-id") refl)
     (two_attributes 12282 96 (codes "by") by (codes "id") (id_of n) (word (codes "by") refl) h (word (codes "id") refl) (said_hex n)) (omega arith))
     (omega arith) (omega arith))
 
-pub passed_nodes_fine : (by : List ℕ) (number : Option ℕ) (m : ℕ) (ks : Nodes) → Said 12282 by → AreFine client_ns 31 m ks → AreFine client_ns 31 (m + 12900) (passed_nodes by number ks)
-passed_nodes_fine by number m ks h k =
-    joined_fine client_ns 31 m 12900 (texts_joined [] (without_ids by ks)) (id_node by number) (texts_fine client_ns 31 m (without_ids by ks) (kept_fine client_ns by 31 m ks k))
-    (nodes_more client_ns 1 31 12900 12900 (id_node by number) (id_fine by number h) (omega arith) (omega arith))
+pub passed_nodes_bounded : (by : List ℕ) (number : Option ℕ) (m : ℕ) (ks : Nodes) → Said 12282 by → AreBounded client_ns 31 m ks → AreBounded client_ns 31 (m + 12900) (passed_nodes by number ks)
+passed_nodes_bounded by number m ks h k =
+    joined_bounded client_ns 31 m 12900 (texts_joined [] (without_ids by ks)) (id_node by number) (texts_bounded client_ns 31 m (without_ids by ks) (kept_bounded client_ns by 31 m ks k))
+    (nodes_more client_ns 1 31 12900 12900 (id_node by number) (id_bounded by number h) (omega arith) (omega arith))
 
 -- in whatever default namespace it is written
-pub passed_fine : (default by : List ℕ) (number : Option ℕ) (m : MessageView) → Said 12282 by → MessageFits m → IsFine default 32 2200000 (passed_elem by number m)
-passed_fine default by number m h k =
+pub passed_bounded : (default by : List ℕ) (number : Option ℕ) (m : MessageView) → Said 12282 by → MessageFits m → IsBounded default 32 2200000 (passed_elem by number m)
+passed_bounded default by number m h k =
     let within = k.within in
-    fine_more default 32 32 (18426 + k.id_bytes + 18426 + 1048576 + (k.payload_bytes + 12900) + 700) 2200000 (passed_elem by number m)
-    (stanza_fine default (codes "message") m.from (unless_empty m.id) m.to (Some (message_type m.kind)) (unless_empty m.lang) (passed_nodes by number m.payload) 18426 k.id_bytes 18426 1048576 31 (k.payload_bytes + 12900)
-    (word (codes "message") refl) k.from (unless_said k.id_bytes m.id k.id) k.to (message_kind_said m.kind) (unless_said 1048576 m.lang k.lang) (passed_nodes_fine by number k.payload_bytes m.payload h k.payload))
+    bounded_more default 32 32 (18426 + k.id_bytes + 18426 + 1048576 + (k.payload_bytes + 12900) + 700) 2200000 (passed_elem by number m)
+    (stanza_bounded default (codes "message") m.from (unless_empty m.id) m.to (Some (message_type m.kind)) (unless_empty m.lang) (passed_nodes by number m.payload) 18426 k.id_bytes 18426 1048576 31 (k.payload_bytes + 12900)
+    (word (codes "message") refl) k.from (unless_said k.id_bytes m.id k.id) k.to (message_kind_said m.kind) (unless_said 1048576 m.lang k.lang) (passed_nodes_bounded by number k.payload_bytes m.payload h k.payload))
     (omega arith) (omega (arith, within))
 
 pub passed_read : (by : List ℕ) (number : Option ℕ) (m : MessageView) → Said 12282 by → MessageFits m → ClientReads (passed_elem by number m)
 passed_read by number m h k =
-    reads (passed_elem by number m) 32 2200000 (passed_IsTree by number m k.tidy) (passed_fine client_ns by number m h k) (other_space client_ns (codes "message") refl) (omega arith) (omega arith)
+    reads (passed_elem by number m) 32 2200000 (passed_IsTree by number m k.tidy) (passed_bounded client_ns by number m h k) (other_space client_ns (codes "message") refl) (omega arith) (omega arith)
 
 -- ---- forwarded, and copied
 
-pub forwarded_fine : (default : List ℕ) (ms levels m : ℕ) (e : Elem) → IsFine (default_inside default forwarding) levels m e → 1 ≤ levels → IsFine default (levels + 1) (m + 1000) (forwarded_elem (stamp_at ms) e)
-forwarded_fine default ms levels m e h some =
+pub forwarded_bounded : (default : List ℕ) (ms levels m : ℕ) (e : Elem) → IsBounded (default_inside default forwarding) levels m e → 1 ≤ levels → IsBounded default (levels + 1) (m + 1000) (forwarded_elem (stamp_at ms) e)
+forwarded_bounded default ms levels m e h some =
     let inner = default_inside default forwarding in
     let delay =
     with_none inner delays (codes "delay") (attribute [] (codes "stamp") (stamp_at ms) ∷ []) 1 192 (space delays refl) (word (codes "delay") refl) (one_attribute 144 (codes "stamp") (stamp_at ms) (word (codes "stamp") refl) (stamp_said ms))
     (omega arith) in
     let kids = child (delay_elem (stamp_at ms)) (child e no_nodes) in
-    let inside = child_fine inner levels 592 m (delay_elem (stamp_at ms)) (child e no_nodes) (fine_more inner 1 levels 592 592 (delay_elem (stamp_at ms)) delay some (omega arith)) (only_child inner levels m e h) in
-    fine_more default (levels + 1) (levels + 1) (0 + (592 + m) + 400) (m + 1000) (forwarded_elem (stamp_at ms) e)
-    (fine_element default forwarding (codes "forwarded") [] kids 0 0 levels (592 + m) (space forwarding refl) (word (codes "forwarded") refl) no_attributes (omega arith) inside) (omega arith) (omega arith)
+    let inside = child_bounded inner levels 592 m (delay_elem (stamp_at ms)) (child e no_nodes) (bounded_more inner 1 levels 592 592 (delay_elem (stamp_at ms)) delay some (omega arith)) (only_child inner levels m e h) in
+    bounded_more default (levels + 1) (levels + 1) (0 + (592 + m) + 400) (m + 1000) (forwarded_elem (stamp_at ms) e)
+    (bounded_element default forwarding (codes "forwarded") [] kids 0 0 levels (592 + m) (space forwarding refl) (word (codes "forwarded") refl) no_attributes (omega arith) inside) (omega arith) (omega arith)
 
-carbon_fine : (default : List ℕ) (sent : Bool) (levels m : ℕ) (e : Elem) → IsFine (default_inside default carbons) levels m e → IsFine default (levels + 1) (m + 400) (carbon_elem sent e)
-carbon_fine default true levels m e h = fine_around default carbons (codes "sent") levels m e (space carbons refl) (word (codes "sent") refl) h
-carbon_fine default false levels m e h = fine_around default carbons (codes "received") levels m e (space carbons refl) (word (codes "received") refl) h
+carbon_bounded : (default : List ℕ) (sent : Bool) (levels m : ℕ) (e : Elem) → IsBounded (default_inside default carbons) levels m e → IsBounded default (levels + 1) (m + 400) (carbon_elem sent e)
+carbon_bounded default true levels m e h = bounded_around default carbons (codes "sent") levels m e (space carbons refl) (word (codes "sent") refl) h
+carbon_bounded default false levels m e h = bounded_around default carbons (codes "received") levels m e (space carbons refl) (word (codes "received") refl) h
 
 pub copy_read : (c : CopyView) (full : List ℕ) → Said 12282 c.by → Said 18426 full → MessageFits c.message → ClientReads (copy_elem c full)
 copy_read c full h k l =
     let outer = default_inside client_ns carbons in
     let inner = default_inside outer forwarding in
-    let message = passed_fine inner c.by c.number c.message h l in
-    let forwarded = forwarded_fine outer c.moment 32 2200000 (passed_elem c.by c.number c.message) message (omega arith) in
-    let inside = only_child client_ns 34 2201400 (copied_elem c) (carbon_fine client_ns c.sent 33 2201000 (forwarded_elem (stamp_at c.moment) (passed_elem c.by c.number c.message)) forwarded) in
+    let message = passed_bounded inner c.by c.number c.message h l in
+    let forwarded = forwarded_bounded outer c.moment 32 2200000 (passed_elem c.by c.number c.message) message (omega arith) in
+    let inside = only_child client_ns 34 2201400 (copied_elem c) (carbon_bounded client_ns c.sent 33 2201000 (forwarded_elem (stamp_at c.moment) (passed_elem c.by c.number c.message)) forwarded) in
     reads (copy_elem c full) 35 (12282 + 0 + 18426 + 0 + 2201400 + 700) (copy_IsTree c full l.tidy)
-    (stanza_fine client_ns (codes "message") (Some c.by) None (Some full) (Some (message_type c.message.kind)) None (child (copied_elem c) no_nodes) 12282 0 18426 0 34 2201400 (word (codes "message") refl) h tt k
+    (stanza_bounded client_ns (codes "message") (Some c.by) None (Some full) (Some (message_type c.message.kind)) None (child (copied_elem c) no_nodes) 12282 0 18426 0 34 2201400 (word (codes "message") refl) h tt k
     (message_kind_said c.message.kind) tt inside)
     (other_space client_ns (codes "message") refl) (omega arith) (omega arith)

@@ -7,7 +7,7 @@ use Rattle.law_xml.specs.Fitting.{IsShortAttribute, NodesFit, TagFits}
 use Rattle.law_xml.specs.Plain.{ArePlainNodes, IsPlainAttribute}
 use Rattle.law_xml.specs.Spells.{IsHeaderName}
 use Rattle.xml_names.specs.Scopes.{xml_namespace, xmlns_namespace}
-use Rattle.law_limits.specs.Fine.{AreFine, ClientReads, FineAttributes, IsFine, IsSpace, IsWord, client_tags, is_space, is_word}
+use Rattle.law_limits.specs.Bounded.{AreBounded, BoundedAttributes, ClientReads, IsBounded, IsSpace, IsWord, client_tags, is_space, is_word}
 use Rattle.law_limits.proofs.Characters.{printable_characters}
 use Rattle.law_limits.proofs.ElementSizes.{child_size, element_up, joined_size, nothing_size, text_node_size}
 use Rattle.law_limits.proofs.TextSizes.{text_no_longer, value_short}
@@ -53,10 +53,10 @@ space ns h =
 no_xmlns : [] ≢ xmlns_namespace
 no_xmlns = differs [] xmlns_namespace refl
 
-pub no_attributes : FineAttributes 0 0 []
+pub no_attributes : BoundedAttributes 0 0 []
 no_attributes = record { plain = tt; local = refl; few = omega arith; short = omega arith }
 
-pub one_attribute : (m : ℕ) (name value : List ℕ) → IsWord name → Said m value → FineAttributes 1 (m + 48) (attribute [] name value ∷ [])
+pub one_attribute : (m : ℕ) (name value : List ℕ) → IsWord name → Said m value → BoundedAttributes 1 (m + 48) (attribute [] name value ∷ [])
 one_attribute m name value h k =
     let short = k.short in
     let few = h.short in
@@ -67,7 +67,7 @@ one_attribute m name value h k =
       short = omega (arith, short, few);
     }
 
-pub language : (m : ℕ) (value : List ℕ) → Said m value → FineAttributes 1 (m + 48) (attribute xml_ns (codes "lang") value ∷ [])
+pub language : (m : ℕ) (value : List ℕ) → Said m value → BoundedAttributes 1 (m + 48) (attribute xml_ns (codes "lang") value ∷ [])
 language m value k =
     let short = k.short in
     record {
@@ -98,7 +98,7 @@ size_append : (xs ys : List Attribute) → attributes_size (xs ++ ys) ≡ attrib
 size_append [] ys = omega arith
 size_append (x ∷ xs) ys = let rest = size_append xs ys in omega (arith, rest)
 
-pub attributes_joined : (i j m n : ℕ) (xs ys : List Attribute) → FineAttributes i m xs → FineAttributes j n ys → FineAttributes (i + j) (m + n) (xs ++ ys)
+pub attributes_joined : (i j m n : ℕ) (xs ys : List Attribute) → BoundedAttributes i m xs → BoundedAttributes j n ys → BoundedAttributes (i + j) (m + n) (xs ++ ys)
 attributes_joined i j m n xs ys h k =
     let a = h.few in
     let b = k.few in
@@ -111,21 +111,21 @@ attributes_joined i j m n xs ys h k =
       short = omega (arith, c, d, size_append xs ys);
     }
 
-pub attributes_more : (i j m n : ℕ) (xs : List Attribute) → FineAttributes i m xs → i ≤ j → m ≤ n → FineAttributes j n xs
+pub attributes_more : (i j m n : ℕ) (xs : List Attribute) → BoundedAttributes i m xs → i ≤ j → m ≤ n → BoundedAttributes j n xs
 attributes_more i j m n xs h many most =
     let a = h.few in let c = h.short in record { plain = h.plain; local = h.local; few = omega (arith, a, many); short = omega (arith, c, most) }
 
-pub where_given : (m : ℕ) (name : List ℕ) (o : Option (List ℕ)) → IsWord name → IfSome o (Said m) → FineAttributes 1 (m + 48) (attr_where [] name o)
+pub where_given : (m : ℕ) (name : List ℕ) (o : Option (List ℕ)) → IsWord name → IfSome o (Said m) → BoundedAttributes 1 (m + 48) (attr_where [] name o)
 where_given m name None h k = attributes_more 0 1 0 (m + 48) [] no_attributes (omega arith) (omega arith)
 where_given m name (Some value) h k = one_attribute m name value h k
 
-language_given : (m : ℕ) (o : Option (List ℕ)) → IfSome o (Said m) → FineAttributes 1 (m + 48) (attr_where xml_ns (codes "lang") o)
+language_given : (m : ℕ) (o : Option (List ℕ)) → IfSome o (Said m) → BoundedAttributes 1 (m + 48) (attr_where xml_ns (codes "lang") o)
 language_given m None k = attributes_more 0 1 0 (m + 48) [] no_attributes (omega arith) (omega arith)
 language_given m (Some value) k = language m value k
 
 -- those of a stanza
 pub stanza_attributes : (f i t k l : ℕ) (from id to kind lang : Option (List ℕ)) → IfSome from (Said f) → IfSome id (Said i) → IfSome to (Said t) → IfSome kind (Said k) → IfSome lang (Said l)
-    → FineAttributes 5 (f + i + t + k + l + 240) (attrs_written from id to kind lang)
+    → BoundedAttributes 5 (f + i + t + k + l + 240) (attrs_written from id to kind lang)
 stanza_attributes f i t k l from id to kind lang a b c d e =
     let first = where_given f (codes "from") from (word (codes "from") refl) a in
     let second = where_given i (codes "id") id (word (codes "id") refl) b in
@@ -168,7 +168,7 @@ no_prefixes (a ∷ more) h =
 short_space : (ns : List ℕ) → IsSpace ns → value_size ns ≤ 240
 short_space ns h = h.short
 
-tag_fits : (default ns : List ℕ) (attrs : List Attribute) (many most : ℕ) → IsSpace ns → FineAttributes many most attrs → many ≤ 100 → TagFits client_tags default ns attrs
+tag_fits : (default ns : List ℕ) (attrs : List Attribute) (many most : ℕ) → IsSpace ns → BoundedAttributes many most attrs → many ≤ 100 → TagFits client_tags default ns attrs
 unfolding value_size
 tag_fits default ns attrs many most h k within =
     let few = k.few in
@@ -184,9 +184,9 @@ tag_fits default ns attrs many most h k within =
 -- ---- elements and nodes
 
 -- with some 400 bytes for the tags themselves
-pub fine_element : (default ns name : List ℕ) (attrs : List Attribute) (kids : Nodes) (many m levels n : ℕ) → IsSpace ns → IsWord name → FineAttributes many m attrs → many ≤ 100
-    → AreFine (default_inside default ns) levels n kids → IsFine default (levels + 1) (m + n + 400) (element ns name attrs kids)
-fine_element default ns name attrs kids many m levels n h k l within inside =
+pub bounded_element : (default ns name : List ℕ) (attrs : List Attribute) (kids : Nodes) (many m levels n : ℕ) → IsSpace ns → IsWord name → BoundedAttributes many m attrs → many ≤ 100
+    → AreBounded (default_inside default ns) levels n kids → IsBounded default (levels + 1) (m + n + 400) (element ns name attrs kids)
+bounded_element default ns name attrs kids many m levels n h k l within inside =
     let deep = inside.shallow in
     let long = inside.short in
     let attributes = l.short in
@@ -200,19 +200,19 @@ fine_element default ns name attrs kids many m levels n h k l within inside =
       short = omega (arith, long, attributes, wide, space, up);
     }
 
-pub fine_more : (default : List ℕ) (i j m n : ℕ) (e : Elem) → IsFine default i m e → i ≤ j → m ≤ n → IsFine default j n e
-fine_more default i j m n e h deep long =
+pub bounded_more : (default : List ℕ) (i j m n : ℕ) (e : Elem) → IsBounded default i m e → i ≤ j → m ≤ n → IsBounded default j n e
+bounded_more default i j m n e h deep long =
     let a = h.shallow in let b = h.short in record { plain = h.plain; tags = h.tags; shallow = omega (arith, a, deep); short = omega (arith, b, long) }
 
-pub nodes_more : (default : List ℕ) (i j m n : ℕ) (ks : Nodes) → AreFine default i m ks → i ≤ j → m ≤ n → AreFine default j n ks
+pub nodes_more : (default : List ℕ) (i j m n : ℕ) (ks : Nodes) → AreBounded default i m ks → i ≤ j → m ≤ n → AreBounded default j n ks
 nodes_more default i j m n ks h deep long =
     let a = h.shallow in let b = h.short in record { plain = h.plain; tags = h.tags; shallow = omega (arith, a, deep); short = omega (arith, b, long) }
 
-pub no_nodes_fine : (default : List ℕ) → AreFine default 0 0 no_nodes
-no_nodes_fine default = let none = nothing_size default in record { plain = tt; tags = tt; shallow = omega arith; short = omega (arith, none) }
+pub no_nodes_bounded : (default : List ℕ) → AreBounded default 0 0 no_nodes
+no_nodes_bounded default = let none = nothing_size default in record { plain = tt; tags = tt; shallow = omega arith; short = omega (arith, none) }
 
-pub child_fine : (default : List ℕ) (levels m n : ℕ) (e : Elem) (rest : Nodes) → IsFine default levels m e → AreFine default levels n rest → AreFine default levels (m + n) (child e rest)
-child_fine default levels m n e rest h k =
+pub child_bounded : (default : List ℕ) (levels m n : ℕ) (e : Elem) (rest : Nodes) → IsBounded default levels m e → AreBounded default levels n rest → AreBounded default levels (m + n) (child e rest)
+child_bounded default levels m n e rest h k =
     let a = h.shallow in
     let b = k.shallow in
     let c = h.short in
@@ -220,12 +220,12 @@ child_fine default levels m n e rest h k =
     let both = child_size default e rest in
     record { plain = (h.plain, k.plain); tags = (h.tags, k.tags); shallow = omega (arith, a, b); short = omega (arith, c, d, both) }
 
-pub only_child : (default : List ℕ) (levels m : ℕ) (e : Elem) → IsFine default levels m e → AreFine default levels m (child e no_nodes)
+pub only_child : (default : List ℕ) (levels m : ℕ) (e : Elem) → IsBounded default levels m e → AreBounded default levels m (child e no_nodes)
 only_child default levels m e h =
-    nodes_more default levels levels (m + 0) m (child e no_nodes) (child_fine default levels m 0 e no_nodes h (nodes_more default 0 levels 0 0 no_nodes (no_nodes_fine default) (omega arith) (omega arith))) (omega arith) (omega arith)
+    nodes_more default levels levels (m + 0) m (child e no_nodes) (child_bounded default levels m 0 e no_nodes h (nodes_more default 0 levels 0 0 no_nodes (no_nodes_bounded default) (omega arith) (omega arith))) (omega arith) (omega arith)
 
-pub joined_fine : (default : List ℕ) (levels m n : ℕ) (ks more : Nodes) → AreFine default levels m ks → AreFine default levels n more → AreFine default levels (m + n) (joined ks more)
-joined_fine default levels m n ks more h k =
+pub joined_bounded : (default : List ℕ) (levels m n : ℕ) (ks more : Nodes) → AreBounded default levels m ks → AreBounded default levels n more → AreBounded default levels (m + n) (joined ks more)
+joined_bounded default levels m n ks more h k =
     let c = h.short in
     let d = k.short in
     let both = joined_size default ks more in
@@ -246,25 +246,25 @@ joined_fine default levels m n ks more h k =
     shallow (child e rest) ys p q = let r = shallow rest ys (omega (arith, p)) q in omega (arith, p, r)
     shallow (text t rest) ys p q = shallow rest ys p q
 
-pub text_fine : (default : List ℕ) (t : List ℕ) (m : ℕ) → IsCharacters t → text_size t ≤ m → AreFine default 0 m (text_node t)
-text_fine default [] m h short = let size = text_node_size default [] in record { plain = tt; tags = tt; shallow = omega arith; short = omega (arith, size, short) }
-text_fine default (c ∷ cs) m h short = let size = text_node_size default (c ∷ cs) in record { plain = (h, tt); tags = tt; shallow = omega arith; short = omega (arith, size, short) }
+pub text_bounded : (default : List ℕ) (t : List ℕ) (m : ℕ) → IsCharacters t → text_size t ≤ m → AreBounded default 0 m (text_node t)
+text_bounded default [] m h short = let size = text_node_size default [] in record { plain = tt; tags = tt; shallow = omega arith; short = omega (arith, size, short) }
+text_bounded default (c ∷ cs) m h short = let size = text_node_size default (c ∷ cs) in record { plain = (h, tt); tags = tt; shallow = omega arith; short = omega (arith, size, short) }
 
-pub said_fine : (default : List ℕ) (t : List ℕ) (m : ℕ) → Said m t → AreFine default 0 m (text_node t)
-said_fine default t m h = let value = text_no_longer t in let short = h.short in text_fine default t m h.characters (omega (arith, value, short))
+pub said_bounded : (default : List ℕ) (t : List ℕ) (m : ℕ) → Said m t → AreBounded default 0 m (text_node t)
+said_bounded default t m h = let value = text_no_longer t in let short = h.short in text_bounded default t m h.characters (omega (arith, value, short))
 
 -- an element without attributes that contains nothing
-pub fine_bare : (default ns name : List ℕ) → IsSpace ns → IsWord name → IsFine default 1 400 (element ns name [] no_nodes)
-fine_bare default ns name h k = fine_element default ns name [] no_nodes 0 0 0 0 h k no_attributes (omega arith) (no_nodes_fine (default_inside default ns))
+pub bounded_bare : (default ns name : List ℕ) → IsSpace ns → IsWord name → IsBounded default 1 400 (element ns name [] no_nodes)
+bounded_bare default ns name h k = bounded_element default ns name [] no_nodes 0 0 0 0 h k no_attributes (omega arith) (no_nodes_bounded (default_inside default ns))
 
 -- ---- at the top
 
-pub reads : (e : Elem) (levels most : ℕ) → IsTree e → IsFine client_ns levels most e → ¬ (IsHeaderName (namespace_of e) (name_of e)) → levels ≤ 64 → most ≤ 4194304 → ClientReads e
+pub reads : (e : Elem) (levels most : ℕ) → IsTree e → IsBounded client_ns levels most e → ¬ (IsHeaderName (namespace_of e) (name_of e)) → levels ≤ 64 → most ≤ 4194304 → ClientReads e
 unfolding element_size
-reads e levels most tree fine other deep long =
-    let a = fine.shallow in
-    let b = fine.short in
-    record { tree = tree; plain = record { inside = fine.plain; no_header = other }; fits = record { short = omega (arith, b, long); shallow = omega (arith, a, deep); tags = fine.tags } }
+reads e levels most tree bounded other deep long =
+    let a = bounded.shallow in
+    let b = bounded.short in
+    record { tree = tree; plain = record { inside = bounded.plain; no_header = other }; fits = record { short = omega (arith, b, long); shallow = omega (arith, a, deep); tags = bounded.tags } }
 
 -- a namespace that isn't that of streams, or a name that isn't a header's
 pub other_space : (ns name : List ℕ) → bytes_eq ns streams_namespace ≡ false → ¬ (IsHeaderName ns name)

@@ -19,7 +19,7 @@ use Rattle.im_payload.specs.Readings.{where_this}
 use Rattle.im_payload.specs.declared.fault.ExtFault.{ExtFault}
 use Rattle.law_limits.proofs.Forwarding.{attribute_characters, text_characters}
 use Rattle.law_limits.proofs.Requests.{inside_client}
-use Rattle.law_limits.specs.Fine.{client_tags}
+use Rattle.law_limits.specs.Bounded.{client_tags}
 use Rattle.law_limits.specs.Messages.{MessageFits}
 use Rattle.im_login.specs.Sasl.{is_sasl}
 use Rattle.law_limits.specs.Keeps.{Comes, IsShort}

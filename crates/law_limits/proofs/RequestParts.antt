@@ -15,7 +15,7 @@ use Rattle.xml_trees.proofs.AttributeOrder.{sorted_attributes_IsAttrsOf}
 use Rattle.xml_trees.specs.Attributes.{Attribute, attribute, name_order, sorted_attributes}
 use Rattle.xml_trees.specs.Tidied.{text_node}
 use Rattle.xml_trees.specs.Trees.{AreTidy, Elem, IsTree, Nodes, child, depth, depth_below, element, no_nodes}
-use Rattle.xml_writer.specs.Canon.{behind_attributes, default_inside, has_nothing, opened, spelled_name, tag_attributes, written, written_end_tag, written_nodes, assignments}
+use Rattle.xml_writer.specs.Canon.{after_attributes, default_inside, has_nothing, opened, spelled_name, tag_attributes, written, written_end_tag, written_nodes, assignments}
 use Rattle.im_stanza.specs.Written.{attr_where}
 use Rattle.law_limits.specs.Bounds.{IsTextWithin}
 use Rattle.law_xml.specs.Fitting.{IsShortAttribute, NodesFit, TagFits, TagsFit}
@@ -194,7 +194,7 @@ wider e m n d k more deep h = record { tree = h.tree; plain = h.plain; short = �
 pub wider_nodes : (ks : Nodes) (m n d k : ℕ) → m ≤ n → d ≤ k → AreSmall ks m d → AreSmall ks n k
 wider_nodes ks m n d k more deep h = record { tidy = h.tidy; plain = h.plain; short = λ default. omega (arith, h.short default, more); shallow = omega (arith, h.shallow, deep); tags = h.tags }
 
-end_long : (ns name inside : List ℕ) (nothing : Bool) (most : ℕ) → length inside ≤ most → length (behind_attributes nothing ns name inside) ≤ 12 + length name + most
+end_long : (ns name inside : List ℕ) (nothing : Bool) (most : ℕ) → length inside ≤ most → length (after_attributes nothing ns name inside) ≤ 12 + length name + most
 end_long ns name inside true most short = omega arith
 end_long ns name inside false most short =
     let n = spelled_name ns name in
@@ -210,7 +210,7 @@ module _ (ns name : List ℕ) (attrs : List Attribute) (kids : Nodes) (cost most
       let within = few.within in
       omega (
         arith,
-        length-append (opened default ns name attrs) (behind_attributes (has_nothing kids) ns name body),
+        length-append (opened default ns name attrs) (after_attributes (has_nothing kids) ns name body),
         length-append (spelled_name ns name) (assignments l),
         name_short ns name,
         t.bytes,

@@ -10,9 +10,9 @@ use Rattle.im_login.proofs.DiscoveryLaws.{items_stay, told_stays}
 use Rattle.im_login.specs.Discovery.{Told, account, disco_info_elem, disco_items_elem, feature_elem, feature_elems, identity_elem, server, server_features}
 use Rattle.im_payload.specs.Bare.{bare}
 use Rattle.im_payload.specs.Names.{archive, binding, carbons, disco_info, disco_items, management, pings, roster, stanza_ids}
-use Rattle.law_limits.proofs.PutParts.{attributes_joined, child_fine, fine_bare, fine_element, fine_more, no_attributes, no_nodes_fine, nodes_more, one_attribute, only_child, other_space, reads, said_fine, space, stanza_attributes, where_given, word}
-use Rattle.law_limits.proofs.PutReplies.{fine_around, known_word, two_attributes, with_none}
-use Rattle.law_limits.specs.Fine.{AreFine, ClientReads, IsFine, IsWord}
+use Rattle.law_limits.proofs.PutParts.{attributes_joined, bounded_bare, bounded_element, bounded_more, child_bounded, no_attributes, no_nodes_bounded, nodes_more, one_attribute, only_child, other_space, reads, said_bounded, space, stanza_attributes, where_given, word}
+use Rattle.law_limits.proofs.PutReplies.{bounded_around, known_word, two_attributes, with_none}
+use Rattle.law_limits.specs.Bounded.{AreBounded, ClientReads, IsBounded, IsWord}
 use Rattle.im_replies.specs.Requests.{EnvelopeView}
 use Rattle.law_limits.proofs.Characters.{said_word}
 use Rattle.law_limits.proofs.Numerals.{said_decimal, said_hex}
@@ -75,21 +75,21 @@ iq_kind_said iq.Error = said_word 60 (codes "error") refl refl
 -- ---- stanzas
 
 -- a stanza whose attributes take these bytes, with these nodes inside
-pub stanza_fine : (default name : List ℕ) (from id to kind lang : Option (List ℕ)) (kids : Nodes) (f i t l levels n : ℕ) → IsWord name → IfSome from (Said f) → IfSome id (Said i) → IfSome to (Said t) → IfSome kind (Said 60)
-    → IfSome lang (Said l) → AreFine client_ns levels n kids → IsFine default (levels + 1) (f + i + t + l + n + 700) (element client_ns name (attrs_written from id to kind lang) kids)
-stanza_fine default name from id to kind lang kids f i t l levels n w a b c d e inside =
+pub stanza_bounded : (default name : List ℕ) (from id to kind lang : Option (List ℕ)) (kids : Nodes) (f i t l levels n : ℕ) → IsWord name → IfSome from (Said f) → IfSome id (Said i) → IfSome to (Said t) → IfSome kind (Said 60)
+    → IfSome lang (Said l) → AreBounded client_ns levels n kids → IsBounded default (levels + 1) (f + i + t + l + n + 700) (element client_ns name (attrs_written from id to kind lang) kids)
+stanza_bounded default name from id to kind lang kids f i t l levels n w a b c d e inside =
     let attributes = stanza_attributes f i t 60 l from id to kind lang a b c d e in
-    fine_more default (levels + 1) (levels + 1) (f + i + t + 60 + l + 240 + n + 400) (f + i + t + l + n + 700) (element client_ns name (attrs_written from id to kind lang) kids)
-    (fine_element default client_ns name (attrs_written from id to kind lang) kids 5 (f + i + t + 60 + l + 240) levels n (space client_ns refl) w attributes (omega arith) (subst (λ d. AreFine d levels n kids) (sym (inside_client default)) inside))
+    bounded_more default (levels + 1) (levels + 1) (f + i + t + 60 + l + 240 + n + 400) (f + i + t + l + n + 700) (element client_ns name (attrs_written from id to kind lang) kids)
+    (bounded_element default client_ns name (attrs_written from id to kind lang) kids 5 (f + i + t + 60 + l + 240) levels n (space client_ns refl) w attributes (omega arith) (subst (λ d. AreBounded d levels n kids) (sym (inside_client default)) inside))
     (omega arith) (omega arith)
 
-pub error_fine : (default : List ℕ) (e : StanzaError) → IsKnown e.condition → IsFine default 2 1000 (error_elem e)
-error_fine default e known =
+pub error_bounded : (default : List ℕ) (e : StanzaError) → IsKnown e.condition → IsBounded default 2 1000 (error_elem e)
+error_bounded default e known =
     let inner = default_inside default client_ns in
     let condition = element stanza_errors_ns (condition_name e.condition) [] no_nodes in
-    let inside = only_child inner 1 400 condition (fine_bare inner stanza_errors_ns (condition_name e.condition) (space stanza_errors_ns refl) (known_word e.condition known)) in
-    fine_more default 2 2 (108 + 400 + 400) 1000 (error_elem e)
-    (fine_element default client_ns (codes "error") (attribute [] (codes "type") (error_type e.kind) ∷ []) (child condition no_nodes) 1 108 1 400 (space client_ns refl) (word (codes "error") refl)
+    let inside = only_child inner 1 400 condition (bounded_bare inner stanza_errors_ns (condition_name e.condition) (space stanza_errors_ns refl) (known_word e.condition known)) in
+    bounded_more default 2 2 (108 + 400 + 400) 1000 (error_elem e)
+    (bounded_element default client_ns (codes "error") (attribute [] (codes "type") (error_type e.kind) ∷ []) (child condition no_nodes) 1 108 1 400 (space client_ns refl) (word (codes "error") refl)
     (one_attribute 60 (codes "type") (error_type e.kind) (word (codes "type") refl) (error_kind_said e.kind)) (omega arith) inside)
     (omega arith) (omega arith)
 
@@ -97,16 +97,16 @@ pub bounce_read : (f i : ℕ) (from id : List ℕ) (e : StanzaError) → Said f 
 bounce_read f i from id e a b known short =
     reads (bounce_elem from id e) 3 (f + i + 0 + 0 + 1000 + 700)
     (stays_tree (bounce_elem from id e) (λ j. element client_ns (codes "message") (attrs_stay (Some from) (unless_empty id) None (Some (message_type message.Error)) None j) (child (error_elem e) no_nodes)))
-    (stanza_fine client_ns (codes "message") (Some from) (unless_empty id) None (Some (message_type message.Error)) None (child (error_elem e) no_nodes) f i 0 0 2 1000 (word (codes "message") refl) a (unless_said i id b) tt
-    (message_kind_said message.Error) tt (only_child client_ns 2 1000 (error_elem e) (error_fine client_ns e known)))
+    (stanza_bounded client_ns (codes "message") (Some from) (unless_empty id) None (Some (message_type message.Error)) None (child (error_elem e) no_nodes) f i 0 0 2 1000 (word (codes "message") refl) a (unless_said i id b) tt
+    (message_kind_said message.Error) tt (only_child client_ns 2 1000 (error_elem e) (error_bounded client_ns e known)))
     (other_space client_ns (codes "message") refl) (omega arith) (omega (arith, short))
 
 pub presence_bounce_read : (f i : ℕ) (from id : List ℕ) (e : StanzaError) → Said f from → Said i id → IsKnown e.condition → f + i ≤ 4000000 → ClientReads (presence_bounce_elem from id e)
 presence_bounce_read f i from id e a b known short =
     reads (presence_bounce_elem from id e) 3 (f + i + 0 + 0 + 1000 + 700)
     (stays_tree (presence_bounce_elem from id e) (λ j. element client_ns (codes "presence") (attrs_stay (Some from) (unless_empty id) None (presence_type presence.Error) None j) (child (error_elem e) no_nodes)))
-    (stanza_fine client_ns (codes "presence") (Some from) (unless_empty id) None (presence_type presence.Error) None (child (error_elem e) no_nodes) f i 0 0 2 1000 (word (codes "presence") refl) a (unless_said i id b) tt
-    (said_word 60 (codes "error") refl refl) tt (only_child client_ns 2 1000 (error_elem e) (error_fine client_ns e known)))
+    (stanza_bounded client_ns (codes "presence") (Some from) (unless_empty id) None (presence_type presence.Error) None (child (error_elem e) no_nodes) f i 0 0 2 1000 (word (codes "presence") refl) a (unless_said i id b) tt
+    (said_word 60 (codes "error") refl refl) tt (only_child client_ns 2 1000 (error_elem e) (error_bounded client_ns e known)))
     (other_space client_ns (codes "presence") refl) (omega arith) (omega (arith, short))
 
 pub iq_error_read : (f i t : ℕ) (from to : Option (List ℕ)) (id : List ℕ) (e : StanzaError) → IfSome from (Said f) → Said i id → IfSome to (Said t) → IsKnown e.condition → f + i + t ≤ 4000000
@@ -114,74 +114,74 @@ pub iq_error_read : (f i t : ℕ) (from to : Option (List ℕ)) (id : List ℕ) 
 iq_error_read f i t from to id e a b c known short =
     reads (iq_error_elem from to id e) 3 (f + i + t + 0 + 1000 + 700)
     (stays_tree (iq_error_elem from to id e) (λ j. element client_ns (codes "iq") (attrs_stay from (Some id) to (Some (iq_type iq.Error)) None j) (child (error_elem e) no_nodes)))
-    (stanza_fine client_ns (codes "iq") from (Some id) to (Some (iq_type iq.Error)) None (child (error_elem e) no_nodes) f i t 0 2 1000 (word (codes "iq") refl) a b c (iq_kind_said iq.Error) tt
-    (only_child client_ns 2 1000 (error_elem e) (error_fine client_ns e known)))
+    (stanza_bounded client_ns (codes "iq") from (Some id) to (Some (iq_type iq.Error)) None (child (error_elem e) no_nodes) f i t 0 2 1000 (word (codes "iq") refl) a b c (iq_kind_said iq.Error) tt
+    (only_child client_ns 2 1000 (error_elem e) (error_bounded client_ns e known)))
     (other_space client_ns (codes "iq") refl) (omega arith) (omega (arith, short))
 
-pub result_read : (f i t levels n : ℕ) (a : EnvelopeView) (payload : Nodes) → IfSome a.from (Said f) → Said i a.id → IfSome a.to (Said t) → tidied_nodes payload ≡ payload → AreFine client_ns levels n payload
+pub result_read : (f i t levels n : ℕ) (a : EnvelopeView) (payload : Nodes) → IfSome a.from (Said f) → Said i a.id → IfSome a.to (Said t) → tidied_nodes payload ≡ payload → AreBounded client_ns levels n payload
     → levels ≤ 60 → f + i + t + n ≤ 4000000 → ClientReads (iq_elem (record { from = a.from; to = a.to; id = a.id; kind = iq.Result; payload = payload }))
 result_read f i t levels n a payload b c d stays inside deep short =
     let e = iq_elem (record { from = a.from; to = a.to; id = a.id; kind = iq.Result; payload = payload }) in
     reads e (levels + 1) (f + i + t + 0 + n + 700) (stays_tree e (λ j. element client_ns (codes "iq") (attrs_stay a.from (Some a.id) a.to (Some (iq_type iq.Result)) None j) (stays j)))
-    (stanza_fine client_ns (codes "iq") a.from (Some a.id) a.to (Some (iq_type iq.Result)) None payload f i t 0 levels n (word (codes "iq") refl) b c d (iq_kind_said iq.Result) tt inside) (other_space client_ns (codes "iq") refl) (omega (arith, deep))
+    (stanza_bounded client_ns (codes "iq") a.from (Some a.id) a.to (Some (iq_type iq.Result)) None payload f i t 0 levels n (word (codes "iq") refl) b c d (iq_kind_said iq.Result) tt inside) (other_space client_ns (codes "iq") refl) (omega (arith, deep))
     (omega (arith, short))
 
 -- ---- payloads
 
-pub nothing_fine : AreFine client_ns 0 0 no_nodes
-nothing_fine = no_nodes_fine client_ns
+pub nothing_bounded : AreBounded client_ns 0 0 no_nodes
+nothing_bounded = no_nodes_bounded client_ns
 
-pub roster_fine : AreFine client_ns 1 400 (child (bare roster (codes "query")) no_nodes)
-roster_fine = only_child client_ns 1 400 (bare roster (codes "query")) (fine_bare client_ns roster (codes "query") (space roster refl) (word (codes "query") refl))
+pub roster_bounded : AreBounded client_ns 1 400 (child (bare roster (codes "query")) no_nodes)
+roster_bounded = only_child client_ns 1 400 (bare roster (codes "query")) (bounded_bare client_ns roster (codes "query") (space roster refl) (word (codes "query") refl))
 
-feature_fine : (default namespace : List ℕ) (m : ℕ) → Said m namespace → IsFine default 1 (m + 460) (feature_elem namespace)
-feature_fine default namespace m h =
-    fine_more default 1 1 (m + 48 + 400) (m + 460) (feature_elem namespace)
+feature_bounded : (default namespace : List ℕ) (m : ℕ) → Said m namespace → IsBounded default 1 (m + 460) (feature_elem namespace)
+feature_bounded default namespace m h =
+    bounded_more default 1 1 (m + 48 + 400) (m + 460) (feature_elem namespace)
     (with_none default disco_info (codes "feature") (attribute [] (codes "var") namespace ∷ []) 1 (m + 48) (space disco_info refl) (word (codes "feature") refl) (one_attribute m (codes "var") namespace (word (codes "var") refl) h) (omega arith))
     (omega arith) (omega arith)
 
-features_fine : (default : List ℕ) → AreFine default 1 3800 (feature_elems server_features)
-features_fine default =
-    let none = nodes_more default 0 1 0 0 no_nodes (no_nodes_fine default) (omega arith) (omega arith) in
-    let one = child_fine default 1 600 0 (feature_elem stanza_ids) no_nodes (feature_fine default stanza_ids 140 (said_word 140 stanza_ids refl refl)) none in
-    let two = child_fine default 1 600 600 (feature_elem pings) (feature_elems (stanza_ids ∷ [])) (feature_fine default pings 140 (said_word 140 pings refl refl)) one in
-    let three = child_fine default 1 600 1200 (feature_elem archive) (feature_elems (pings ∷ stanza_ids ∷ [])) (feature_fine default archive 140 (said_word 140 archive refl refl)) two in
-    let four = child_fine default 1 600 1800 (feature_elem carbons) (feature_elems (archive ∷ pings ∷ stanza_ids ∷ [])) (feature_fine default carbons 140 (said_word 140 carbons refl refl)) three in
-    let five = child_fine default 1 700 2400 (feature_elem disco_items) (feature_elems (carbons ∷ archive ∷ pings ∷ stanza_ids ∷ [])) (feature_fine default disco_items 240 (said_word 240 disco_items refl refl)) four in
-    child_fine default 1 700 3100 (feature_elem disco_info) (feature_elems (disco_items ∷ carbons ∷ archive ∷ pings ∷ stanza_ids ∷ [])) (feature_fine default disco_info 240 (said_word 240 disco_info refl refl)) five
+features_bounded : (default : List ℕ) → AreBounded default 1 3800 (feature_elems server_features)
+features_bounded default =
+    let none = nodes_more default 0 1 0 0 no_nodes (no_nodes_bounded default) (omega arith) (omega arith) in
+    let one = child_bounded default 1 600 0 (feature_elem stanza_ids) no_nodes (feature_bounded default stanza_ids 140 (said_word 140 stanza_ids refl refl)) none in
+    let two = child_bounded default 1 600 600 (feature_elem pings) (feature_elems (stanza_ids ∷ [])) (feature_bounded default pings 140 (said_word 140 pings refl refl)) one in
+    let three = child_bounded default 1 600 1200 (feature_elem archive) (feature_elems (pings ∷ stanza_ids ∷ [])) (feature_bounded default archive 140 (said_word 140 archive refl refl)) two in
+    let four = child_bounded default 1 600 1800 (feature_elem carbons) (feature_elems (archive ∷ pings ∷ stanza_ids ∷ [])) (feature_bounded default carbons 140 (said_word 140 carbons refl refl)) three in
+    let five = child_bounded default 1 700 2400 (feature_elem disco_items) (feature_elems (carbons ∷ archive ∷ pings ∷ stanza_ids ∷ [])) (feature_bounded default disco_items 240 (said_word 240 disco_items refl refl)) four in
+    child_bounded default 1 700 3100 (feature_elem disco_info) (feature_elems (disco_items ∷ carbons ∷ archive ∷ pings ∷ stanza_ids ∷ [])) (feature_bounded default disco_info 240 (said_word 240 disco_info refl refl)) five
 
-info_fine : (told : Told) → Said 60 told.0 → Said 60 told.1 → AreFine client_ns 2 5000 (child (disco_info_elem (told ∷ []) server_features) no_nodes)
-info_fine told h k =
+info_bounded : (told : Told) → Said 60 told.0 → Said 60 told.1 → AreBounded client_ns 2 5000 (child (disco_info_elem (told ∷ []) server_features) no_nodes)
+info_bounded told h k =
     let inner = default_inside client_ns disco_info in
     let identity =
     with_none inner disco_info (codes "identity") (attribute [] (codes "category") told.0 ∷ attribute [] (codes "type") told.1 ∷ []) 2 216 (space disco_info refl) (word (codes "identity") refl)
     (two_attributes 60 60 (codes "category") told.0 (codes "type") told.1 (word (codes "category") refl) h (word (codes "type") refl) k) (omega arith) in
     let kids = child (identity_elem told) (feature_elems server_features) in
-    let inside = child_fine inner 1 616 3800 (identity_elem told) (feature_elems server_features) identity (features_fine inner) in
-    let whole = fine_element client_ns disco_info (codes "query") [] kids 0 0 1 (616 + 3800) (space disco_info refl) (word (codes "query") refl) no_attributes (omega arith) inside in
-    only_child client_ns 2 5000 (disco_info_elem (told ∷ []) server_features) (fine_more client_ns 2 2 (0 + (616 + 3800) + 400) 5000 (disco_info_elem (told ∷ []) server_features) whole (omega arith) (omega arith))
+    let inside = child_bounded inner 1 616 3800 (identity_elem told) (feature_elems server_features) identity (features_bounded inner) in
+    let whole = bounded_element client_ns disco_info (codes "query") [] kids 0 0 1 (616 + 3800) (space disco_info refl) (word (codes "query") refl) no_attributes (omega arith) inside in
+    only_child client_ns 2 5000 (disco_info_elem (told ∷ []) server_features) (bounded_more client_ns 2 2 (0 + (616 + 3800) + 400) 5000 (disco_info_elem (told ∷ []) server_features) whole (omega arith) (omega arith))
 
-pub server_info_fine : AreFine client_ns 2 5000 (child (disco_info_elem (server ∷ []) server_features) no_nodes)
-server_info_fine = info_fine server (said_word 60 (codes "server") refl refl) (said_word 60 (codes "im") refl refl)
+pub server_info_bounded : AreBounded client_ns 2 5000 (child (disco_info_elem (server ∷ []) server_features) no_nodes)
+server_info_bounded = info_bounded server (said_word 60 (codes "server") refl refl) (said_word 60 (codes "im") refl refl)
 
-pub account_info_fine : AreFine client_ns 2 5000 (child (disco_info_elem (account ∷ []) server_features) no_nodes)
-account_info_fine = info_fine account (said_word 60 (codes "account") refl refl) (said_word 60 (codes "registered") refl refl)
+pub account_info_bounded : AreBounded client_ns 2 5000 (child (disco_info_elem (account ∷ []) server_features) no_nodes)
+account_info_bounded = info_bounded account (said_word 60 (codes "account") refl refl) (said_word 60 (codes "registered") refl refl)
 
-pub items_fine : (m : ℕ) (node : List ℕ) → Said m node → AreFine client_ns 1 (m + 448) (child (disco_items_elem node) no_nodes)
-items_fine m node h =
+pub items_bounded : (m : ℕ) (node : List ℕ) → Said m node → AreBounded client_ns 1 (m + 448) (child (disco_items_elem node) no_nodes)
+items_bounded m node h =
     only_child client_ns 1 (m + 448) (disco_items_elem node)
-    (fine_more client_ns 1 1 (m + 48 + 400) (m + 448) (disco_items_elem node)
+    (bounded_more client_ns 1 1 (m + 48 + 400) (m + 448) (disco_items_elem node)
     (with_none client_ns disco_items (codes "query") (attr_where [] (codes "node") (unless_empty node)) 1 (m + 48) (space disco_items refl) (word (codes "query") refl)
     (where_given m (codes "node") (unless_empty node) (word (codes "node") refl) (unless_said m node h)) (omega arith))
     (omega arith) (omega arith))
 
-pub bound_fine : (m : ℕ) (jid : List ℕ) → Said m jid → AreFine client_ns 2 (m + 800) (child (bind_result_elem (record { jid = jid })) no_nodes)
-bound_fine m jid h =
+pub bound_bounded : (m : ℕ) (jid : List ℕ) → Said m jid → AreBounded client_ns 2 (m + 800) (child (bind_result_elem (record { jid = jid })) no_nodes)
+bound_bounded m jid h =
     let inner = default_inside client_ns binding in
-    let told = fine_element inner binding (codes "jid") [] (text_node jid) 0 0 0 m (space binding refl) (word (codes "jid") refl) no_attributes (omega arith) (said_fine (default_inside inner binding) jid m h) in
+    let told = bounded_element inner binding (codes "jid") [] (text_node jid) 0 0 0 m (space binding refl) (word (codes "jid") refl) no_attributes (omega arith) (said_bounded (default_inside inner binding) jid m h) in
     only_child client_ns 2 (m + 800) (bind_result_elem (record { jid = jid }))
-    (fine_more client_ns 2 2 (0 + m + 400 + 400) (m + 800) (bind_result_elem (record { jid = jid }))
-    (fine_around client_ns binding (codes "bind") 1 (0 + m + 400) (element binding (codes "jid") [] (text_node jid)) (space binding refl) (word (codes "bind") refl) told) (omega arith) (omega arith))
+    (bounded_more client_ns 2 2 (0 + m + 400 + 400) (m + 800) (bind_result_elem (record { jid = jid }))
+    (bounded_around client_ns binding (codes "bind") 1 (0 + m + 400) (element binding (codes "jid") [] (text_node jid)) (space binding refl) (word (codes "bind") refl) told) (omega arith) (omega arith))
 
 -- what tidying leaves
 pub info_stays : (told : Told) → tidied_nodes (child (disco_info_elem (told ∷ []) server_features) no_nodes) ≡ child (disco_info_elem (told ∷ []) server_features) no_nodes

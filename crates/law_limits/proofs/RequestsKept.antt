@@ -6,12 +6,12 @@ use Rattle.std.specs.Option.{option_map}
 use Rattle.std.specs.Prelude.{slice_get}
 use Rattle.mam_archive.specs.Entries.{EntryView, entry_numbered}
 use Rattle.mam_archive.specs.Ids.{id_of}
-use Rattle.srv_state.specs.State.{Hall, Kept, archive_at, bare_address, session_address}
+use Rattle.srv_state.specs.State.{Kept, ServerState, archive_at, bare_address, session_address}
 use Rattle.srv_state.specs.Steps.{Act}
 use Rattle.im_forwarding.specs.Queries.{field_error, no_such_place, query_asked, query_error, query_judged}
 use Rattle.im_forwarding.specs.Results.{AskerView}
-use Rattle.sm_live.specs.declared.told.Told.{Told}
-use Rattle.im_mam.specs.ArchiveQuery.{has_known_fields, is_for_archive, is_query, max_in, optional_address, optional_moment, place_in}
+use Rattle.sm_live.specs.declared.told.SessionInfo.{SessionInfo}
+use Rattle.im_mam.specs.ArchiveQuery.{has_known_fields, is_for_archive, is_query, max_in, optional_address, optional_moment, position_in}
 use Rattle.im_mam.specs.DataForms.{field_value, form_of}
 use Rattle.im_mam.specs.ResultSets.{set_child}
 use Rattle.im_mam.specs.Readings.{filters_read, if_right, limits_read, mam_query_read, query_with, with_field}
@@ -28,8 +28,8 @@ use Rattle.im_payload.specs.declared.fault.ExtFault.{ExtFault}
 use Rattle.im_payload.specs.declared.fault.ExtFault.TheVariants as ext
 use Rattle.im_payload.specs.declared.fault.Field.{Field}
 use Rattle.im_payload.specs.declared.fault.Field.TheVariants as field
-use Rattle.law_limits.proofs.Forwarding.{end_fine, end_payload_stays, entry_read}
-use Rattle.law_limits.proofs.Requests.{account_info_fine, info_stays, iq_error_read, items_fine, items_stays, nothing_fine, result_read, roster_fine, server_info_fine}
+use Rattle.law_limits.proofs.Forwarding.{end_bounded, end_payload_stays, entry_read}
+use Rattle.law_limits.proofs.Requests.{account_info_bounded, info_stays, iq_error_read, items_bounded, items_stays, nothing_bounded, result_read, roster_bounded, server_info_bounded}
 use Rattle.law_limits.specs.Messages.{EntryFits}
 use Rattle.im_replies.specs.Requests.{result_item}
 use Rattle.srv_handlers.specs.Requests.{asked_of, asker_of, at_iq, empty_answer, envelope_of, get_request, info_item, info_request, is_at_domain, is_served_at, node_asked, not_served, paging, query_request, querying_in, refusing_iq, request_for, request_in, request_of, sending_entries, sending_entry, serving, set_request}
@@ -38,9 +38,9 @@ use Rattle.srv_handlers.specs.declared.request.Request.TheVariants as request
 use Rattle.law_limits.proofs.ServedAddresses.{bare_said, session_said}
 use Rattle.law_limits.proofs.Lists.{each_found, each_got}
 use Rattle.law_limits.proofs.ServerStepsKept.{whole_read}
-use Rattle.law_limits.specs.Keeps.{ActsKeep, ArchiveKeeps, HallKeeps, IsRead}
+use Rattle.law_limits.specs.Keeps.{ActsKeep, ArchiveKeeps, IsRead, ServerKeeps}
 use Rattle.law_limits.specs.Words.{IqFits}
-use Rattle.law_server.specs.Images.{itself}
+use Rattle.law_server.specs.Encodings.{itself}
 use Rattle.law_limits.proofs.Characters.{said_more}
 use Rattle.law_limits.proofs.Numerals.{said_hex}
 use Rattle.law_limits.specs.Texts.{Said}
@@ -52,26 +52,26 @@ use Rattle.im_stanza.specs.declared.kinds.IqKind.TheVariants as iq
 use Rattle.xml_trees.specs.Readers.{elements_of, is_named}
 use Rattle.xml_trees.specs.Trees.{Elem, Nodes, no_nodes}
 use Rattle.xml_trees.specs.Tidied.{tidied_nodes}
-use Rattle.law_limits.specs.Fine.{AreFine}
+use Rattle.law_limits.specs.Bounded.{AreBounded}
 use Rattle.im_stanza.specs.Names.{client_ns}
 use Rattle.xml_writer.specs.Items.{ItemOut}
 
 -- ---- answers
 
-refusing_kept : (q : IqView) (t : Told) (e : StanzaError) (h : Hall ItemOut) → IqFits q → IsKnown e.condition → HallKeeps h → ActsKeep (refusing_iq itself q t e h)
+refusing_kept : (q : IqView) (t : SessionInfo) (e : StanzaError) (h : ServerState ItemOut) → IqFits q → IsKnown e.condition → ServerKeeps h → ActsKeep (refusing_iq itself q t e h)
 refusing_kept q t e h fits known keeps = (whole_read _ (iq_error_read 18426 1048576 18426 q.to (Some (session_address t.number h)) q.id e fits.to fits.id (session_said t.number h keeps) known (omega arith)), tt)
 
-result_kept : (q : IqView) (t : Told) (payload : Nodes) (levels n : ℕ) (h : Hall ItemOut) → IqFits q → tidied_nodes payload ≡ payload → AreFine client_ns levels n payload → levels ≤ 60 → n ≤ 1100000 → HallKeeps h
+result_kept : (q : IqView) (t : SessionInfo) (payload : Nodes) (levels n : ℕ) (h : ServerState ItemOut) → IqFits q → tidied_nodes payload ≡ payload → AreBounded client_ns levels n payload → levels ≤ 60 → n ≤ 1100000 → ServerKeeps h
     → IsRead (result_item (envelope_of q t h) payload)
-result_kept q t payload levels n h fits stays fine deep short keeps =
-    whole_read _ (result_read 18426 1048576 18426 levels n (envelope_of q t h) payload fits.to fits.id (session_said t.number h keeps) stays fine deep (omega (arith, short)))
+result_kept q t payload levels n h fits stays bounded deep short keeps =
+    whole_read _ (result_read 18426 1048576 18426 levels n (envelope_of q t h) payload fits.to fits.id (session_said t.number h keeps) stays bounded deep (omega (arith, short)))
 
-empty_kept : (q : IqView) (t : Told) (h : Hall ItemOut) → IqFits q → HallKeeps h → ActsKeep (empty_answer itself q t h)
-empty_kept q t h fits keeps = (result_kept q t no_nodes 0 0 h fits refl nothing_fine (omega arith) (omega arith) keeps, tt)
+empty_kept : (q : IqView) (t : SessionInfo) (h : ServerState ItemOut) → IqFits q → ServerKeeps h → ActsKeep (empty_answer itself q t h)
+empty_kept q t h fits keeps = (result_kept q t no_nodes 0 0 h fits refl nothing_bounded (omega arith) (omega arith) keeps, tt)
 
-info_read : (b : Bool) (q : IqView) (t : Told) (h : Hall ItemOut) → IqFits q → HallKeeps h → IsRead (info_item b (envelope_of q t h))
-info_read true q t h fits keeps = result_kept q t _ 2 5000 h fits (info_stays _) server_info_fine (omega arith) (omega arith) keeps
-info_read false q t h fits keeps = result_kept q t _ 2 5000 h fits (info_stays _) account_info_fine (omega arith) (omega arith) keeps
+info_read : (b : Bool) (q : IqView) (t : SessionInfo) (h : ServerState ItemOut) → IqFits q → ServerKeeps h → IsRead (info_item b (envelope_of q t h))
+info_read true q t h fits keeps = result_kept q t _ 2 5000 h fits (info_stays _) server_info_bounded (omega arith) (omega arith) keeps
+info_read false q t h fits keeps = result_kept q t _ 2 5000 h fits (info_stays _) account_info_bounded (omega arith) (omega arith) keeps
 
 -- ---- pages
 
@@ -87,16 +87,16 @@ record CutKeeps (cut : CutView) : Type 0 where
   index : cut.first_index < 2 ^ 64
   count : cut.count < 2 ^ 64
 
-cut_keeps : (query : PageQuery) (matches : List EntryView) (o : Option (List EntryView)) → length matches < 2 ^ 64 → IfSome (option_map (λ found. cut_out query.place matches (most_of query.max) found (portion query.place (most_of query.max) found)) o) CutKeeps
+cut_keeps : (query : PageQuery) (matches : List EntryView) (o : Option (List EntryView)) → length matches < 2 ^ 64 → IfSome (option_map (λ found. cut_out query.position matches (most_of query.max) found (portion query.position (most_of query.max) found)) o) CutKeeps
 cut_keeps query matches None few = tt
 cut_keeps query matches (Some found) few =
-    let index = index_few matches (portion query.place (most_of query.max) found) in record { index = omega (arith, few, index); count = few }
+    let index = index_few matches (portion query.position (most_of query.max) found) in record { index = omega (arith, few, index); count = few }
 
 page_keeps : (owner : List ℕ) (entries : List EntryView) (query : PageQuery) → length entries < 2 ^ 64 → IfSome (page_of (kept_by owner entries) query) CutKeeps
 page_keeps owner entries query few =
     let matches = matching (kept_by owner entries) query in
     let less = fewer (is_wanted owner query) entries in
-    cut_keeps query matches (candidates query.place entries matches) (omega (arith, few, less))
+    cut_keeps query matches (candidates query.position entries matches) (omega (arith, few, less))
 
 id_said : (o : Option ℕ) → IfSome (option_map id_of o) (Said 120)
 id_said None = tt
@@ -112,13 +112,13 @@ entries_kept n a entries [] more by full queryid each h = h
 entries_kept n a entries (number ∷ numbers) more by full queryid each h =
     entry_kept n a (entry_numbered number entries) (sending_entries itself n a entries numbers more) by full queryid (each_found EntryFits _ entries each) (entries_kept n a entries numbers more by full queryid each h)
 
-paging_kept : (q : IqView) (t : Told) (queryid : List ℕ) (a : Kept) (o : Option CutView) (h : Hall ItemOut) → IqFits q → Said 1048576 queryid → ArchiveKeeps a → IfSome o CutKeeps → HallKeeps h → ActsKeep (paging itself q t queryid a o h)
+paging_kept : (q : IqView) (t : SessionInfo) (queryid : List ℕ) (a : Kept) (o : Option CutView) (h : ServerState ItemOut) → IqFits q → Said 1048576 queryid → ArchiveKeeps a → IfSome o CutKeeps → ServerKeeps h → ActsKeep (paging itself q t queryid a o h)
 paging_kept q t queryid a None h fits said archive o keeps = refusing_kept q t no_such_place h fits tt keeps
 paging_kept q t queryid a (Some cut) h fits said archive o keeps =
     entries_kept t.number (asker_of t queryid h) a.entries cut.numbers _ (bare_said t.account h keeps) (session_said t.number h keeps) said archive.entries
-    (result_kept q t _ 3 3000 h fits (end_payload_stays cut) (end_fine cut (id_said (slice_get cut.numbers 0)) (id_said (slice_get cut.numbers (length cut.numbers - 1))) o.index o.count) (omega arith) (omega arith) keeps, tt)
+    (result_kept q t _ 3 3000 h fits (end_payload_stays cut) (end_bounded cut (id_said (slice_get cut.numbers 0)) (id_said (slice_get cut.numbers (length cut.numbers - 1))) o.index o.count) (omega arith) (omega arith) keeps, tt)
 
-querying_kept : (q : IqView) (t : Told) (query : MamQuery) (o : Option Kept) (h : Hall ItemOut) → IqFits q → Said 1048576 query.queryid → IfSome o ArchiveKeeps → HallKeeps h → ActsKeep (querying_in itself q t query o h)
+querying_kept : (q : IqView) (t : SessionInfo) (query : MamQuery) (o : Option Kept) (h : ServerState ItemOut) → IqFits q → Said 1048576 query.queryid → IfSome o ArchiveKeeps → ServerKeeps h → ActsKeep (querying_in itself q t query o h)
 querying_kept q t query None h fits said o keeps = tt
 querying_kept q t query (Some a) h fits said o keeps = paging_kept q t query.queryid a (page_of (kept_by a.owner a.entries) query.query) h fits said o (page_keeps a.owner a.entries query.query o.few) keeps
 
@@ -137,7 +137,7 @@ field_keeps e None f read h = tt
 field_keeps e (Some x) f read h = h x
 
 limits_keep : (e : Elem) (peer : Option (List ℕ)) (start end : Option ℕ) → QueryKeeps e (limits_read e peer start end)
-limits_keep e peer start end = field_keeps e (place_in e) field.Place _ (λ place. field_keeps e (max_in e) field.Max _ (λ max. right_keeps e (is_none (set_child (codes "index") e)) field.UnknownField (Ok (query_with e peer start end place max)) refl))
+limits_keep e peer start end = field_keeps e (position_in e) field.PagePosition _ (λ position. field_keeps e (max_in e) field.Max _ (λ max. right_keeps e (is_none (set_child (codes "index") e)) field.UnknownField (Ok (query_with e peer start end position max)) refl))
 
 filters_keep : (e : Elem) → QueryKeeps e (filters_read e)
 filters_keep e =
@@ -174,7 +174,7 @@ field_known field.UnknownField = tt
 field_known field.Peer = tt
 field_known field.Start = tt
 field_known field.End = tt
-field_known field.Place = tt
+field_known field.PagePosition = tt
 field_known field.Max = tt
 field_known field.Stamp = tt
 field_known field.Stanza = tt
@@ -233,17 +233,17 @@ in_keeps iq.Set r h = h
 
 -- ---- the row
 
-serving_kept : (o : Option Request) (q : IqView) (t : Told) (h : Hall ItemOut) → IfSome o RequestKeeps → IqFits q → HallKeeps h → ActsKeep (serving itself o q t h)
+serving_kept : (o : Option Request) (q : IqView) (t : SessionInfo) (h : ServerState ItemOut) → IfSome o RequestKeeps → IqFits q → ServerKeeps h → ActsKeep (serving itself o q t h)
 serving_kept None q t h o fits keeps = tt
 serving_kept (Some request.Ping) q t h o fits keeps = empty_kept q t h fits keeps
 serving_kept (Some (request.Info b)) q t h o fits keeps = (info_read b q t h fits keeps, tt)
-serving_kept (Some (request.Items node)) q t h o fits keeps = (result_kept q t _ 1 1049024 h fits (items_stays node) (items_fine 1048576 node o) (omega arith) (omega arith) keeps, tt)
-serving_kept (Some request.Roster) q t h o fits keeps = (result_kept q t _ 1 400 h fits refl roster_fine (omega arith) (omega arith) keeps, tt)
+serving_kept (Some (request.Items node)) q t h o fits keeps = (result_kept q t _ 1 1049024 h fits (items_stays node) (items_bounded 1048576 node o) (omega arith) (omega arith) keeps, tt)
+serving_kept (Some request.Roster) q t h o fits keeps = (result_kept q t _ 1 400 h fits refl roster_bounded (omega arith) (omega arith) keeps, tt)
 serving_kept (Some request.Session) q t h o fits keeps = empty_kept q t h fits keeps
 serving_kept (Some (request.Carbons on)) q t h o fits keeps = (tt, empty_kept q t h fits keeps)
 serving_kept (Some (request.Archive query)) q t h o fits keeps = querying_kept q t query (archive_at t.account h) h fits o (each_got ArchiveKeeps h.archives t.account keeps.archives) keeps
 serving_kept (Some (request.Refused e)) q t h o fits keeps = refusing_kept q t e h fits o keeps
 
-pub iq_kept : (q : IqView) (t : Told) (h : Hall ItemOut) → IqFits q → HallKeeps h → ActsKeep (at_iq itself q t h)
+pub iq_kept : (q : IqView) (t : SessionInfo) (h : ServerState ItemOut) → IqFits q → ServerKeeps h → ActsKeep (at_iq itself q t h)
 iq_kept q t h fits keeps =
     serving_kept (request_of q t h) q t h (in_keeps q.kind (asked_of (bare_address t.account h) h.domain q (elements_of q.payload)) (asks_keep (bare_address t.account h) h.domain q (elements_of q.payload) refl fits)) fits keeps

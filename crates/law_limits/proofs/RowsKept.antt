@@ -7,7 +7,7 @@ use Rattle.sm_acks.specs.Counters.{ahead}
 use Rattle.sm_acks.specs.declared.end.TooHigh.{TooHigh}
 use Rattle.base_lemmas.specs.Hexadecimal.{hex16_of}
 use Rattle.srv_state.specs.Logins.{answering, at_challenge, at_login, at_login_other, beginning, failing, finishing, negotiation_at}
-use Rattle.srv_state.specs.State.{Hall}
+use Rattle.srv_state.specs.State.{ServerState}
 use Rattle.srv_state.specs.Steps.{Act}
 use Rattle.srv_state.specs.Streams.{answering_header, at_any, at_header, awaits_header, closing, ending, ending_in, field_condition, header_condition, header_in, opening, parting, parting_where}
 use Rattle.srv_state.specs.declared.connection.Stage.{Stage}
@@ -22,7 +22,7 @@ use Rattle.srv_state.specs.declared.word.Word.TheVariants as word
 use Rattle.im_jid.specs.Forms.{resource_form}
 use Rattle.im_jid.specs.declared.fault.JidFault.{JidFault}
 use Rattle.sm_live.specs.Sessions.{Session, ack_answer, ended_of, is_too_high, resume_answer, resume_ok, send_count, session_named, session_of, session_resumed}
-use Rattle.sm_live.specs.declared.told.Told.{Told}
+use Rattle.sm_live.specs.declared.told.SessionInfo.{SessionInfo}
 use Rattle.srv_login.specs.Headers.{header_answer}
 use Rattle.srv_login.specs.Negotiations.{LoginView, auth_answer, final_answer}
 use Rattle.srv_login.specs.declared.header_judgement.HeaderAnswer.{HeaderAnswer}
@@ -35,7 +35,7 @@ use Rattle.srv_login.specs.declared.sasl_condition.SaslCondition.TheVariants as 
 use Rattle.xml_names.specs.declared.headers.Header.{Header}
 use Rattle.law_limits.proofs.Logins.{header_fits, header_plain, stream_id_said}
 use Rattle.law_limits.proofs.PutReplies.{ack_read, enabled_read, login_features_read, refused_read, resumed_read, session_features_read, too_high_read}
-use Rattle.law_limits.proofs.Requests.{bound_fine, bound_stays, iq_error_read, result_read, resumable_read}
+use Rattle.law_limits.proofs.Requests.{bound_bounded, bound_stays, iq_error_read, result_read, resumable_read}
 use Rattle.im_replies.specs.Streams.{error_item, header_item, stream_id, too_high_item}
 use Rattle.im_replies.specs.declared.conditions.StreamCondition.{StreamCondition}
 use Rattle.im_replies.specs.declared.conditions.StreamCondition.TheVariants as stream
@@ -46,9 +46,9 @@ use Rattle.law_limits.proofs.ServedAddresses.{full_said}
 use Rattle.law_limits.proofs.Lists.{each_drop, each_found}
 use Rattle.law_limits.proofs.ServerLoginsKept.{AnswerKeeps, LoginKeeps, auth_keeps, failure_item_read, final_keeps}
 use Rattle.law_limits.proofs.ServerStepsKept.{closing_read, error_item_read, request_item_read, whole_read}
-use Rattle.law_limits.specs.Keeps.{ActsKeep, HallKeeps, IsDrawn, IsRead, SessionKeeps}
+use Rattle.law_limits.specs.Keeps.{ActsKeep, IsDrawn, IsRead, ServerKeeps, SessionKeeps}
 use Rattle.law_limits.specs.Words.{WordComes}
-use Rattle.law_server.specs.Images.{itself}
+use Rattle.law_server.specs.Encodings.{itself}
 use Rattle.srv_handlers.specs.Bindings.{asked_resource, at_bind, bad_request, binding_as, chosen, former_of}
 use Rattle.srv_handlers.specs.Managements.{acknowledging, at_ack, at_enable, at_request, enabled_as, refusing}
 use Rattle.srv_handlers.specs.Resumptions.{asking, at_resume, resent_where, resuming, saying}
@@ -65,7 +65,7 @@ use Rattle.xml_writer.specs.Items.{ItemOut}
 
 -- ---- how streams begin and end
 
-header_item_read : (h : Hall ItemOut) (k : ℕ) (entropy : List ℕ) → HallKeeps h → IsDrawn entropy → IsRead (header_item h.domain k entropy)
+header_item_read : (h : ServerState ItemOut) (k : ℕ) (entropy : List ℕ) → ServerKeeps h → IsDrawn entropy → IsRead (header_item h.domain k entropy)
 header_item_read h k entropy keeps drawn =
     let few = drawn.short in
     let id = stream_id_said k entropy (omega (arith, few, length-drop 18 entropy)) in
@@ -81,17 +81,17 @@ pub parting_where_kept : (o : Option ℕ) (i : ItemOut) (more : List (Act ItemOu
 parting_where_kept None i more r h = h
 parting_where_kept (Some k) i more r h = (r, (closing_read, (tt, h)))
 
-ending_at : (k : ℕ) (c : StreamCondition) (s : Stage) (entropy : List ℕ) (h : Hall ItemOut) → HallKeeps h → IsDrawn entropy → ActsKeep (ending_in itself k c s entropy h)
+ending_at : (k : ℕ) (c : StreamCondition) (s : Stage) (entropy : List ℕ) (h : ServerState ItemOut) → ServerKeeps h → IsDrawn entropy → ActsKeep (ending_in itself k c s entropy h)
 ending_at k c stage.Start entropy h keeps drawn = (header_item_read h k entropy keeps drawn, parting_kept k (error_item c) (error_item_read c))
 ending_at k c stage.Login entropy h keeps drawn = parting_kept k (error_item c) (error_item_read c)
 ending_at k c stage.Challenge entropy h keeps drawn = parting_kept k (error_item c) (error_item_read c)
 ending_at k c (stage.Restart account) entropy h keeps drawn = parting_kept k (error_item c) (error_item_read c)
 ending_at k c (stage.Ready account) entropy h keeps drawn = parting_kept k (error_item c) (error_item_read c)
 
-pub ending_kept : (k : ℕ) (c : StreamCondition) (st : Standing) (h : Hall ItemOut) → HallKeeps h → IsDrawn st.entropy → ActsKeep (ending itself k c st h)
+pub ending_kept : (k : ℕ) (c : StreamCondition) (st : Standing) (h : ServerState ItemOut) → ServerKeeps h → IsDrawn st.entropy → ActsKeep (ending itself k c st h)
 ending_kept k c st h keeps drawn = ending_at k c st.stage st.entropy h keeps drawn
 
-pub any_kept : (k : ℕ) (w : Word) (st : Standing) (h : Hall ItemOut) → HallKeeps h → IsDrawn st.entropy → ActsKeep (at_any itself k w st h)
+pub any_kept : (k : ℕ) (w : Word) (st : Standing) (h : ServerState ItemOut) → ServerKeeps h → IsDrawn st.entropy → ActsKeep (at_any itself k w st h)
 any_kept k (word.Stanza long read) st h keeps drawn = ending_kept k stream.UnsupportedStanzaType st h keeps drawn
 any_kept k (word.Enable resume) st h keeps drawn = ending_kept k stream.UnsupportedStanzaType st h keeps drawn
 any_kept k word.Request st h keeps drawn = ending_kept k stream.UnsupportedStanzaType st h keeps drawn
@@ -104,22 +104,22 @@ any_kept k word.BadField st h keeps drawn = ending_kept k stream.BadFormat st h 
 any_kept k word.StreamError st h keeps drawn = closing_kept k
 any_kept k word.Other st h keeps drawn = ending_kept k stream.UnsupportedStanzaType st h keeps drawn
 
-opening_kept : (k : ℕ) (entropy : List ℕ) (s : Stage) (h : Hall ItemOut) → HallKeeps h → IsDrawn entropy → ActsKeep (opening itself k entropy s h)
+opening_kept : (k : ℕ) (entropy : List ℕ) (s : Stage) (h : ServerState ItemOut) → ServerKeeps h → IsDrawn entropy → ActsKeep (opening itself k entropy s h)
 opening_kept k entropy (stage.Restart account) h keeps drawn = (header_item_read h k entropy keeps drawn, (whole_read _ session_features_read, (tt, tt)))
 opening_kept k entropy stage.Start h keeps drawn = (header_item_read h k entropy keeps drawn, (whole_read _ login_features_read, (tt, tt)))
 opening_kept k entropy stage.Login h keeps drawn = (header_item_read h k entropy keeps drawn, (whole_read _ login_features_read, (tt, tt)))
 opening_kept k entropy stage.Challenge h keeps drawn = (header_item_read h k entropy keeps drawn, (whole_read _ login_features_read, (tt, tt)))
 opening_kept k entropy (stage.Ready account) h keeps drawn = (header_item_read h k entropy keeps drawn, (whole_read _ login_features_read, (tt, tt)))
 
-answering_kept : (k : ℕ) (st : Standing) (a : HeaderAnswer) (h : Hall ItemOut) → HallKeeps h → IsDrawn st.entropy → ActsKeep (answering_header itself k st a h)
+answering_kept : (k : ℕ) (st : Standing) (a : HeaderAnswer) (h : ServerState ItemOut) → ServerKeeps h → IsDrawn st.entropy → ActsKeep (answering_header itself k st a h)
 answering_kept k st Opens h keeps drawn = opening_kept k st.entropy st.stage h keeps drawn
 answering_kept k st (Refused why) h keeps drawn = ending_kept k (header_condition why) st h keeps drawn
 
-header_by : (k : ℕ) (header : Header) (st : Standing) (b : Bool) (h : Hall ItemOut) → HallKeeps h → IsDrawn st.entropy → ActsKeep (header_in itself k header st b h)
+header_by : (k : ℕ) (header : Header) (st : Standing) (b : Bool) (h : ServerState ItemOut) → ServerKeeps h → IsDrawn st.entropy → ActsKeep (header_in itself k header st b h)
 header_by k header st true h keeps drawn = answering_kept k st (header_answer h.domain header) h keeps drawn
 header_by k header st false h keeps drawn = ending_kept k stream.UnsupportedStanzaType st h keeps drawn
 
-pub header_kept : (k : ℕ) (header : Header) (st : Standing) (h : Hall ItemOut) → HallKeeps h → IsDrawn st.entropy → ActsKeep (at_header itself k header st h)
+pub header_kept : (k : ℕ) (header : Header) (st : Standing) (h : ServerState ItemOut) → ServerKeeps h → IsDrawn st.entropy → ActsKeep (at_header itself k header st h)
 header_kept k header st h keeps drawn = header_by k header st (awaits_header st.stage) h keeps drawn
 
 -- ---- logins
@@ -141,7 +141,7 @@ response_kept : (k : ℕ) (left : Tries) (e : Elem) (o : Option Negotiation) →
 response_kept k left e None = tt
 response_kept k left e (Some n) = finishing_kept k left (final_answer e n) (final_keeps e n)
 
-other_kept : (k : ℕ) (w : Word) (st : Standing) (h : Hall ItemOut) → HallKeeps h → IsDrawn st.entropy → ActsKeep (at_login_other itself k w st h)
+other_kept : (k : ℕ) (w : Word) (st : Standing) (h : ServerState ItemOut) → ServerKeeps h → IsDrawn st.entropy → ActsKeep (at_login_other itself k w st h)
 other_kept k (word.Stanza long read) st h keeps drawn = ending_kept k stream.NotAuthorized st h keeps drawn
 other_kept k word.Abort st h keeps drawn = failing_kept k condition.Aborted st.tries
 other_kept k (word.Enable resume) st h keeps drawn = any_kept k (word.Enable resume) st h keeps drawn
@@ -154,7 +154,7 @@ other_kept k word.BadField st h keeps drawn = any_kept k word.BadField st h keep
 other_kept k word.StreamError st h keeps drawn = any_kept k word.StreamError st h keeps drawn
 other_kept k word.Other st h keeps drawn = any_kept k word.Other st h keeps drawn
 
-pub login_kept : (k : ℕ) (w : Word) (st : Standing) (h : Hall ItemOut) → WordComes w → HallKeeps h → IsDrawn st.entropy → ActsKeep (at_login itself k w st h)
+pub login_kept : (k : ℕ) (w : Word) (st : Standing) (h : ServerState ItemOut) → WordComes w → ServerKeeps h → IsDrawn st.entropy → ActsKeep (at_login itself k w st h)
 login_kept k (word.Auth e bad) st h comes keeps drawn = beginning_kept k st.tries (auth_answer e st.entropy h.accounts) (auth_keeps e st.entropy h.accounts comes.0 comes.1 drawn keeps.accounts)
 login_kept k (word.Stanza long read) st h comes keeps drawn = other_kept k (word.Stanza long read) st h keeps drawn
 login_kept k (word.Enable resume) st h comes keeps drawn = other_kept k (word.Enable resume) st h keeps drawn
@@ -167,7 +167,7 @@ login_kept k word.BadField st h comes keeps drawn = other_kept k word.BadField s
 login_kept k word.StreamError st h comes keeps drawn = other_kept k word.StreamError st h keeps drawn
 login_kept k word.Other st h comes keeps drawn = other_kept k word.Other st h keeps drawn
 
-pub challenge_kept : (k : ℕ) (w : Word) (st : Standing) (h : Hall ItemOut) → HallKeeps h → IsDrawn st.entropy → ActsKeep (at_challenge itself k w st h)
+pub challenge_kept : (k : ℕ) (w : Word) (st : Standing) (h : ServerState ItemOut) → ServerKeeps h → IsDrawn st.entropy → ActsKeep (at_challenge itself k w st h)
 challenge_kept k (word.Response e bad) st h keeps drawn = response_kept k st.tries e (negotiation_at k h)
 challenge_kept k (word.Auth e bad) st h keeps drawn = other_kept k (word.Auth e bad) st h keeps drawn
 challenge_kept k (word.Stanza long read) st h keeps drawn = other_kept k (word.Stanza long read) st h keeps drawn
@@ -190,21 +190,21 @@ chosen_said n (b ∷ bs) h = formed (resource_form (b ∷ bs)) refl
     formed (Ok part) is = resource_said (b ∷ bs) part h is
     formed (Err e) is = tt
 
-bound_as : (k account : ℕ) (id : List ℕ) (o : Option (List ℕ)) (h : Hall ItemOut) → HallKeeps h → Said 393216 id → IfSome o (Said 6138) → ActsKeep (binding_as itself k account id o h)
+bound_as : (k account : ℕ) (id : List ℕ) (o : Option (List ℕ)) (h : ServerState ItemOut) → ServerKeeps h → Said 393216 id → IfSome o (Said 6138) → ActsKeep (binding_as itself k account id o h)
 bound_as k account id None h keeps said o = (whole_read _ (iq_error_read 0 393216 0 None None id bad_request tt said tt tt (omega arith)), tt)
 bound_as k account id (Some resource) h keeps said o = (
   o,
   parting_where_kept (former_of (option_map ended_of (session_named account resource h.sessions))) (error_item stream.Conflict) _ (error_item_read stream.Conflict)
-      (whole_read _ (result_read 0 393216 0 2 19226 (record { from = None; to = None; id = id }) _ tt said tt (bound_stays _) (bound_fine 18426 _ (full_said account resource h keeps o)) (omega arith) (omega arith)), tt),
+      (whole_read _ (result_read 0 393216 0 2 19226 (record { from = None; to = None; id = id }) _ tt said tt (bound_stays _) (bound_bounded 18426 _ (full_said account resource h keeps o)) (omega arith) (omega arith)), tt),
 )
 
-pub bind_kept : (k account : ℕ) (id : List ℕ) (bind : Elem) (h : Hall ItemOut) → HallKeeps h → Said 393216 id → IsCharacters (asked_resource bind) → ActsKeep (at_bind itself k account id bind h)
+pub bind_kept : (k account : ℕ) (id : List ℕ) (bind : Elem) (h : ServerState ItemOut) → ServerKeeps h → Said 393216 id → IsCharacters (asked_resource bind) → ActsKeep (at_bind itself k account id bind h)
 bind_kept k account id bind h keeps said asked = bound_as k account id (result_ok (chosen h.next (asked_resource bind))) h keeps said (chosen_said h.next (asked_resource bind) asked)
 
 -- ---- acknowledgements (XEP-0198, sections 3 and 4)
 
 -- what is told of a session that is there
-abbrev pub ToldKeeps : Told → Type 0
+abbrev pub ToldKeeps : SessionInfo → Type 0
 ToldKeeps t = t.handled < 2 ^ 32
 
 pub refusing_kept : (k : ℕ) (c : Condition) → IsKnown c → ActsKeep (refusing itself k c)
@@ -218,13 +218,13 @@ enabled_as_read : (n : ℕ) (b : Bool) → IsRead (enabled_as n b)
 enabled_as_read n true = whole_read _ (resumable_read n RESUMABLE_SECONDS (omega arith))
 enabled_as_read n false = whole_read _ enabled_read
 
-pub enable_kept : (k : ℕ) (resume : Bool) (t : Told) → ActsKeep (at_enable itself k resume t)
+pub enable_kept : (k : ℕ) (resume : Bool) (t : SessionInfo) → ActsKeep (at_enable itself k resume t)
 enable_kept k resume t = either_acts t.counted _ _ (refusing_kept k UnexpectedRequest tt) (tt, (enabled_as_read t.number resume, tt))
 
 wider : (n : ℕ) → n < 2 ^ 32 → n < 2 ^ 64
 wider n h = omega (arith, h)
 
-pub request_kept : (k : ℕ) (t : Told) → ToldKeeps t → ActsKeep (at_request itself k t)
+pub request_kept : (k : ℕ) (t : SessionInfo) → ToldKeeps t → ActsKeep (at_request itself k t)
 request_kept k t h = either_acts t.counted _ _ (whole_read _ (ack_read t.handled (wider t.handled h)), tt) (refusing_kept k UnexpectedRequest tt)
 
 abbrev CountKeeps : Result ℕ TooHigh → Type 0
@@ -244,7 +244,7 @@ acknowledging_kept k n m None small h = tt
 acknowledging_kept k n m (Some (Ok more)) small h = (small, (tt, tt))
 acknowledging_kept k n m (Some (Err why)) small h = parting_kept k (too_high_item why.h why.send_count) (whole_read _ (too_high_read why.h why.send_count (wider why.h h.0) (wider why.send_count h.1)))
 
-pub ack_kept : (k m : ℕ) (t : Told) (h : Hall ItemOut) → m < 2 ^ 32 → ActsKeep (at_ack itself k m t h)
+pub ack_kept : (k m : ℕ) (t : SessionInfo) (h : ServerState ItemOut) → m < 2 ^ 32 → ActsKeep (at_ack itself k m t h)
 ack_kept k m t h small =
     either_acts t.counted _ _ (acknowledging_kept k t.number m (option_map (ack_answer m) (session_of t.number h.sessions)) small (ack_keeps m (session_of t.number h.sessions) small)) (refusing_kept k UnexpectedRequest tt)
 
@@ -290,7 +290,7 @@ resuming_kept k account previd m (Ok r) waiting small h w = (
   ),
 )
 
-pub resume_kept : (k account : ℕ) (previd : List ℕ) (m : ℕ) (h : Hall ItemOut) → m < 2 ^ 32 → HallKeeps h → ActsKeep (at_resume itself k account previd m h)
+pub resume_kept : (k account : ℕ) (previd : List ℕ) (m : ℕ) (h : ServerState ItemOut) → m < 2 ^ 32 → ServerKeeps h → ActsKeep (at_resume itself k account previd m h)
 resume_kept k account previd m h small keeps =
     let o = session_resumed previd account h.sessions in
     let found = each_found SessionKeeps _ h.sessions keeps.sessions in

@@ -26,7 +26,7 @@ use Rattle.im_payload.specs.declared.fault.ExtFault.{ExtFault}
 use Rattle.law_limits.proofs.Forwarding.{text_characters}
 use Rattle.law_limits.proofs.Logins.{base64_printable, base64_short, carrier_read, failure_read, is_byte, printable_bytes}
 use Rattle.law_limits.proofs.PutParts.{word}
-use Rattle.law_limits.specs.Fine.{IsWord}
+use Rattle.law_limits.specs.Bounded.{IsWord}
 use Rattle.im_replies.specs.Sasl.{challenge_item, failure_item, success_item}
 use Rattle.im_login.specs.Readings.{auth_read, auth_with, carrier_read as carried, decoded, payload_read}
 use Rattle.im_login.specs.Sasl.{auth_mechanism, is_sasl, mechanism_of}
@@ -230,12 +230,12 @@ IsSmallAnswer most (auth.Fails why) = Unit {0}
 abbrev FoundKeeps : FoundView → Type 0
 FoundKeeps f = (list_all is_byte f.credentials.salt ≡ true) × (length f.credentials.salt ≤ 1000) × (f.credentials.iterations < 2 ^ 64)
 
-found_keeps : (place : ℕ) (name : List ℕ) (accounts : List Account) → AllByRecursion AccountKeeps accounts → IfSome (account_from place name accounts) FoundKeeps
-found_keeps place name [] h = tt
-found_keeps place name (a ∷ more) h =
+found_keeps : (position : ℕ) (name : List ℕ) (accounts : List Account) → AllByRecursion AccountKeeps accounts → IfSome (account_from position name accounts) FoundKeeps
+found_keeps position name [] h = tt
+found_keeps position name (a ∷ more) h =
     elim (cases_Bool (bytes_eq name a.name)) [
       | inl here ↦ rw here (h.0.salt, h.0.short, h.0.count)
-      | inr other ↦ rw other (found_keeps (place + 1) name more h.1)
+      | inr other ↦ rw other (found_keeps (position + 1) name more h.1)
     ]
 
 begun_small : (most more : ℕ) (first : ClientFirst) (tail : List ℕ) (o : Option FoundView) → IsSmall most first.nonce → IsSmall more tail → IfSome o FoundKeeps → IsSmallAnswer (most + more + 2032) (begun_by first tail o)

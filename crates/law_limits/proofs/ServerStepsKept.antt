@@ -4,23 +4,23 @@ use Rattle.std.specs.List.{AllByRecursion}
 use Rattle.sm_acks.specs.Counters.{ahead}
 use Rattle.sm_acks.specs.declared.end.TheConstants.{MOST_UNACKNOWLEDGED}
 use Rattle.mam_archive.specs.Entries.{EntryView, numbered}
-use Rattle.srv_state.specs.State.{Hall, Kept, Put, Shut, Step, Took, archive_at, changed, conn_at, is_number, with_conn, with_sessions}
+use Rattle.srv_state.specs.State.{Kept, Put, ServerState, Shut, Step, Took, archive_at, changed, conn_at, is_number, with_conn, with_sessions}
 use Rattle.srv_state.specs.Steps as steps
-use Rattle.srv_state.specs.Steps.{Act, act, acted, after_failure, appended, archived_in, ask_where, binds, in_hall, in_phase, in_sessions, is_due, overflow, part, part_where, put, put_where, queue, send, send_told, shut, told_out}
+use Rattle.srv_state.specs.Steps.{Act, act, acted, after_failure, appended, archived_in, ask_where, binds, in_phase, in_server_state, in_sessions, is_due, overflow, part, part_where, put, put_where, queue, send, send_by_info, shut, told_out}
 use Rattle.srv_state.specs.declared.connection.Connection.{Connection}
-use Rattle.sm_live.specs.Sessions.{Session, acknowledged, after_resume, asks, bound, copies, enables, fresh, handles, is_too_high, less, presents, resumes, session_named, session_resumed, told_of, waits, with_session, without}
-use Rattle.sm_live.specs.declared.told.Told.{Told}
+use Rattle.sm_live.specs.Sessions.{Session, acknowledged, after_resume, asks, bound, copies, enables, fresh, handles, info_of, is_too_high, less, presents, resumes, session_named, session_resumed, waits, with_session, without}
+use Rattle.sm_live.specs.declared.told.SessionInfo.{SessionInfo}
 use Rattle.law_limits.proofs.Forwarding.{numbered_fits}
 use Rattle.law_limits.proofs.PutReplies.{error_read, request_read}
-use Rattle.law_limits.specs.Fine.{ClientReads}
+use Rattle.law_limits.specs.Bounded.{ClientReads}
 use Rattle.law_limits.specs.Messages.{EntryFits}
 use Rattle.im_replies.specs.Management.{request_item}
 use Rattle.im_replies.specs.Streams.{error_item}
 use Rattle.im_replies.specs.declared.conditions.StreamCondition.{StreamCondition}
 use Rattle.im_replies.specs.declared.conditions.StreamCondition.TheVariants.{ResourceConstraint}
 use Rattle.law_limits.proofs.Lists.{Values, each_append, each_changed, each_drop, each_filter, each_got, each_set, value_found, values_left, values_set}
-use Rattle.law_limits.specs.Keeps.{ActKeeps, ActsKeep, ArchiveKeeps, ConnectionKeeps, HallKeeps, IsRead, OutIsRead, SessionKeeps, StepKeeps}
-use Rattle.law_server.specs.Images.{itself}
+use Rattle.law_limits.specs.Keeps.{ActKeeps, ActsKeep, ArchiveKeeps, ConnectionKeeps, IsRead, OutIsRead, ServerKeeps, SessionKeeps, StepKeeps}
+use Rattle.law_server.specs.Encodings.{itself}
 use Rattle.law_limits.specs.Texts.{Said}
 use Rattle.xml_trees.specs.Trees.{Elem}
 use Rattle.xml_writer.specs.Items.{Closing, ItemOut, Whole}
@@ -42,10 +42,10 @@ closing_read = tt
 -- ---- what is put out
 
 put_kept : (k : ℕ) (i : ItemOut) (s : Step ItemOut) → StepKeeps s → IsRead i → StepKeeps (put k i s)
-put_kept k i s h r = record { hall = h.hall; outs = each_append OutIsRead s.outs (Put k i ∷ []) h.outs (r, tt) }
+put_kept k i s h r = record { server_state = h.server_state; outs = each_append OutIsRead s.outs (Put k i ∷ []) h.outs (r, tt) }
 
 told_kept : (from to origin : List ℕ) (s : Step ItemOut) → StepKeeps s → StepKeeps (told_out from to origin s)
-told_kept from to origin s h = record { hall = h.hall; outs = each_append OutIsRead s.outs (Took from to origin ∷ []) h.outs (tt, tt) }
+told_kept from to origin s h = record { server_state = h.server_state; outs = each_append OutIsRead s.outs (Took from to origin ∷ []) h.outs (tt, tt) }
 
 put_where_kept : (o : Option ℕ) (i : ItemOut) (s : Step ItemOut) → StepKeeps s → IsRead i → StepKeeps (put_where o i s)
 put_where_kept None i s h r = h
@@ -53,17 +53,17 @@ put_where_kept (Some k) i s h r = put_kept k i s h r
 
 -- ---- sessions
 
-pub hall_of_sessions : (ss : List (Session ItemOut)) (h : Hall ItemOut) → HallKeeps h → AllByRecursion SessionKeeps ss → HallKeeps (with_sessions ss h)
-hall_of_sessions ss h k each = record { domain = k.domain; accounts = k.accounts; archives = k.archives; sessions = each; conns = k.conns }
+pub server_state_of_sessions : (ss : List (Session ItemOut)) (h : ServerState ItemOut) → ServerKeeps h → AllByRecursion SessionKeeps ss → ServerKeeps (with_sessions ss h)
+server_state_of_sessions ss h k each = record { domain = k.domain; accounts = k.accounts; archives = k.archives; sessions = each; conns = k.conns }
 
-sessions_kept : (g : List (Session ItemOut) → List (Session ItemOut)) (s : Step ItemOut) → StepKeeps s → AllByRecursion SessionKeeps (g s.hall.sessions) → StepKeeps (in_sessions g s)
-sessions_kept g s h each = record { hall = hall_of_sessions (g s.hall.sessions) s.hall h.hall each; outs = h.outs }
+sessions_kept : (g : List (Session ItemOut) → List (Session ItemOut)) (s : Step ItemOut) → StepKeeps s → AllByRecursion SessionKeeps (g s.server_state.sessions) → StepKeeps (in_sessions g s)
+sessions_kept g s h each = record { server_state = server_state_of_sessions (g s.server_state.sessions) s.server_state h.server_state each; outs = h.outs }
 
 pub session_changed : (n : ℕ) (f : Session ItemOut → Session ItemOut) (ss : List (Session ItemOut)) → ((t : Session ItemOut) → SessionKeeps t → SessionKeeps (f t)) → AllByRecursion SessionKeeps ss → AllByRecursion SessionKeeps (with_session n f ss)
 session_changed n f ss keeps h = each_changed SessionKeeps (λ t. t.shown.number == n) f ss keeps h
 
 one_kept : (n : ℕ) (f : Session ItemOut → Session ItemOut) (s : Step ItemOut) → StepKeeps s → ((t : Session ItemOut) → SessionKeeps t → SessionKeeps (f t)) → StepKeeps (in_sessions (with_session n f) s)
-one_kept n f s h keeps = sessions_kept (with_session n f) s h (session_changed n f s.hall.sessions keeps h.hall.sessions)
+one_kept n f s h keeps = sessions_kept (with_session n f) s h (session_changed n f s.server_state.sessions keeps h.server_state.sessions)
 
 waits_kept : (i : ItemOut) (t : Session ItemOut) → IsRead i → SessionKeeps t → SessionKeeps (waits i t)
 waits_kept i t r h = record { resource = h.resource; acked = h.acked; handled = h.handled; waiting = each_append IsRead t.waiting (i ∷ []) h.waiting (r, tt) }
@@ -85,12 +85,12 @@ shown_kept t u a b c d h = record { resource = rw a h.resource; acked = rw b h.a
 
 shut_kept : (k : ℕ) (s : Step ItemOut) → StepKeeps s → StepKeeps (shut k s)
 shut_kept k s h = record {
-  hall = record {
-    domain = h.hall.domain;
-    accounts = h.hall.accounts;
-    archives = h.hall.archives;
-    sessions = each_filter SessionKeeps _ s.hall.sessions h.hall.sessions;
-    conns = values_left ConnectionKeeps (is_number k) s.hall.conns h.hall.conns;
+  server_state = record {
+    domain = h.server_state.domain;
+    accounts = h.server_state.accounts;
+    archives = h.server_state.archives;
+    sessions = each_filter SessionKeeps _ s.server_state.sessions h.server_state.sessions;
+    conns = values_left ConnectionKeeps (is_number k) s.server_state.conns h.server_state.conns;
   };
   outs = each_append OutIsRead s.outs (Shut k ∷ []) h.outs (tt, tt);
 }
@@ -110,20 +110,20 @@ ask_kept n None true s h = h
 ask_kept n (Some k) true s h =
     put_kept k request_item (in_sessions (with_session n (asks true)) s) (one_kept n (asks true) s h (λ t keeps. shown_kept t (asks true t) refl refl refl refl keeps)) request_item_read
 
-queue_kept : (n : ℕ) (i : ItemOut) (t : Told) (s : Step ItemOut) → StepKeeps s → IsRead i → StepKeeps (queue itself n i t s)
+queue_kept : (n : ℕ) (i : ItemOut) (t : SessionInfo) (s : Step ItemOut) → StepKeeps s → IsRead i → StepKeeps (queue itself n i t s)
 queue_kept n i t s h r =
     let waiting = in_sessions (with_session n (waits i)) s in
     ask_kept n t.conn (is_due t) (put_where t.conn i waiting) (put_where_kept t.conn i waiting (one_kept n (waits i) s h (λ u keeps. waits_kept i u r keeps)) r)
 
-overflow_kept : (n : ℕ) (t : Told) (s : Step ItemOut) → StepKeeps s → StepKeeps (overflow itself n t s)
+overflow_kept : (n : ℕ) (t : SessionInfo) (s : Step ItemOut) → StepKeeps s → StepKeeps (overflow itself n t s)
 overflow_kept n t s h =
-    part_where_kept t.conn (error_item ResourceConstraint) (in_sessions (without n) s) (sessions_kept (without n) s h (each_filter SessionKeeps _ s.hall.sessions h.hall.sessions)) (error_item_read ResourceConstraint)
+    part_where_kept t.conn (error_item ResourceConstraint) (in_sessions (without n) s) (sessions_kept (without n) s h (each_filter SessionKeeps _ s.server_state.sessions h.server_state.sessions)) (error_item_read ResourceConstraint)
 
 chosen_kept : (b : Bool) (s t : Step ItemOut) → StepKeeps s → StepKeeps t → StepKeeps (cond b s t)
 chosen_kept true s t h k = h
 chosen_kept false s t h k = k
 
-send_kept : (n : ℕ) (i : ItemOut) (o : Option Told) (s : Step ItemOut) → StepKeeps s → IsRead i → StepKeeps (send_told itself n i o s)
+send_kept : (n : ℕ) (i : ItemOut) (o : Option SessionInfo) (s : Step ItemOut) → StepKeeps s → IsRead i → StepKeeps (send_by_info itself n i o s)
 send_kept n i None s h r = h
 send_kept n i (Some t) s h r =
     chosen_kept (not t.counted) (put_where t.conn i s) (cond (t.waiting == MOST_UNACKNOWLEDGED) (overflow itself n t s) (queue itself n i t s)) (put_where_kept t.conn i s h r)
@@ -136,14 +136,14 @@ conns_kept : (k : ℕ) (f : Connection → Connection) (o : Option Connection) (
 conns_kept k f None conns keeps o h = h
 conns_kept k f (Some c) conns keeps o h = values_set ConnectionKeeps (is_number k) conns (f c) h (keeps c o)
 
-conn_kept : (k : ℕ) (f : Connection → Connection) (s : Step ItemOut) → ((c : Connection) → ConnectionKeeps c → ConnectionKeeps (f c)) → StepKeeps s → StepKeeps (in_hall (with_conn k f) s)
+conn_kept : (k : ℕ) (f : Connection → Connection) (s : Step ItemOut) → ((c : Connection) → ConnectionKeeps c → ConnectionKeeps (f c)) → StepKeeps s → StepKeeps (in_server_state (with_conn k f) s)
 conn_kept k f s keeps h = record {
-  hall = record {
-    domain = h.hall.domain;
-    accounts = h.hall.accounts;
-    archives = h.hall.archives;
-    sessions = h.hall.sessions;
-    conns = conns_kept k f (conn_at k s.hall) s.hall.conns keeps (value_found ConnectionKeeps (is_number k) s.hall.conns h.hall.conns) h.hall.conns;
+  server_state = record {
+    domain = h.server_state.domain;
+    accounts = h.server_state.accounts;
+    archives = h.server_state.archives;
+    sessions = h.server_state.sessions;
+    conns = conns_kept k f (conn_at k s.server_state) s.server_state.conns keeps (value_found ConnectionKeeps (is_number k) s.server_state.conns h.server_state.conns) h.server_state.conns;
   };
   outs = h.outs;
 }
@@ -157,14 +157,14 @@ bound_kept n account k resource ss said h =
     each_append SessionKeeps (less (session_named account resource ss) ss) (fresh n account resource k ∷ []) (less_kept (session_named account resource ss) ss h)
     (record { resource = said; acked = omega arith; handled = omega arith; waiting = tt }, tt)
 
-bind_kept : (account k : ℕ) (resource : List ℕ) (s : Step ItemOut) → Said 6138 resource → StepKeeps s → StepKeeps (in_hall (binds account resource k) s)
+bind_kept : (account k : ℕ) (resource : List ℕ) (s : Step ItemOut) → Said 6138 resource → StepKeeps s → StepKeeps (in_server_state (binds account resource k) s)
 bind_kept account k resource s said h = record {
-  hall = record {
-    domain = h.hall.domain;
-    accounts = h.hall.accounts;
-    archives = h.hall.archives;
-    sessions = bound_kept s.hall.next account k resource s.hall.sessions said h.hall.sessions;
-    conns = h.hall.conns;
+  server_state = record {
+    domain = h.server_state.domain;
+    accounts = h.server_state.accounts;
+    archives = h.server_state.archives;
+    sessions = bound_kept s.server_state.next account k resource s.server_state.sessions said h.server_state.sessions;
+    conns = h.server_state.conns;
   };
   outs = h.outs;
 }
@@ -188,7 +188,7 @@ appended_kept e a fits h =
       keep = h.keep;
     }
 
-archived_kept : (e : EntryView) (account : ℕ) (o : Option Kept) (h : Hall ItemOut) → EntryFits e → IfSome o ArchiveKeeps → HallKeeps h → HallKeeps (archived_in e account o h)
+archived_kept : (e : EntryView) (account : ℕ) (o : Option Kept) (h : ServerState ItemOut) → EntryFits e → IfSome o ArchiveKeeps → ServerKeeps h → ServerKeeps (archived_in e account o h)
 archived_kept e account None h fits o k = k
 archived_kept e account (Some a) h fits o k =
     record { domain = k.domain; accounts = k.accounts; archives = each_set ArchiveKeeps h.archives account (appended e a) k.archives (appended_kept e a fits o); sessions = k.sessions; conns = k.conns }
@@ -202,16 +202,16 @@ act_kept (steps.Enter k phase) s a h = conn_kept k (in_phase phase) s (λ c keep
 act_kept (steps.Fail k left) s a h = conn_kept k (after_failure left) s (λ c keeps. keeps) h
 act_kept (steps.Bind account resource k) s a h = bind_kept account k resource s a h
 act_kept (steps.Resume previd account n k) s a h =
-    sessions_kept (λ sessions. after_resume n k (session_resumed previd account sessions) sessions) s h (resumed_kept n k (session_resumed previd account s.hall.sessions) s.hall.sessions a h.hall.sessions)
+    sessions_kept (λ sessions. after_resume n k (session_resumed previd account sessions) sessions) s h (resumed_kept n k (session_resumed previd account s.server_state.sessions) s.server_state.sessions a h.server_state.sessions)
 act_kept (steps.Enable n resume) s a h = one_kept n (enables resume) s h (λ t keeps. shown_kept t (enables resume t) refl refl refl refl keeps)
 act_kept (steps.Acknowledge n m) s a h = one_kept n (acknowledged m) s h (λ t keeps. acknowledged_kept m t a keeps)
 act_kept (steps.Ask n on) s a h = one_kept n (asks on) s h (λ t keeps. shown_kept t (asks on t) refl refl refl refl keeps)
 act_kept (steps.Handle n) s a h = one_kept n handles s h handles_kept
 act_kept (steps.Present n available priority) s a h = one_kept n (presents available priority) s h (λ t keeps. shown_kept t (presents available priority t) refl refl refl refl keeps)
 act_kept (steps.Copy n on) s a h = one_kept n (copies on) s h (λ t keeps. shown_kept t (copies on t) refl refl refl refl keeps)
-act_kept (steps.Send n i) s a h = send_kept n i (told_of n s.hall.sessions) s h a
+act_kept (steps.Send n i) s a h = send_kept n i (info_of n s.server_state.sessions) s h a
 act_kept (steps.Archive account e) s a h =
-    record { hall = archived_kept e account (archive_at account s.hall) s.hall a (each_got ArchiveKeeps s.hall.archives account h.hall.archives) h.hall; outs = h.outs }
+    record { server_state = archived_kept e account (archive_at account s.server_state) s.server_state a (each_got ArchiveKeeps s.server_state.archives account h.server_state.archives) h.server_state; outs = h.outs }
 act_kept (steps.Tell from to origin) s a h = told_kept from to origin s h
 
 pub acts_kept : (acts : List (Act ItemOut)) (s : Step ItemOut) → ActsKeep acts → StepKeeps s → StepKeeps (acted itself acts s)

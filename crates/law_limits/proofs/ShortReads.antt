@@ -27,7 +27,7 @@ use Rattle.idna.specs.Uts46.{domain_to_ascii}
 use Rattle.idna.specs.declared.deny_list.TheConstants.AsciiDenyList.{STD3}
 use Rattle.unicode_normalization.specs.Forms.{nfc}
 use Rattle.im_jid.specs.Forms.{domain_form, ends_in_dot, fits_resource, fitting, is_local_byte, less_dot, local_form, resource_form, whole_domain}
-use Rattle.im_jid.specs.Normal.{behind_slash, followed_by_at, joined, local_front, normal, resource_back}
+use Rattle.im_jid.specs.Normal.{after_slash, followed_by_at, joined, local_front, normal, resource_back}
 use Rattle.im_jid.specs.declared.fault.JidFault.{JidFault}
 use Rattle.im_jid.specs.declared.fault.JidFault.TheVariants.{BadDomain, BadLocal, BadResource, Empty, TooLong}
 use Rattle.im_mam.specs.ArchiveAnswers.{is_result}
@@ -77,21 +77,21 @@ some_within o t h is = subst (λ p. IfSome p (IsTextWithin most_id)) is h
 
 -- ---- children
 
-record IsFine (e : Elem) : Type 0 where
+record IsBounded (e : Elem) : Type 0 where
   plain : IsPlainElement e
   short : IsShort e
 
-child_fine : (ns name : List ℕ) (ks : Nodes) (given : Elem) → ArePlainNodes ks → AreShort ks → first_named ns name ks ≡ Some given → IsFine given
-child_fine ns name no_nodes given plain short is = cc is
-child_fine ns name (child e rest) given plain short is = by_case (is_named ns name e) (child_fine ns name rest given plain.1 short.1) is
+child_bounded : (ns name : List ℕ) (ks : Nodes) (given : Elem) → ArePlainNodes ks → AreShort ks → first_named ns name ks ≡ Some given → IsBounded given
+child_bounded ns name no_nodes given plain short is = cc is
+child_bounded ns name (child e rest) given plain short is = by_case (is_named ns name e) (child_bounded ns name rest given plain.1 short.1) is
   where
-    by_case : (c : Bool) → (first_named ns name rest ≡ Some given → IsFine given) → (if c then Some e else first_named ns name rest) ≡ Some given → IsFine given
-    by_case true later same = let here : e ≡ given = cc in subst IsFine here (record { plain = plain.0; short = short.0 })
+    by_case : (c : Bool) → (first_named ns name rest ≡ Some given → IsBounded given) → (if c then Some e else first_named ns name rest) ≡ Some given → IsBounded given
+    by_case true later same = let here : e ≡ given = cc in subst IsBounded here (record { plain = plain.0; short = short.0 })
     by_case false later same = later same
-child_fine ns name (text t rest) given plain short is = child_fine ns name rest given plain.1 short is
+child_bounded ns name (text t rest) given plain short is = child_bounded ns name rest given plain.1 short is
 
-in_nodes : (ns name : List ℕ) (e given : Elem) → IsPlainElement e → IsShort e → first_named ns name (nodes_of e) ≡ Some given → IsFine given
-in_nodes ns name (element ns' name' attrs kids) given plain short is = child_fine ns name kids given plain.2 short.2 is
+in_nodes : (ns name : List ℕ) (e given : Elem) → IsPlainElement e → IsShort e → first_named ns name (nodes_of e) ≡ Some given → IsBounded given
+in_nodes ns name (element ns' name' attrs kids) given plain short is = child_bounded ns name kids given plain.2 short.2 is
 
 -- ---- ids
 
@@ -106,8 +106,8 @@ session_within e v plain short = by_case (is_management (codes "enabled") e) (op
     by_case true None is = cc is
     by_case false o is = cc is
 
-result_id : (given : Elem) (r : MamResult) → IsFine given → result_read given ≡ Ok r → IsTextWithin most_id r.id
-result_id given r fine = by_case (is_result given) (attr_named (codes "id") given) (forward_read None (the_forwarded given)) (attribute_within [] (codes "id") given fine.plain fine.short)
+result_id : (given : Elem) (r : MamResult) → IsBounded given → result_read given ≡ Ok r → IsTextWithin most_id r.id
+result_id given r bounded = by_case (is_result given) (attr_named (codes "id") given) (forward_read None (the_forwarded given)) (attribute_within [] (codes "id") given bounded.plain bounded.short)
   where
     by_case : (b : Bool) (o : Option (List ℕ)) (f : Result Forwarded ExtFault) → IfSome o (IsTextWithin most_id) → where_this b (result_with (attr_or_empty (codes "queryid") given) o f) ≡ Ok r → IsTextWithin most_id r.id
     by_case true (Some id) (Ok f) within is = let same : id ≡ r.id = cc in subst (IsTextWithin most_id) same within
@@ -163,7 +163,7 @@ at_short : (r : Result (List ℕ) JidFault) → IsOfAtMost 1023 r → IsOfAtMost
 at_short (Ok local) h = omega (arith, length-append local (64 ∷ []), h)
 at_short (Err why) h = tt
 
-slash_short : (r : Result (List ℕ) JidFault) → IsOfAtMost 1023 r → IsOfAtMost 1024 (behind_slash r)
+slash_short : (r : Result (List ℕ) JidFault) → IsOfAtMost 1023 r → IsOfAtMost 1024 (after_slash r)
 slash_short (Ok resource) h = omega (arith, h)
 slash_short (Err why) h = tt
 

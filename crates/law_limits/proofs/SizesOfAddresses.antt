@@ -15,7 +15,7 @@ use Rattle.unicode_normalization.specs.Forms.{nfc}
 use Rattle.im_jid.proofs.PartForms.{domain_form_ok, fitting_ok, local_form_ok, ok_from_else, ok_from_then}
 use Rattle.im_jid.specs.Cuts.{bare_len, domain_of, is_slash, local_of, resource_of}
 use Rattle.im_jid.specs.Forms.{domain_form, fits_resource, is_local_byte, is_resource_char, local_form, resource_form}
-use Rattle.im_jid.specs.Normal.{behind_slash, followed_by_at, joined, local_front, normal, resource_back}
+use Rattle.im_jid.specs.Normal.{after_slash, followed_by_at, joined, local_front, normal, resource_back}
 use Rattle.im_jid.specs.declared.fault.JidFault.{JidFault}
 use Rattle.im_jid.specs.declared.fault.JidFault.TheVariants.{BadResource, Empty}
 use Rattle.law_limits.proofs.Characters.{from_those, said_append, said_printable, said_word, those_of}
@@ -89,8 +89,8 @@ resource_said given part h is =
 
 -- ---- what stands behind the first `/` of a text
 
-characters_behind : (t : List ℕ) (n : ℕ) → IsCharacters t → IsCharBoundary t n → IsCharacters (drop n t)
-characters_behind t n h cut =
+characters_after : (t : List ℕ) (n : ℕ) → IsCharacters t → IsCharBoundary t n → IsCharacters (drop n t)
+characters_after t n h cut =
     let front = IsUtf8-take t n h.utf8 cut in
     let back = IsUtf8-drop t n h.utf8 cut in
     let all : list_all is_character (chars (take n t ++ drop n t)) ≡ true = ap (λ x. list_all is_character (chars x)) (take-append-drop n t) ∙ those_of t h in
@@ -108,7 +108,7 @@ resource_given t h =
           let lt : bare_len t < length t = ltb-true _ _ there in
           let slash = first_slash t lt in
           let cut = IsCharBoundary-after_ascii t (bare_len t) h.utf8 lt (omega arith) in
-          rw there (characters_behind t (bare_len t + 1) h cut)
+          rw there (characters_after t (bare_len t + 1) h cut)
       | inr none ↦ rw none tt
     ]
 
@@ -131,15 +131,15 @@ front_said : (given : Option (List ℕ)) (p : List ℕ) → local_front given �
 front_said None p is = let same : [] ≡ p = cc in subst (Said 6144) same (said_word 6144 [] refl refl)
 front_said (Some given) p is = local_followed given p (local_form given) refl is
 
-resource_behind : (given p : List ℕ) (r : Result (List ℕ) JidFault) → IsCharacters given → resource_form given ≡ r → behind_slash r ≡ Ok p → Said 6144 p
-resource_behind given p (Err e) h form is = cc
-resource_behind given p (Ok part) h form is =
+resource_after : (given p : List ℕ) (r : Result (List ℕ) JidFault) → IsCharacters given → resource_form given ≡ r → after_slash r ≡ Ok p → Said 6144 p
+resource_after given p (Err e) h form is = cc
+resource_after given p (Ok part) h form is =
     let same : 47 ∷ part ≡ p = cc in
     subst (Said 6144) same (said_append 6 6138 6144 (47 ∷ []) part (said_word 6 (47 ∷ []) refl refl) (resource_said given part h form) (omega arith))
 
 back_said : (given : Option (List ℕ)) (p : List ℕ) → IfSome given IsCharacters → resource_back given ≡ Ok p → Said 6144 p
 back_said None p h is = let same : [] ≡ p = cc in subst (Said 6144) same (said_word 6144 [] refl refl)
-back_said (Some given) p h is = resource_behind given p (resource_form given) h refl is
+back_said (Some given) p h is = resource_after given p (resource_form given) h refl is
 
 joined_said : (l d r : Result (List ℕ) JidFault) (out : List ℕ) → ((p : List ℕ) → l ≡ Ok p → Said 6144 p) → ((p : List ℕ) → d ≡ Ok p → Said 6138 p) → ((p : List ℕ) → r ≡ Ok p → Said 6144 p)
     → joined l d r ≡ Ok out → Said 18426 out

@@ -36,8 +36,8 @@ stamp_printable year month day clock y m d c =
     let finer : list_all is_printable (46 ∷ (three (clock % 1000) ++ 90 ∷ [])) ≡ true =
     and_from _ _ refl (printable_append (three (clock % 1000)) (90 ∷ []) (three_printable (clock % 1000) (omega arith)) refl) in
     let clocked = clock_text (clock / 3600000) (clock / 60000 % 60) (clock / 1000 % 60) in
-    let behind = 46 ∷ (three (clock % 1000) ++ 90 ∷ []) in
-    printable_append (date_text year month day) (84 ∷ (clocked ++ behind)) date (and_from _ _ refl (printable_append clocked behind time finer))
+    let following = 46 ∷ (three (clock % 1000) ++ 90 ∷ []) in
+    printable_append (date_text year month day) (84 ∷ (clocked ++ following)) date (and_from _ _ refl (printable_append clocked following time finer))
 
 written_said : (ms : ℕ) (text : List ℕ) → IsWritten ms text → Said 144 text
 written_said ms text w =

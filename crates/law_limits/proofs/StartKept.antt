@@ -12,9 +12,9 @@ use Rattle.im_jid.specs.Forms.{domain_form, local_form}
 use Rattle.im_jid.specs.declared.fault.JidFault.{JidFault}
 use Rattle.srv_login.specs.Accounts.{account_of, bare_text, is_form, is_normal_local}
 use Rattle.srv_login.specs.declared.account.Account.{Account}
-use Rattle.srv_core.specs.Configs.{archives_of, hall_at_start, is_normal_domain}
+use Rattle.srv_core.specs.Configs.{archives_of, is_normal_domain, server_state_at_start}
 use Rattle.law_limits.proofs.ServerLoginsKept.{all_bytes, first_bytes, take_shorter}
-use Rattle.law_limits.specs.Keeps.{AccountKeeps, ArchiveKeeps, HallKeeps}
+use Rattle.law_limits.specs.Keeps.{AccountKeeps, ArchiveKeeps, ServerKeeps}
 use Rattle.law_limits.proofs.SizesOfAddresses.{domain_said, local_said}
 use Rattle.law_limits.specs.Texts.{Said}
 
@@ -70,6 +70,6 @@ archives_kept : (domain : List ℕ) (keep : ℕ) (accounts : List Account) → k
 archives_kept domain keep [] small = tt
 archives_kept domain keep (a ∷ more) small = (record { entries = tt; few = omega arith; keep = small }, archives_kept domain keep more small)
 
-pub start_kept : (domain : List ℕ) (accounts : List Account) (keep : ℕ) → is_normal_domain domain ≡ true → AllByRecursion AccountKeeps accounts → keep < 2 ^ 64 → HallKeeps (hall_at_start domain accounts keep)
+pub start_kept : (domain : List ℕ) (accounts : List Account) (keep : ℕ) → is_normal_domain domain ≡ true → AllByRecursion AccountKeeps accounts → keep < 2 ^ 64 → ServerKeeps (server_state_at_start domain accounts keep)
 start_kept domain accounts keep normal each small =
     record { domain = form_said (domain_form domain) domain (λ p is. domain_said domain p is) normal; accounts = each; archives = archives_kept domain keep accounts small; sessions = tt; conns = tt }

@@ -2,7 +2,7 @@
 -- archived, and the texts that it holds.
 use Rattle.std.specs.Prelude.{ℕ, ◌≡◌, ◌<◌, ◌≤◌, ◌^◌, nat_lt, List, Some, length, true}
 use Rattle.std.specs.List.{AllByRecursion, list_all}
-use Rattle.srv_state.specs.State.{Hall, Kept, Out, Put, Shut, Step, Took}
+use Rattle.srv_state.specs.State.{Kept, Out, Put, ServerState, Shut, Step, Took}
 use Rattle.srv_state.specs.Steps as steps
 use Rattle.srv_state.specs.Steps.{Act}
 use Rattle.srv_state.specs.declared.connection.Connection.{Connection}
@@ -78,7 +78,7 @@ pub record IsDrawn (entropy : List ℕ) : Type 0 where
 abbrev pub ConnectionKeeps : Connection → Type 0
 ConnectionKeeps c = IsDrawn c.entropy
 
-pub record HallKeeps (h : Hall ItemOut) : Type 0 where
+pub record ServerKeeps (h : ServerState ItemOut) : Type 0 where
   pub domain : Said 6138 h.domain
   pub accounts : AllByRecursion AccountKeeps h.accounts
   pub archives : AllByRecursion ArchiveKeeps h.archives
@@ -86,7 +86,7 @@ pub record HallKeeps (h : Hall ItemOut) : Type 0 where
   pub conns : AllByRecursion (λ (entry : ℕ × Connection). ConnectionKeeps entry.1) h.conns
 
 pub record StepKeeps (s : Step ItemOut) : Type 0 where
-  pub hall : HallKeeps s.hall
+  pub server_state : ServerKeeps s.server_state
   pub outs : AllByRecursion OutIsRead s.outs
 
 -- ---- a small step

@@ -3,7 +3,7 @@ pub mod Texts
 -- how long elements are
 pub mod Elements
 -- elements that a client reads as they are written
-pub mod Fine
+pub mod Bounded
 -- messages and entries
 pub mod Messages
 -- How long texts are, of which a client says something.

@@ -2,7 +2,7 @@
 use Rattle.std.specs.Prelude.{ℕ, ◌+◌, ◌≤◌, IfSome}
 use Rattle.mam_archive.specs.Entries.{EntryView}
 use Rattle.im_forwarding.specs.Results.{entry_nodes}
-use Rattle.law_limits.specs.Fine.{AreFine}
+use Rattle.law_limits.specs.Bounded.{AreBounded}
 use Rattle.law_limits.specs.Texts.{Said}
 use Rattle.im_stanza.specs.Names.{client_ns}
 use Rattle.im_stanza.specs.Views.{MessageView}
@@ -17,7 +17,7 @@ pub record MessageFits (m : MessageView) : Type 0 where
   pub within : id_bytes + payload_bytes ≤ 1048576
   pub id : Said id_bytes m.id
   pub lang : Said 1048576 m.lang
-  pub payload : AreFine client_ns 31 payload_bytes m.payload
+  pub payload : AreBounded client_ns 31 payload_bytes m.payload
   pub tidy : AreTidy m.payload
 
 -- What an archive keeps of such a message.
@@ -28,4 +28,4 @@ pub record EntryFits (e : EntryView) : Type 0 where
   pub payload_bytes : ℕ
   pub within : id_bytes + payload_bytes ≤ 2098176
   pub id : Said id_bytes e.id
-  pub payload : AreFine client_ns 1 payload_bytes (entry_nodes e.bodies e.origin)
+  pub payload : AreBounded client_ns 1 payload_bytes (entry_nodes e.bodies e.origin)

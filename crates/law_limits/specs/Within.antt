@@ -4,7 +4,7 @@ use Rattle.std.specs.List.{AllByRecursion}
 use Rattle.base64.specs.GeneralPurpose.{IsBytes}
 use Rattle.cl_login.specs.declared.login_state.LoginState.{LoginState}
 use Rattle.cl_login.specs.declared.login_state.LoginState.TheVariants as state
-use Rattle.cl_handlers.specs.Clients.{ClientView, Turn}
+use Rattle.cl_handlers.specs.Clients.{ClientStep, ClientView}
 use Rattle.cl_handlers.specs.declared.account.Account.{Account}
 use Rattle.cl_handlers.specs.declared.phase.Phase.{Phase}
 use Rattle.cl_handlers.specs.declared.phase.Phase.TheVariants as phase
@@ -77,6 +77,6 @@ pub record IsClientWithin (c : ClientView ItemOut) : Type 0 where
   pub session : IfSome c.session IsSessionWithin
   pub phase : IsPhaseWithin c.phase
 
-pub record IsTurnWithin (t : Turn ItemOut ItemOut) : Type 0 where
+pub record IsClientStepWithin (t : ClientStep ItemOut ItemOut) : Type 0 where
   pub client : IsClientWithin t.client
   pub put : AllFit t.out.put

@@ -5,9 +5,9 @@ ghost use Rattle.cl_core.specs.Steps.{items_run};
 ghost use Rattle.cl_core.specs.UserCalls.{catches_up, closes, dials, forgets, leaves, says};
 ghost use Rattle.law_limits.specs.Answerable.{AreAnswerable, IsAnswerable, IsPieceAnswerable};
 ghost use Rattle.law_limits.specs.Short.{IsShort};
-ghost use Rattle.law_limits.specs.Within.{IsAccountWithin, IsClientWithin, IsTurnWithin};
+ghost use Rattle.law_limits.specs.Within.{IsAccountWithin, IsClientStepWithin, IsClientWithin};
 ghost use Rattle.law_client.specs.Calls.{first_client};
-ghost use Rattle.cl_handlers.specs.Clients.{Turn};
+ghost use Rattle.cl_handlers.specs.Clients.{ClientStep};
 ghost use Rattle.cl_handlers.specs.Speech.{in_items};
 ghost use Rattle.cl_handlers.specs.declared.account.Account.{Account};
 ghost use Rattle.xml_framer.specs.declared.items.Item.{Item};
@@ -25,14 +25,14 @@ ghost use Rattle.xml_writer.specs.Items.{ItemOut};
 /// items come that it can answer, and whatever its user asks for within the bounds; and what it holds keeps to them.
 pub fn what_a_client_puts_fits()
     ensures begins { (account : Account) → IsAccountWithin account → IsClientWithin (first_client account) }
-    ensures items { (items : List Item) (t : Turn ItemOut ItemOut) → AreAnswerable items → IsTurnWithin t → IsTurnWithin (items_run in_items t items) }
-    ensures bytes { (f : Fed ItemOut ItemOut) (piece : List ℕ) → IsPieceAnswerable f.framer piece → IsTurnWithin f.turn → IsTurnWithin (bytes_step in_items f piece).turn }
-    ensures dials { (f : Fed ItemOut ItemOut) (entropy : List ℕ) → IsTurnWithin f.turn → IsTurnWithin (dials in_items entropy f).turn }
-    ensures leaves { (f : Fed ItemOut ItemOut) → IsTurnWithin f.turn → IsTurnWithin (leaves f).turn }
-    ensures forgets { (f : Fed ItemOut ItemOut) → IsTurnWithin f.turn → IsTurnWithin (forgets in_items f).turn }
-    ensures closes { (f : Fed ItemOut ItemOut) → IsTurnWithin f.turn → IsTurnWithin (closes in_items f).turn }
-    ensures says { (t : Turn ItemOut ItemOut) (to text : List ℕ) (private : Bool) → IsTextWithin most_address to → IsTextWithin most_text text → IsTurnWithin t → IsTurnWithin (says in_items t to text private) }
-    ensures catches_up { (t : Turn ItemOut ItemOut) (max : ℕ) → max < 2 ^ 32 → IsTurnWithin t → IsTurnWithin (catches_up in_items t max) }
+    ensures items { (items : List Item) (t : ClientStep ItemOut ItemOut) → AreAnswerable items → IsClientStepWithin t → IsClientStepWithin (items_run in_items t items) }
+    ensures bytes { (f : Fed ItemOut ItemOut) (piece : List ℕ) → IsPieceAnswerable f.framer piece → IsClientStepWithin f.turn → IsClientStepWithin (bytes_step in_items f piece).turn }
+    ensures dials { (f : Fed ItemOut ItemOut) (entropy : List ℕ) → IsClientStepWithin f.turn → IsClientStepWithin (dials in_items entropy f).turn }
+    ensures leaves { (f : Fed ItemOut ItemOut) → IsClientStepWithin f.turn → IsClientStepWithin (leaves f).turn }
+    ensures forgets { (f : Fed ItemOut ItemOut) → IsClientStepWithin f.turn → IsClientStepWithin (forgets in_items f).turn }
+    ensures closes { (f : Fed ItemOut ItemOut) → IsClientStepWithin f.turn → IsClientStepWithin (closes in_items f).turn }
+    ensures says { (t : ClientStep ItemOut ItemOut) (to text : List ℕ) (private : Bool) → IsTextWithin most_address to → IsTextWithin most_text text → IsClientStepWithin t → IsClientStepWithin (says in_items t to text private) }
+    ensures catches_up { (t : ClientStep ItemOut ItemOut) (max : ℕ) → max < 2 ^ 32 → IsClientStepWithin t → IsClientStepWithin (catches_up in_items t max) }
 {}
 
 /// A law: a client can answer each element that is plain, as all are that a framer gives, and whose texts are no longer than

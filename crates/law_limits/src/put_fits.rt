@@ -19,7 +19,7 @@ ghost use Rattle.im_messages.specs.Entries.{entry_of};
 ghost use Rattle.mam_pages.specs.declared.fin.Fin.{Fin};
 ghost use Rattle.im_payload.specs.Bare.{bare};
 ghost use Rattle.im_payload.specs.Names.{management, roster};
-ghost use Rattle.law_limits.specs.Fine.{AreFine, ClientReads, IsWord};
+ghost use Rattle.law_limits.specs.Bounded.{AreBounded, ClientReads, IsWord};
 ghost use Rattle.law_limits.specs.Messages.{EntryFits, MessageFits};
 ghost use Rattle.im_replies.specs.Requests.{EnvelopeView};
 ghost use Rattle.im_replies.specs.Streams.{server_header, stream_condition_name, stream_id};
@@ -72,15 +72,15 @@ pub fn answers_are_read()
     ensures bounce { (f i : ℕ) (from id : List ℕ) (e : StanzaError) → Said f from → Said i id → IsKnown e.condition → f + i ≤ 4000000 → ClientReads (bounce_elem from id e) }
     ensures presence { (f i : ℕ) (from id : List ℕ) (e : StanzaError) → Said f from → Said i id → IsKnown e.condition → f + i ≤ 4000000 → ClientReads (presence_bounce_elem from id e) }
     ensures error { (f i t : ℕ) (from to : Option (List ℕ)) (id : List ℕ) (e : StanzaError) → IfSome from (Said f) → Said i id → IfSome to (Said t) → IsKnown e.condition → f + i + t ≤ 4000000 → ClientReads (iq_error_elem from to id e) }
-    ensures result { (f i t levels n : ℕ) (a : EnvelopeView) (payload : Nodes) → IfSome a.from (Said f) → Said i a.id → IfSome a.to (Said t) → tidied_nodes payload ≡ payload → AreFine client_ns levels n payload
+    ensures result { (f i t levels n : ℕ) (a : EnvelopeView) (payload : Nodes) → IfSome a.from (Said f) → Said i a.id → IfSome a.to (Said t) → tidied_nodes payload ≡ payload → AreBounded client_ns levels n payload
         → levels ≤ 60 → f + i + t + n ≤ 4000000 → ClientReads (iq_elem (record { from = a.from; to = a.to; id = a.id; kind = iq.Result; payload = payload })) }
-    ensures roster { AreFine client_ns 1 400 (child (bare roster (codes "query")) no_nodes) }
-    ensures server_info { AreFine client_ns 2 5000 (child (disco_info_elem (server ∷ []) server_features) no_nodes) }
-    ensures account_info { AreFine client_ns 2 5000 (child (disco_info_elem (account ∷ []) server_features) no_nodes) }
-    ensures items { (m : ℕ) (node : List ℕ) → Said m node → AreFine client_ns 1 (m + 448) (child (disco_items_elem node) no_nodes) }
-    ensures bound { (m : ℕ) (jid : List ℕ) → Said m jid → AreFine client_ns 2 (m + 800) (child (bind_result_elem (record { jid = jid })) no_nodes) }
-    ensures fin { (v : Fin) → IfSome v.first (Said 120) → IfSome v.last (Said 120) → v.first_index < 2 ^ 64 → v.count < 2 ^ 64 → AreFine client_ns 3 3000 (child (fin_elem v) no_nodes) }
-    ensures fin_without_index { (v : Fin) → IfSome v.first (Said 120) → IfSome v.last (Said 120) → v.count < 2 ^ 64 → AreFine client_ns 3 3000 (child (fin_elem_without_index v) no_nodes) }
+    ensures roster { AreBounded client_ns 1 400 (child (bare roster (codes "query")) no_nodes) }
+    ensures server_info { AreBounded client_ns 2 5000 (child (disco_info_elem (server ∷ []) server_features) no_nodes) }
+    ensures account_info { AreBounded client_ns 2 5000 (child (disco_info_elem (account ∷ []) server_features) no_nodes) }
+    ensures items { (m : ℕ) (node : List ℕ) → Said m node → AreBounded client_ns 1 (m + 448) (child (disco_items_elem node) no_nodes) }
+    ensures bound { (m : ℕ) (jid : List ℕ) → Said m jid → AreBounded client_ns 2 (m + 800) (child (bind_result_elem (record { jid = jid })) no_nodes) }
+    ensures fin { (v : Fin) → IfSome v.first (Said 120) → IfSome v.last (Said 120) → v.first_index < 2 ^ 64 → v.count < 2 ^ 64 → AreBounded client_ns 3 3000 (child (fin_elem v) no_nodes) }
+    ensures fin_without_index { (v : Fin) → IfSome v.first (Said 120) → IfSome v.last (Said 120) → v.count < 2 ^ 64 → AreBounded client_ns 3 3000 (child (fin_elem_without_index v) no_nodes) }
 {}
 
 /// A law: a client reads what a server passes on, copies and forwards (RFC 6121, section 8; XEP-0280; XEP-0313, section

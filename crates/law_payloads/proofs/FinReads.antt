@@ -63,15 +63,15 @@ module _ (index : Option ℕ) (count : ℕ) (index_low : IfSome index (λ i. i <
   count_again complete (Some id) None = ap Some (text_of-text_node (decimal count))
   count_again complete (Some id) (Some t) = ap Some (text_of-text_node (decimal count))
 
-  first_place : (index : Option ℕ) → IfSome index (λ i. i < 2 ^ 64) → (complete : Bool) (id : List ℕ) (last : Option (List ℕ)) →
+  first_position : (index : Option ℕ) → IfSome index (λ i. i < 2 ^ 64) → (complete : Bool) (id : List ℕ) (last : Option (List ℕ)) →
       number_or_zero (index_in (fin_elem_with index (fin complete (Some id) 0 last count))) ≡ Some (unwrap_or index 0)
-  first_place None low complete id last = refl
-  first_place (Some i) low complete id last = number_again i low
+  first_position None low complete id last = refl
+  first_position (Some i) low complete id last = number_again i low
 
   index_again : (complete : Bool) (first last : Option (List ℕ)) → (first ≡ None → unwrap_or index 0 ≡ 0) → number_or_zero (index_in (written complete first last)) ≡ Some (unwrap_or index 0)
   index_again complete None None none = ap Some (sym (none refl))
   index_again complete None (Some t) none = ap Some (sym (none refl))
-  index_again complete (Some id) last none = first_place index index_low complete id last
+  index_again complete (Some id) last none = first_position index index_low complete id last
 
   fin_is : (complete : Bool) (first last : Option (List ℕ)) → (first ≡ None → unwrap_or index 0 ≡ 0) → IsFin (written complete first last) (fin complete first (unwrap_or index 0) last count)
   fin_is complete first last none = record {

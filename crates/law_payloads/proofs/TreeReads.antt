@@ -23,7 +23,7 @@ use Rattle.im_stanza.specs.declared.stanzas.Presence.{Presence as PresenceView}
 use Rattle.im_stanza.specs.declared.stanzas.Stanza.TheVariants.{Message, Presence}
 use Rattle.xml_trees.proofs.TidyReads.{elements_of-joined}
 use Rattle.xml_trees.specs.Readers.{attr_of, elements_of}
-use Rattle.xml_trees.specs.Tidied.{text_node, tidied, tidied_behind, tidied_nodes}
+use Rattle.xml_trees.specs.Tidied.{text_node, tidied, tidied_after, tidied_nodes}
 use Rattle.xml_trees.specs.Trees.{Elem, element, Nodes, no_nodes, child, text, nodes_of}
 
 -- ---- the elements of what is tidied
@@ -32,18 +32,18 @@ no_elements : (run : List ℕ) → elements_of (text_node run) ≡ []
 no_elements [] = refl
 no_elements (c ∷ cs) = refl
 
-elements_behind : (run : List ℕ) (ks : Nodes) → elements_of (tidied_behind run ks) ≡ map tidied (elements_of ks)
-elements_behind run no_nodes = no_elements run
-elements_behind run (child e rest) =
-    elements_of-joined (text_node run) (child (tidied e) (tidied_behind [] rest))
-    ∙ (λ i. no_elements run i ++ tidied e ∷ elements_behind [] rest i)
-elements_behind run (text t rest) = elements_behind (run ++ t) rest
+elements_after : (run : List ℕ) (ks : Nodes) → elements_of (tidied_after run ks) ≡ map tidied (elements_of ks)
+elements_after run no_nodes = no_elements run
+elements_after run (child e rest) =
+    elements_of-joined (text_node run) (child (tidied e) (tidied_after [] rest))
+    ∙ (λ i. no_elements run i ++ tidied e ∷ elements_after [] rest i)
+elements_after run (text t rest) = elements_after (run ++ t) rest
 
 pub elements_of_nodes : (ks : Nodes) → elements_of (tidied_nodes ks) ≡ map tidied (elements_of ks)
-elements_of_nodes = elements_behind []
+elements_of_nodes = elements_after []
 
 pub elements_inside : (e : Elem) → elements_of (nodes_of (tidied e)) ≡ map tidied (elements_of (nodes_of e))
-elements_inside (element ns name attrs kids) = elements_behind [] kids
+elements_inside (element ns name attrs kids) = elements_after [] kids
 
 -- ---- messages that are sent back
 

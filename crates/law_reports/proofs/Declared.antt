@@ -5,7 +5,7 @@ use Rattle.std.proofs.lemmas.List.{length-append, take_at}
 use Rattle.std.specs.List.{AllByRecursion, slice_get}
 use Rattle.std.specs.Str.{bytes_eq}
 use Rattle.cmd_direct.proofs.LawLists.{all_among}
-use Rattle.cmd_direct.proofs.TurnRuns.{all_places}
+use Rattle.cmd_direct.proofs.TurnRuns.{all_positions}
 use Rattle.cmd_direct.specs.Direct.{said_at, said_line, take_at as taken_at, taken, takes_of}
 use Rattle.base_io.specs.Names.{is_among}
 use Rattle.cmd_report.specs.Takes.{Take}
@@ -55,9 +55,9 @@ known all right stand = record {
   right = right;
   stand = stand;
   accounts = all_flat_map IsNamed account_name all
-      (all_places (λ step. AllByRecursion IsNamed (account_name step)) all (λ i step at. named_account (declared_in (take i all)) step (right.each i step at)));
+      (all_positions (λ step. AllByRecursion IsNamed (account_name step)) all (λ i step at. named_account (declared_in (take i all)) step (right.each i step at)));
   devices = all_flat_map IsNamed device_name all
-      (all_places (λ step. AllByRecursion IsNamed (device_name step)) all (λ i step at. named_device (declared_in (take i all)) step (right.each i step at)));
+      (all_positions (λ step. AllByRecursion IsNamed (device_name step)) all (λ i step at. named_device (declared_in (take i all)) step (right.each i step at)));
 }
 
 -- what is true of each is true of each with the other
@@ -66,13 +66,13 @@ both P Q [] p q = tt
 both P Q (x ∷ xs) p q = ((p.0, q.0), both P Q xs p.1 q.1)
 
 -- a step in its place may stand there
-item_behind : {A : Type 0} (front rest : List A) (x : A) → slice_get (front ++ x ∷ rest) (length front) ≡ Some x
-item_behind [] rest x = refl
-item_behind (y ∷ front) rest x = item_behind front rest x
+item_after : {A : Type 0} (front rest : List A) (x : A) → slice_get (front ++ x ∷ rest) (length front) ≡ Some x
+item_after [] rest x = refl
+item_after (y ∷ front) rest x = item_after front rest x
 
 pub may_here : (all before rest : List Step) (step : Step) → before ++ step ∷ rest ≡ all → IsKnown all → IsTrue (may_stand (declared_in before) step)
 may_here all before rest step whole is =
-    let at : slice_get all (length before) ≡ Some step = subst (λ steps. slice_get steps (length before) ≡ Some step) whole (item_behind before rest step) in
+    let at : slice_get all (length before) ≡ Some step = subst (λ steps. slice_get steps (length before) ≡ Some step) whole (item_after before rest step) in
     let front : take (length before) all ≡ before = subst (λ steps. take (length before) steps ≡ before) whole (take_at before (step ∷ rest) (length before) refl) in
     subst (λ b. IsTrue (may_stand (declared_in b) step)) front (is.right.each (length before) step at)
 

@@ -15,7 +15,7 @@ use Rattle.law_reports.proofs.Declared.{IsKnown, IsNamed, IsTaken, both, home_na
 use Rattle.law_reports.proofs.Fields.{name_visible, visible_field}
 use Rattle.cmd_report.proofs.TakenArchives.{archive_few}
 use Rattle.cmd_report.specs.LawfulRuns.{tells_moments}
-use Rattle.cmd_report.specs.Lines.{entry_line, take_line, told_moment}
+use Rattle.cmd_report.specs.Lines.{entry_line, reported_moment, take_line}
 use Rattle.cmd_report.specs.ReportText.{text_of}
 use Rattle.cmd_report.specs.Reports.{AccountView}
 use Rattle.cmd_report.specs.Takes.{Take, archive_of}
@@ -36,7 +36,7 @@ use Rattle.cmd_schedule.specs.declared.schedule.Version.TheVariants.{One, Two}
 
 -- ---- takes
 
-told_right : (version : Version) (moment : ℕ) → moment < 2 ^ 64 → (is_some (told_moment version moment) ≡ tells_moments version) × IfSome (told_moment version moment) IsNumber
+told_right : (version : Version) (moment : ℕ) → moment < 2 ^ 64 → (is_some (reported_moment version moment) ≡ tells_moments version) × IfSome (reported_moment version moment) IsNumber
 told_right One moment low = (refl, tt)
 told_right (Two keep) moment low = (refl, low)
 

@@ -7,7 +7,7 @@ use Rattle.std.specs.List.{AllByRecursion, flat_map}
 use Rattle.std.specs.Str.{bytes_eq}
 use Rattle.base_lemmas.proofs.Lists.{AllByRecursion-weaker}
 use Rattle.law_reports.proofs.Declared.{IsNamed, named_account, named_device}
-use Rattle.cmd_report.specs.Lawful.{AreNumberedBehind, AreOutcomes, AreSubmissions, BeginsRefused, BeginsSaid, IsOutcome}
+use Rattle.cmd_report.specs.Lawful.{AreNumberedAfter, AreOutcomes, AreSubmissions, BeginsRefused, BeginsSaid, IsOutcome}
 use Rattle.cmd_report.specs.declared.report.RefusedLine.{RefusedLine}
 use Rattle.cmd_report.specs.declared.report.SaidLine.{SaidLine}
 use Rattle.cmd_schedule.proofs.Lists.{all_append}
@@ -84,9 +84,9 @@ come_later many said refused come = record { each = come.each; numbers = come.nu
 
 come_said : (to text : List ℕ) (Others : List SaidLine → Type 0) (many : ℕ) (said : List SaidLine) (refused : List RefusedLine) → is_name to ≡ true → is_text text ≡ true →
     BeginsSaid to text Others said → ((others : List SaidLine) → Others others → IsCome many others refused) → IsCome (suc many) said refused
-come_said to text Others many [] refused named written begins behind = absurd begins
-come_said to text Others many (x ∷ others) refused named written begins behind =
-    let rest = behind others begins.2 in
+come_said to text Others many [] refused named written begins following = absurd begins
+come_said to text Others many (x ∷ others) refused named written begins following =
+    let rest = following others begins.2 in
     record {
       each = ((subst (λ name. is_name name ≡ true) (sym begins.0) named, subst (λ t. is_text t ≡ true) (sym begins.1) written), rest.each);
       numbers = rest.numbers;
@@ -95,41 +95,41 @@ come_said to text Others many (x ∷ others) refused named written begins behind
 
 come_refused : (number : ℕ) (Others : List RefusedLine → Type 0) (many : ℕ) (said : List SaidLine) (refused : List RefusedLine) → number ≤ 100000 →
     BeginsRefused number Others refused → ((others : List RefusedLine) → Others others → IsCome many said others) → IsCome (suc many) said refused
-come_refused number Others many said [] low begins behind = absurd begins
-come_refused number Others many said (x ∷ others) low begins behind =
-    let rest = behind others begins.1 in
+come_refused number Others many said [] low begins following = absurd begins
+come_refused number Others many said (x ∷ others) low begins following =
+    let rest = following others begins.1 in
     record { each = rest.each; numbers = (omega (arith, begins.0, low), rest.numbers); few = omega (arith, rest.few) }
 
 message_come : (hit : Bool) (number : ℕ) (to text : List ℕ) (Behind : List SaidLine → List RefusedLine → Type 0) (many : ℕ) (said : List SaidLine) (refused : List RefusedLine) →
     number ≤ 100000 → (is_name to ≡ true) × (is_text text ≡ true) →
     MatchBool hit (BeginsSaid to text (λ others. Behind others refused) said ⊎ BeginsRefused number (Behind said) refused) (Behind said refused) →
     ((ss : List SaidLine) (rs : List RefusedLine) → Behind ss rs → IsCome many ss rs) → IsCome (suc many) said refused
-message_come true number to text Behind many said refused low told come behind =
+message_come true number to text Behind many said refused low told come following =
     elim come [
-      | inl begins ↦ come_said to text (λ others. Behind others refused) many said refused told.0 told.1 begins (λ others is. behind others refused is)
-      | inr begins ↦ come_refused number (Behind said) many said refused low begins (λ others is. behind said others is)
+      | inl begins ↦ come_said to text (λ others. Behind others refused) many said refused told.0 told.1 begins (λ others is. following others refused is)
+      | inr begins ↦ come_refused number (Behind said) many said refused low begins (λ others is. following said others is)
     ]
-message_come false number to text Behind many said refused low told come behind = come_later many said refused (behind said refused come)
+message_come false number to text Behind many said refused low told come following = come_later many said refused (following said refused come)
 
 catchup_come : (hit : Bool) (number : ℕ) (Behind : List SaidLine → List RefusedLine → Type 0) (many : ℕ) (said : List SaidLine) (refused : List RefusedLine) → number ≤ 100000 →
     MatchBool hit (Behind said refused ⊎ BeginsRefused number (Behind said) refused) (Behind said refused) →
     ((ss : List SaidLine) (rs : List RefusedLine) → Behind ss rs → IsCome many ss rs) → IsCome (suc many) said refused
-catchup_come true number Behind many said refused low come behind =
+catchup_come true number Behind many said refused low come following =
     elim come [
-      | inl is ↦ come_later many said refused (behind said refused is)
-      | inr begins ↦ come_refused number (Behind said) many said refused low begins (λ others is. behind said others is)
+      | inl is ↦ come_later many said refused (following said refused is)
+      | inr begins ↦ come_refused number (Behind said) many said refused low begins (λ others is. following said others is)
     ]
-catchup_come false number Behind many said refused low come behind = come_later many said refused (behind said refused come)
+catchup_come false number Behind many said refused low come following = come_later many said refused (following said refused come)
 
 outcome_come : (device : List ℕ) (step : Step) (number : ℕ) (Behind : List SaidLine → List RefusedLine → Type 0) (many : ℕ) (said : List SaidLine) (refused : List RefusedLine) →
     number ≤ 100000 → IsTold step → IsOutcome device step number Behind said refused → ((ss : List SaidLine) (rs : List RefusedLine) → Behind ss rs → IsCome many ss rs) →
     IsCome (suc many) said refused
-outcome_come device (Say name to text) number Behind many said refused low told come behind = message_come (bytes_eq device name) number to text Behind many said refused low told come behind
-outcome_come device (Private name to text) number Behind many said refused low told come behind = message_come (bytes_eq device name) number to text Behind many said refused low told come behind
-outcome_come device (Catchup name most) number Behind many said refused low told come behind = catchup_come (bytes_eq device name) number Behind many said refused low come behind
-outcome_come device (Account name) number Behind many said refused low told come behind = come_later many said refused (behind said refused come)
-outcome_come device (Device name account) number Behind many said refused low told come behind = come_later many said refused (behind said refused come)
-outcome_come device (Tick ms) number Behind many said refused low told come behind = come_later many said refused (behind said refused come)
+outcome_come device (Say name to text) number Behind many said refused low told come following = message_come (bytes_eq device name) number to text Behind many said refused low told come following
+outcome_come device (Private name to text) number Behind many said refused low told come following = message_come (bytes_eq device name) number to text Behind many said refused low told come following
+outcome_come device (Catchup name most) number Behind many said refused low told come following = catchup_come (bytes_eq device name) number Behind many said refused low come following
+outcome_come device (Account name) number Behind many said refused low told come following = come_later many said refused (following said refused come)
+outcome_come device (Device name account) number Behind many said refused low told come following = come_later many said refused (following said refused come)
+outcome_come device (Tick ms) number Behind many said refused low told come following = come_later many said refused (following said refused come)
 
 pub outcomes_come : (device : List ℕ) (lines : List Line) (said : List SaidLine) (refused : List RefusedLine) → AllByRecursion IsLineRight lines → AreOutcomes device lines said refused →
     IsCome (length lines) said refused
@@ -144,15 +144,15 @@ outcomes_come device (line ∷ lines) said refused right are =
 
 -- ---- numbers of submissions
 
-behind_numbers : (before : SaidLine) (m : ℕ) (said : List SaidLine) → before.n ≤ m → AreNumberedBehind before said → AllByRecursion (λ (s : SaidLine). s.n ≤ m + length said) said
-behind_numbers before m [] low are = tt
-behind_numbers before m (s ∷ said) low are =
+after_numbers : (before : SaidLine) (m : ℕ) (said : List SaidLine) → before.n ≤ m → AreNumberedAfter before said → AllByRecursion (λ (s : SaidLine). s.n ≤ m + length said) said
+after_numbers before m [] low are = tt
+after_numbers before m (s ∷ said) low are =
     let here : s.n ≤ m + 1 = (elim are.0 [
       | inl same ↦ omega (arith, same.1, low)
       | inr next ↦ omega (arith, next.1)
     ]) in (
       omega (arith, here),
-      AllByRecursion-weaker (λ (x : SaidLine). x.n ≤ m + 1 + length said) (λ (x : SaidLine). x.n ≤ m + suc (length said)) (λ x is. omega (arith, is)) said (behind_numbers s (m + 1) said here are.1),
+      AllByRecursion-weaker (λ (x : SaidLine). x.n ≤ m + 1 + length said) (λ (x : SaidLine). x.n ≤ m + suc (length said)) (λ x is. omega (arith, is)) said (after_numbers s (m + 1) said here are.1),
     )
 
 -- no number is above how many there are
@@ -160,5 +160,5 @@ pub numbers_few : (said : List SaidLine) → AreSubmissions said → AllByRecurs
 numbers_few [] are = tt
 numbers_few (s ∷ said) are = (
   omega (arith, are.0),
-  AllByRecursion-weaker (λ (x : SaidLine). x.n ≤ 1 + length said) (λ (x : SaidLine). x.n ≤ suc (length said)) (λ x is. omega (arith, is)) said (behind_numbers s 1 said (omega (arith, are.0)) are.1),
+  AllByRecursion-weaker (λ (x : SaidLine). x.n ≤ 1 + length said) (λ (x : SaidLine). x.n ≤ suc (length said)) (λ x is. omega (arith, is)) said (after_numbers s 1 said (omega (arith, are.0)) are.1),
 )

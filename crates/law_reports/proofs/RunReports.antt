@@ -18,7 +18,7 @@ use Rattle.cmd_report.specs.Lawful.{AreSubmissions, device_named, submission}
 use Rattle.cmd_report.specs.Lines.{logged_from, page_line, take_line}
 use Rattle.cmd_report.specs.ReportText.{text_of}
 use Rattle.cmd_report.specs.Reports.{AccountView, DeviceView, ReportView}
-use Rattle.cmd_report.specs.Worlds.{World}
+use Rattle.cmd_report.specs.Worlds.{ReportWorld}
 use Rattle.cmd_report.specs.declared.report.HeldLine.{HeldLine}
 use Rattle.cmd_report.specs.declared.report.LoggedLine.{LoggedLine}
 use Rattle.cmd_report.specs.declared.report.RefusedLine.{RefusedLine}
@@ -36,10 +36,10 @@ use Rattle.sim_1_applications.specs.Devices as sessions
 use Rattle.sim_1_applications.specs.Kept.{AreMoments}
 use Rattle.sim_1_applications.proofs.Ground.{IsTakeLine, take_lines, takes_within}
 use Rattle.sim_1_applications.proofs.LawsKept.{device_logged, ground_of, of_schedule, said_right, standing}
-use Rattle.sim_1_applications.proofs.LogLaws.{rising, turned}
+use Rattle.sim_1_applications.proofs.LogLaws.{rendered, rising}
 use Rattle.sim_1_applications.proofs.Owners.{LineAt}
 use Rattle.sim_1_applications.proofs.TakenLaws.{device_epochs, device_numbered, each_device}
-use Rattle.sim_1_applications.proofs.Turned.{history_few, turns_of}
+use Rattle.sim_1_applications.proofs.Rendered.{history_few, turns_of}
 use Rattle.sim_1_applications.specs.Reported.{account_line, held_line, history_at, name_at, said_line, take_of}
 use Rattle.sim_1_applications.specs.Runs.{IsRunOf, owned_of, steps_in}
 
@@ -49,22 +49,22 @@ pub record IsOwner (o : Owned) : Type 0 where
   pub device : is_name o.device ≡ true
   pub account : is_name o.account ≡ true
 
-lines_right : (s : WireView) (worlds : List World) (r : ReportView) → IsRunOf s worlds r → AllByRecursion IsLineRight (seen_of s).lines
+lines_right : (s : WireView) (worlds : List ReportWorld) (r : ReportView) → IsRunOf s worlds r → AllByRecursion IsLineRight (seen_of s).lines
 lines_right s worlds r run = wire_lines_right nothing_above 2 s.lines run.right.lines
 
-accounts_named : (s : WireView) (worlds : List World) (r : ReportView) → IsRunOf s worlds r → AllByRecursion IsNamed (accounts_of (steps_in s))
+accounts_named : (s : WireView) (worlds : List ReportWorld) (r : ReportView) → IsRunOf s worlds r → AllByRecursion IsNamed (accounts_of (steps_in s))
 accounts_named s worlds r run =
     all_flat_map IsNamed account_name (steps_in s)
     (all_map (λ step. AllByRecursion IsNamed (account_name step)) (λ (line : Line). line.step) (seen_of s).lines
     (AllByRecursion-weaker IsLineRight (λ (line : Line). AllByRecursion IsNamed (account_name line.step)) (λ line is. is.account) (seen_of s).lines (lines_right s worlds r run)))
 
-devices_named : (s : WireView) (worlds : List World) (r : ReportView) → IsRunOf s worlds r → AllByRecursion IsNamed (devices_of (steps_in s))
+devices_named : (s : WireView) (worlds : List ReportWorld) (r : ReportView) → IsRunOf s worlds r → AllByRecursion IsNamed (devices_of (steps_in s))
 devices_named s worlds r run =
     all_flat_map IsNamed device_name (steps_in s)
     (all_map (λ step. AllByRecursion IsNamed (device_name step)) (λ (line : Line). line.step) (seen_of s).lines
     (AllByRecursion-weaker IsLineRight (λ (line : Line). AllByRecursion IsNamed (device_name line.step)) (λ line is. is.device) (seen_of s).lines (lines_right s worlds r run)))
 
-owners_right : (s : WireView) (worlds : List World) (r : ReportView) → IsRunOf s worlds r → AllByRecursion IsOwner (owned_of s)
+owners_right : (s : WireView) (worlds : List ReportWorld) (r : ReportView) → IsRunOf s worlds r → AllByRecursion IsOwner (owned_of s)
 owners_right s worlds r run =
     let all = steps_in s in
     let stand = standing s worlds r run in
@@ -118,7 +118,7 @@ known_line many few d o same owner come numbered epochs low =
 abbrev owner_of : DeviceView → Owned
 owner_of d = record { device = d.name; account = d.account }
 
-known_lines : (s : WireView) (worlds : List World) (r : ReportView) → IsRunOf s worlds r → HasNumbers r → AllByRecursion IsKnownLine r.devices
+known_lines : (s : WireView) (worlds : List ReportWorld) (r : ReportView) → IsRunOf s worlds r → HasNumbers r → AllByRecursion IsKnownLine r.devices
 known_lines s worlds r run has =
     let many = length (seen_of s).lines in
     let few : many ≤ 100000 = omega (arith, wire_lines_few nothing_above 2 s.lines (omega arith) run.right.lines) in
@@ -182,7 +182,7 @@ taken_one owned r clock low owners lines t is within early =
       moment = omega (arith, early, low);
     }
 
-takes_known : (s : WireView) (worlds : List World) (r : ReportView) (run : IsRunOf s worlds r) → run.last.clock < 2 ^ 64 → HasNumbers r →
+takes_known : (s : WireView) (worlds : List ReportWorld) (r : ReportView) (run : IsRunOf s worlds r) → run.last.clock < 2 ^ 64 → HasNumbers r →
     AllByRecursion IsTaken (map (take_of (owned_of s)) run.last.takes)
 takes_known s worlds r run low has =
     let g = ground_of s worlds r run in
@@ -203,14 +203,14 @@ record IsRead (d : DeviceView) : Type 0 where
   pub logged : AllByRecursion (λ (l : LoggedLine). IsEntry l.entry) d.logged
   pub held : AllByRecursion (λ (h : HeldLine). IsField h.id) d.held
 
-read_line : (s : WireView) (worlds : List World) (r : ReportView) (run : IsRunOf s worlds r) → AllByRecursion IsTaken (map (take_of (owned_of s)) run.last.takes) → (i : ℕ) (line : DeviceView) →
+read_line : (s : WireView) (worlds : List ReportWorld) (r : ReportView) (run : IsRunOf s worlds r) → AllByRecursion IsTaken (map (take_of (owned_of s)) run.last.takes) → (i : ℕ) (line : DeviceView) →
     LineAt (keep_of s.version) (history_at (owned_of s) run.last.takes) (owned_of s) run.last.devices i line → IsRead line
 read_line s worlds r run takes i line at =
     let keep = keep_of s.version in
     let history = history_at (owned_of s) run.last.takes at.o.account in
     let log = device_logged s worlds r run i line at in
     let turns = turns_of at.d.reading.tiles in
-    let same = turned keep history at.d log in
+    let same = rendered keep history at.d log in
     let lined : AllByRecursion IsLined history = archive_lined at.o.account (map (take_of (owned_of s)) run.last.takes) takes in
     record {
       pages = subst (AllByRecursion IsPage) (sym (at.is.pages ∙ ap (map page_line) same)) (pages_right keep 0 0 (length history) history turns log.few log.few (rising keep history at.d log));
@@ -239,7 +239,7 @@ device_right d is = record {
 
 -- ---- the report
 
-run_accounts : (s : WireView) (worlds : List World) (r : ReportView) (run : IsRunOf s worlds r) → AllByRecursion IsTaken (map (take_of (owned_of s)) run.last.takes) →
+run_accounts : (s : WireView) (worlds : List ReportWorld) (r : ReportView) (run : IsRunOf s worlds r) → AllByRecursion IsTaken (map (take_of (owned_of s)) run.last.takes) →
     AllByRecursion (IsAccount s.version) r.accounts
 run_accounts s worlds r run takes =
     let keep = keep_of s.version in
@@ -251,7 +251,7 @@ run_accounts s worlds r run takes =
     (archive_lined name (map (take_of (owned_of s)) run.last.takes) takes))
     (accounts_of (steps_in s)) (accounts_named s worlds r run)))
 
-run_devices : (s : WireView) (worlds : List World) (r : ReportView) (run : IsRunOf s worlds r) → HasNumbers r → AllByRecursion IsTaken (map (take_of (owned_of s)) run.last.takes) →
+run_devices : (s : WireView) (worlds : List ReportWorld) (r : ReportView) (run : IsRunOf s worlds r) → HasNumbers r → AllByRecursion IsTaken (map (take_of (owned_of s)) run.last.takes) →
     AllByRecursion IsDevice r.devices
 run_devices s worlds r run has takes =
     let g = ground_of s worlds r run in
@@ -260,7 +260,7 @@ run_devices s worlds r run has takes =
     (both IsRead (λ (d : DeviceView). AllByRecursion IsUnderway d.underway) r.devices
     (each_device IsRead (keep_of s.version) s.version (owned_of s) (accounts_of (steps_in s)) run.last r g (read_line s worlds r run takes)) has.underway))
 
-pub run_readable : (s : WireView) (worlds : List World) (r : ReportView) (run : IsRunOf s worlds r) → run.last.clock < 2 ^ 64 → HasNumbers r → IsReadable r
+pub run_readable : (s : WireView) (worlds : List ReportWorld) (r : ReportView) (run : IsRunOf s worlds r) → run.last.clock < 2 ^ 64 → HasNumbers r → IsReadable r
 run_readable s worlds r run low has =
     let takes = takes_known s worlds r run low has in
     let lines : AllByRecursion (IsTake s.version) r.takes =
@@ -275,7 +275,7 @@ run_readable s worlds r run low has =
       devices = run_devices s worlds r run has takes;
     }
 
-pub run_told_apart : (s t : WireView) (worlds others : List World) (one other : ReportView) (run : IsRunOf s worlds one) (again : IsRunOf t others other) →
+pub run_told_apart : (s t : WireView) (worlds others : List ReportWorld) (one other : ReportView) (run : IsRunOf s worlds one) (again : IsRunOf t others other) →
     run.last.clock < 2 ^ 64 → again.last.clock < 2 ^ 64 → HasNumbers one → HasNumbers other → text_of one ≡ text_of other → one ≡ other
 run_told_apart s t worlds others one other run again low high has holds same =
     apart_of one other (run_readable s worlds one run low has) (run_readable t others other again high holds) same

@@ -11,12 +11,12 @@ use Rattle.std.specs.declared.cmp.Ordering.TheVariants.{Equal, Greater, Less}
 use Rattle.sm_acks.specs.declared.end.TheConstants.{MOST_UNACKNOWLEDGED}
 use Rattle.mam_archive.specs.Entries.{EntryView}
 use Rattle.srv_state.specs.Moments.{at_moment, fresh_conn, gone_at, with_fresh}
-use Rattle.srv_state.specs.State.{Hall, Kept, Step, archive_at, changed, conn_at, is_number, with_conn}
+use Rattle.srv_state.specs.State.{Kept, ServerState, Step, archive_at, changed, conn_at, is_number, with_conn}
 use Rattle.srv_state.specs.Steps as steps
-use Rattle.srv_state.specs.Steps.{Act, act, acted, after_failure, archived_in, ask_where, in_hall, in_phase, in_sessions, is_due, overflow, part_where, put, put_where, queue, send_told, shut}
+use Rattle.srv_state.specs.Steps.{Act, act, acted, after_failure, archived_in, ask_where, in_phase, in_server_state, in_sessions, is_due, overflow, part_where, put, put_where, queue, send_by_info, shut}
 use Rattle.srv_state.specs.declared.connection.Connection.{Connection}
-use Rattle.sm_live.specs.Sessions.{Session, acknowledged, after_resume, asks, copies, enables, fresh, handles, is_at, is_expired, is_too_high, less, lost, parked, presents, resumes, session_at, session_named, session_resumed, told_of, waits, with_session, without}
-use Rattle.sm_live.specs.declared.told.Told.{Told}
+use Rattle.sm_live.specs.Sessions.{Session, acknowledged, after_resume, asks, copies, enables, fresh, handles, info_of, is_at, is_expired, is_too_high, less, lost, parked, presents, resumes, session_at, session_named, session_resumed, waits, with_session, without}
+use Rattle.sm_live.specs.declared.told.SessionInfo.{SessionInfo}
 use Rattle.srv_login.specs.declared.account.Account.{Account}
 use Rattle.im_replies.specs.Streams.{error_item}
 use Rattle.im_replies.specs.declared.conditions.StreamCondition.TheVariants.{ResourceConstraint}
@@ -114,7 +114,7 @@ logins_changed accounts k f None es each all = all
 logins_changed accounts k f (Some c) es each all = logins_set accounts k (f c) es (each c) all
 
 -- the login of a connection is of an account that exists
-pub login_at : {A : Type 0} (k : ℕ) (h : Hall A) (c : Connection) → HaveAccounts h → conn_at k h ≡ Some c → IsOfAccount h.accounts c.phase
+pub login_at : {A : Type 0} (k : ℕ) (h : ServerState A) (c : Connection) → HaveAccounts h → conn_at k h ≡ Some c → IsOfAccount h.accounts c.phase
 login_at k h c have found = go h.conns have.logins found
   where
     go : (es : List (ℕ × Connection)) → LoggedIn h.accounts es → lookup (is_number k) es ≡ Some c → IsOfAccount h.accounts c.phase
@@ -126,7 +126,7 @@ login_at k h c have found = go h.conns have.logins found
         ]
 
 -- and so is the session on it
-pub owner_at : {A : Type 0} (k : ℕ) (h : Hall A) (s : Session A) → HaveAccounts h → session_at k h.sessions ≡ Some s → Exists h.accounts s.shown.account
+pub owner_at : {A : Type 0} (k : ℕ) (h : ServerState A) (s : Session A) → HaveAccounts h → session_at k h.sessions ≡ Some s → Exists h.accounts s.shown.account
 owner_at k h s have found = owner_found h.accounts (is_at k) h.sessions s have.sessions found
   where
     owner_found : {A : Type 0} (accounts : List Account) (p : Session A → Bool) (ss : List (Session A)) (t : Session A) → Owned accounts ss → find p ss ≡ Some t → Exists accounts t.shown.account
@@ -139,85 +139,85 @@ owner_at k h s have found = owner_found h.accounts (is_at k) h.sessions s have.s
 
 -- ---- events
 
-pub accounts_at_moment : {A : Type 0} (now : ℕ) (h : Hall A) → HaveAccounts h → HaveAccounts (at_moment now h)
+pub accounts_at_moment : {A : Type 0} (now : ℕ) (h : ServerState A) → HaveAccounts h → HaveAccounts (at_moment now h)
 accounts_at_moment now h have = record { sessions = owned_some h.accounts (λ s. not (is_expired _ s)) h.sessions have.sessions; logins = have.logins }
 
-pub accounts_fresh : {A : Type 0} (k : ℕ) (entropy : List ℕ) (h : Hall A) → HaveAccounts h → HaveAccounts (with_fresh k entropy h)
+pub accounts_fresh : {A : Type 0} (k : ℕ) (entropy : List ℕ) (h : ServerState A) → HaveAccounts h → HaveAccounts (with_fresh k entropy h)
 accounts_fresh k entropy h have = record { sessions = have.sessions; logins = logins_with h.accounts k (fresh_conn entropy) h.conns tt have.logins }
 
-pub accounts_gone : {A : Type 0} (k : ℕ) (h : Hall A) → HaveAccounts h → HaveAccounts (gone_at k h)
+pub accounts_gone : {A : Type 0} (k : ℕ) (h : ServerState A) → HaveAccounts h → HaveAccounts (gone_at k h)
 accounts_gone k h have = record { sessions = owned_lost h.accounts h.moment (session_at k h.sessions) h.sessions have.sessions; logins = logins_without h.accounts k h.conns have.logins }
 
 -- ---- acts
 
-with_owned : {A : Type 0} (s : Step A) (f : List (Session A) → List (Session A)) → (Owned s.hall.accounts s.hall.sessions → Owned s.hall.accounts (f s.hall.sessions)) → HaveAccounts s.hall → HaveAccounts (in_sessions f s).hall
+with_owned : {A : Type 0} (s : Step A) (f : List (Session A) → List (Session A)) → (Owned s.server_state.accounts s.server_state.sessions → Owned s.server_state.accounts (f s.server_state.sessions)) → HaveAccounts s.server_state → HaveAccounts (in_sessions f s).server_state
 with_owned s f owned have = record { sessions = owned have.sessions; logins = have.logins }
 
-accounts_changed : {A : Type 0} (n : ℕ) (f : Session A → Session A) (s : Step A) → ((t : Session A) → (f t).shown.account ≡ t.shown.account) → HaveAccounts s.hall → HaveAccounts (in_sessions (with_session n f) s).hall
-accounts_changed n f s same have = with_owned s (with_session n f) (owned_changed s.hall.accounts n f same s.hall.sessions) have
+accounts_changed : {A : Type 0} (n : ℕ) (f : Session A → Session A) (s : Step A) → ((t : Session A) → (f t).shown.account ≡ t.shown.account) → HaveAccounts s.server_state → HaveAccounts (in_sessions (with_session n f) s).server_state
+accounts_changed n f s same have = with_owned s (with_session n f) (owned_changed s.server_state.accounts n f same s.server_state.sessions) have
 
-accounts_conn : {A : Type 0} (k : ℕ) (f : Connection → Connection) (s : Step A) → ((c : Connection) → IsOfAccount s.hall.accounts (f c).phase) → HaveAccounts s.hall → HaveAccounts (in_hall (with_conn k f) s).hall
-accounts_conn k f s each have = record { sessions = have.sessions; logins = logins_changed s.hall.accounts k f (conn_at k s.hall) s.hall.conns each have.logins }
+accounts_conn : {A : Type 0} (k : ℕ) (f : Connection → Connection) (s : Step A) → ((c : Connection) → IsOfAccount s.server_state.accounts (f c).phase) → HaveAccounts s.server_state → HaveAccounts (in_server_state (with_conn k f) s).server_state
+accounts_conn k f s each have = record { sessions = have.sessions; logins = logins_changed s.server_state.accounts k f (conn_at k s.server_state) s.server_state.conns each have.logins }
 
-accounts_shut : {A : Type 0} (k : ℕ) (s : Step A) → HaveAccounts s.hall → HaveAccounts (shut k s).hall
-accounts_shut k s have = record { sessions = owned_some s.hall.accounts (λ t. not (is_at k t)) s.hall.sessions have.sessions; logins = logins_without s.hall.accounts k s.hall.conns have.logins }
+accounts_shut : {A : Type 0} (k : ℕ) (s : Step A) → HaveAccounts s.server_state → HaveAccounts (shut k s).server_state
+accounts_shut k s have = record { sessions = owned_some s.server_state.accounts (λ t. not (is_at k t)) s.server_state.sessions have.sessions; logins = logins_without s.server_state.accounts k s.server_state.conns have.logins }
 
-accounts_put : {A : Type 0} (o : Option ℕ) (a : A) (s : Step A) → HaveAccounts s.hall → HaveAccounts (put_where o a s).hall
+accounts_put : {A : Type 0} (o : Option ℕ) (a : A) (s : Step A) → HaveAccounts s.server_state → HaveAccounts (put_where o a s).server_state
 accounts_put None a s have = have
 accounts_put (Some k) a s have = have
 
-accounts_part : {A : Type 0} (say : ItemOut → A) (o : Option ℕ) (error : A) (s : Step A) → HaveAccounts s.hall → HaveAccounts (part_where say o error s).hall
+accounts_part : {A : Type 0} (say : ItemOut → A) (o : Option ℕ) (error : A) (s : Step A) → HaveAccounts s.server_state → HaveAccounts (part_where say o error s).server_state
 accounts_part say None error s have = have
 accounts_part say (Some k) error s have = accounts_shut k (put k (say Closing) (put k error s)) have
 
-accounts_ask : {A : Type 0} (say : ItemOut → A) (n : ℕ) (o : Option ℕ) (due : Bool) (s : Step A) → HaveAccounts s.hall → HaveAccounts (ask_where say n o due s).hall
+accounts_ask : {A : Type 0} (say : ItemOut → A) (n : ℕ) (o : Option ℕ) (due : Bool) (s : Step A) → HaveAccounts s.server_state → HaveAccounts (ask_where say n o due s).server_state
 accounts_ask say n o false s have = have
 accounts_ask say n None true s have = have
 accounts_ask say n (Some k) true s have = accounts_changed n (asks true) s (λ t. refl) have
 
-accounts_queue : {A : Type 0} (say : ItemOut → A) (n : ℕ) (a : A) (t : Told) (s : Step A) → HaveAccounts s.hall → HaveAccounts (queue say n a t s).hall
+accounts_queue : {A : Type 0} (say : ItemOut → A) (n : ℕ) (a : A) (t : SessionInfo) (s : Step A) → HaveAccounts s.server_state → HaveAccounts (queue say n a t s).server_state
 accounts_queue say n a t s have =
     let u = in_sessions (with_session n (waits a)) s in
     accounts_ask say n t.conn (is_due t) (put_where t.conn a u) (accounts_put t.conn a u (accounts_changed n (waits a) s (λ x. refl) have))
 
-accounts_overflow : {A : Type 0} (say : ItemOut → A) (n : ℕ) (t : Told) (s : Step A) → HaveAccounts s.hall → HaveAccounts (overflow say n t s).hall
+accounts_overflow : {A : Type 0} (say : ItemOut → A) (n : ℕ) (t : SessionInfo) (s : Step A) → HaveAccounts s.server_state → HaveAccounts (overflow say n t s).server_state
 accounts_overflow say n t s have =
     accounts_part say t.conn (say (error_item ResourceConstraint)) (in_sessions (without n) s)
-    (with_owned s (without n) (owned_some s.hall.accounts (λ x. not (x.shown.number == n)) s.hall.sessions) have)
+    (with_owned s (without n) (owned_some s.server_state.accounts (λ x. not (x.shown.number == n)) s.server_state.sessions) have)
 
-accounts_either : {A : Type 0} (b : Bool) (s t : Step A) → HaveAccounts s.hall → HaveAccounts t.hall → HaveAccounts (cond b s t).hall
+accounts_either : {A : Type 0} (b : Bool) (s t : Step A) → HaveAccounts s.server_state → HaveAccounts t.server_state → HaveAccounts (cond b s t).server_state
 accounts_either true s t a b = a
 accounts_either false s t a b = b
 
-accounts_sent : {A : Type 0} (say : ItemOut → A) (n : ℕ) (a : A) (o : Option Told) (s : Step A) → HaveAccounts s.hall → HaveAccounts (send_told say n a o s).hall
+accounts_sent : {A : Type 0} (say : ItemOut → A) (n : ℕ) (a : A) (o : Option SessionInfo) (s : Step A) → HaveAccounts s.server_state → HaveAccounts (send_by_info say n a o s).server_state
 accounts_sent say n a None s have = have
 accounts_sent say n a (Some t) s have =
     accounts_either (not t.counted) _ _ (accounts_put t.conn a s have)
     (accounts_either (t.waiting == MOST_UNACKNOWLEDGED) _ _ (accounts_overflow say n t s have) (accounts_queue say n a t s have))
 
-accounts_archived : {A : Type 0} (e : EntryView) (account : ℕ) (o : Option Kept) (h : Hall A) → HaveAccounts h → HaveAccounts (archived_in e account o h)
+accounts_archived : {A : Type 0} (e : EntryView) (account : ℕ) (o : Option Kept) (h : ServerState A) → HaveAccounts h → HaveAccounts (archived_in e account o h)
 accounts_archived e account None h have = have
 accounts_archived e account (Some kept) h have = record { sessions = have.sessions; logins = have.logins }
 
-accounts_act : {A : Type 0} (say : ItemOut → A) (a : Act A) (s : Step A) (More : Type 0) → fits s.hall.accounts a More → HaveAccounts s.hall → HaveAccounts (act say a s).hall
+accounts_act : {A : Type 0} (say : ItemOut → A) (a : Act A) (s : Step A) (More : Type 0) → fits s.server_state.accounts a More → HaveAccounts s.server_state → HaveAccounts (act say a s).server_state
 accounts_act say (steps.Say k a) s More fit have = have
 accounts_act say (steps.Close k) s More fit have = accounts_shut k s have
 accounts_act say (steps.Enter k phase) s More fit have = accounts_conn k (in_phase phase) s (λ c. fit.0) have
 accounts_act say (steps.Fail k left) s More fit have = accounts_conn k (after_failure left) s (λ c. tt) have
 accounts_act say (steps.Bind account resource k) s More fit have = record {
-  sessions = owned_more s.hall.accounts _ (fresh s.hall.next account resource k) (owned_less s.hall.accounts (session_named account resource s.hall.sessions) s.hall.sessions have.sessions) fit.0;
+  sessions = owned_more s.server_state.accounts _ (fresh s.server_state.next account resource k) (owned_less s.server_state.accounts (session_named account resource s.server_state.sessions) s.server_state.sessions have.sessions) fit.0;
   logins = have.logins;
 }
 accounts_act say (steps.Resume previd account h k) s More fit have =
-    with_owned s (λ sessions. after_resume h k (session_resumed previd account sessions) sessions) (owned_resumed s.hall.accounts h k (session_resumed previd account s.hall.sessions) s.hall.sessions) have
+    with_owned s (λ sessions. after_resume h k (session_resumed previd account sessions) sessions) (owned_resumed s.server_state.accounts h k (session_resumed previd account s.server_state.sessions) s.server_state.sessions) have
 accounts_act say (steps.Enable n resume) s More fit have = accounts_changed n (enables resume) s (λ t. refl) have
 accounts_act say (steps.Acknowledge n h) s More fit have = accounts_changed n (acknowledged h) s (λ t. refl) have
 accounts_act say (steps.Ask n on) s More fit have = accounts_changed n (asks on) s (λ t. refl) have
 accounts_act say (steps.Handle n) s More fit have = accounts_changed n handles s (λ t. refl) have
 accounts_act say (steps.Present n available priority) s More fit have = accounts_changed n (presents available priority) s (λ t. refl) have
 accounts_act say (steps.Copy n on) s More fit have = accounts_changed n (copies on) s (λ t. refl) have
-accounts_act say (steps.Send n a) s More fit have = accounts_sent say n a (told_of n s.hall.sessions) s have
-accounts_act say (steps.Archive account e) s More fit have = accounts_archived e account (archive_at account s.hall) s.hall have
+accounts_act say (steps.Send n a) s More fit have = accounts_sent say n a (info_of n s.server_state.sessions) s have
+accounts_act say (steps.Archive account e) s More fit have = accounts_archived e account (archive_at account s.server_state) s.server_state have
 accounts_act say (steps.Tell from to origin) s More fit have = have
 
 rest_fits : {A : Type 0} (accounts : List Account) (a : Act A) (More : Type 0) → fits accounts a More → More
@@ -230,12 +230,12 @@ marked_accounts (steps.Archive account e) b = refl
 marked_accounts (steps.Tell from to origin) b = refl
 marked_accounts a b = refl
 
-same_accounts : {A : Type 0} (say : ItemOut → A) (a : Act A) (s : Step A) → (act say a s).hall.accounts ≡ s.hall.accounts
+same_accounts : {A : Type 0} (say : ItemOut → A) (a : Act A) (s : Step A) → (act say a s).server_state.accounts ≡ s.server_state.accounts
 same_accounts say a s = ap (λ (b : Books _). b.accounts) (act_books say a s) ∙ marked_accounts a (books_of s)
 
-pub accounts_acted : {A : Type 0} (say : ItemOut → A) (acts : List (Act A)) (s : Step A) → Fit s.hall.accounts acts → HaveAccounts s.hall → HaveAccounts (acted say acts s).hall
+pub accounts_acted : {A : Type 0} (say : ItemOut → A) (acts : List (Act A)) (s : Step A) → Fit s.server_state.accounts acts → HaveAccounts s.server_state → HaveAccounts (acted say acts s).server_state
 accounts_acted say [] s fit have = have
 accounts_acted say (a ∷ acts) s fit have =
     accounts_acted say acts (act say a s)
-    (subst (λ accounts. Fit accounts acts) (sym (same_accounts say a s)) (rest_fits s.hall.accounts a (Fit s.hall.accounts acts) fit))
-    (accounts_act say a s (Fit s.hall.accounts acts) fit have)
+    (subst (λ accounts. Fit accounts acts) (sym (same_accounts say a s)) (rest_fits s.server_state.accounts a (Fit s.server_state.accounts acts) fit))
+    (accounts_act say a s (Fit s.server_state.accounts acts) fit have)

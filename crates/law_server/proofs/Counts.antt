@@ -7,16 +7,16 @@ use Rattle.srv_state.specs.State.{Step}
 use Rattle.srv_state.specs.Steps.{acted, part, shut}
 use Rattle.srv_state.specs.Streams.{parting}
 use Rattle.sm_live.specs.Sessions.{Session, ack_answer, is_at, is_resumed_by, is_too_high, send_count, session_of, session_resumed}
-use Rattle.sm_live.specs.declared.told.Told.{Told}
+use Rattle.sm_live.specs.declared.told.SessionInfo.{SessionInfo}
 use Rattle.im_replies.specs.Streams.{too_high_item}
 use Rattle.srv_handlers.specs.Managements.{acknowledging, at_ack}
 use Rattle.xml_writer.specs.Items.{ItemOut}
 
-pub too_high : {A : Type 0} (say : ItemOut → A) (k h : ℕ) (t : Told) (old : Session A) (s : Step A) → session_of t.number s.hall.sessions ≡ Some old → t.counted ≡ true → is_too_high h old ≡ true
-    → acted say (at_ack say k h t s.hall) s ≡ part say k (say (too_high_item h (send_count old))) s
+pub too_high : {A : Type 0} (say : ItemOut → A) (k h : ℕ) (t : SessionInfo) (old : Session A) (s : Step A) → session_of t.number s.server_state.sessions ≡ Some old → t.counted ≡ true → is_too_high h old ≡ true
+    → acted say (at_ack say k h t s.server_state) s ≡ part say k (say (too_high_item h (send_count old))) s
 too_high say k h t old s found counted high =
     let answer : ack_answer h old ≡ Err (record { h = h; send_count = send_count old }) = rw high refl in
-    let acts : at_ack say k h t s.hall ≡ parting say k (say (too_high_item h (send_count old))) = rw (counted, found) (ap (λ (r : Result ℕ TooHigh). acknowledging say k t.number h (Some r)) answer) in
+    let acts : at_ack say k h t s.server_state ≡ parting say k (say (too_high_item h (send_count old))) = rw (counted, found) (ap (λ (r : Result ℕ TooHigh). acknowledging say k t.number h (Some r)) answer) in
     ap (λ a. acted say a s) acts
 
 no_longer : (b : Bool) → not b ≡ true → b ≡ false
@@ -31,5 +31,5 @@ found_among p q (s ∷ ss) =
       | inr gone ↦ rw gone (found_among p q ss)
     ]
 
-pub not_resumed : {A : Type 0} (k account : ℕ) (previd : List ℕ) (s : Step A) → IfSome (session_resumed previd account (shut k s).hall.sessions) (λ found. is_at k found ≡ false)
-not_resumed k account previd s = found_among (is_resumed_by previd account) (is_at k) s.hall.sessions
+pub not_resumed : {A : Type 0} (k account : ℕ) (previd : List ℕ) (s : Step A) → IfSome (session_resumed previd account (shut k s).server_state.sessions) (λ found. is_at k found ≡ false)
+not_resumed k account previd s = found_among (is_resumed_by previd account) (is_at k) s.server_state.sessions

@@ -8,7 +8,7 @@ use Rattle.std.specs.Result.{result_ok}
 use Rattle.sm_acks.specs.declared.end.TooHigh.{TooHigh as TooHighCount}
 use Rattle.mam_archive.specs.Entries.{EntryView, entry_numbered}
 use Rattle.srv_state.specs.Logins.{answering, at_challenge, at_login, at_login_other, beginning, failing, negotiation_at}
-use Rattle.srv_state.specs.State.{Hall, Kept, archive_at}
+use Rattle.srv_state.specs.State.{Kept, ServerState, archive_at}
 use Rattle.srv_state.specs.Steps.{Act}
 use Rattle.srv_state.specs.Streams.{answering_header, at_any, at_header, awaits_header, ending, ending_in, header_in, opening, parting_where}
 use Rattle.srv_state.specs.declared.connection.Stage.{Stage}
@@ -21,7 +21,7 @@ use Rattle.srv_state.specs.declared.word.Word.{Word}
 use Rattle.srv_state.specs.declared.word.Word.TheVariants as word
 use Rattle.im_forwarding.specs.Results.{AskerView}
 use Rattle.sm_live.specs.Sessions.{ack_answer, ended_of, resume_answer, session_named, session_of, session_resumed}
-use Rattle.sm_live.specs.declared.told.Told.{Told}
+use Rattle.sm_live.specs.declared.told.SessionInfo.{SessionInfo}
 use Rattle.srv_login.specs.Headers.{header_answer}
 use Rattle.srv_login.specs.Accounts.{FoundView, account_from, account_named}
 use Rattle.srv_login.specs.declared.account.Account.{Account}
@@ -88,17 +88,17 @@ IsStageOf accounts s = Unit {0}
 
 -- ---- ends
 
-fit_ending_in : {A : Type 0} (accounts : List Account) (say : ItemOut → A) (k : ℕ) (c : StreamCondition) (s : Stage) (entropy : List ℕ) (h : Hall A) → Fit accounts (ending_in say k c s entropy h)
+fit_ending_in : {A : Type 0} (accounts : List Account) (say : ItemOut → A) (k : ℕ) (c : StreamCondition) (s : Stage) (entropy : List ℕ) (h : ServerState A) → Fit accounts (ending_in say k c s entropy h)
 fit_ending_in accounts say k c stage.Start entropy h = tt
 fit_ending_in accounts say k c stage.Login entropy h = tt
 fit_ending_in accounts say k c stage.Challenge entropy h = tt
 fit_ending_in accounts say k c (stage.Restart account) entropy h = tt
 fit_ending_in accounts say k c (stage.Ready account) entropy h = tt
 
-pub fit_ending : {A : Type 0} (accounts : List Account) (say : ItemOut → A) (k : ℕ) (c : StreamCondition) (st : Standing) (h : Hall A) → Fit accounts (ending say k c st h)
+pub fit_ending : {A : Type 0} (accounts : List Account) (say : ItemOut → A) (k : ℕ) (c : StreamCondition) (st : Standing) (h : ServerState A) → Fit accounts (ending say k c st h)
 fit_ending accounts say k c st h = fit_ending_in accounts say k c st.stage st.entropy h
 
-pub fit_any : {A : Type 0} (accounts : List Account) (say : ItemOut → A) (k : ℕ) (w : Word) (st : Standing) (h : Hall A) → Fit accounts (at_any say k w st h)
+pub fit_any : {A : Type 0} (accounts : List Account) (say : ItemOut → A) (k : ℕ) (w : Word) (st : Standing) (h : ServerState A) → Fit accounts (at_any say k w st h)
 fit_any accounts say k (word.Stanza long read) st h = fit_ending accounts say k stream.UnsupportedStanzaType st h
 fit_any accounts say k (word.Enable resume) st h = fit_ending accounts say k stream.UnsupportedStanzaType st h
 fit_any accounts say k word.Request st h = fit_ending accounts say k stream.UnsupportedStanzaType st h
@@ -113,22 +113,22 @@ fit_any accounts say k word.Other st h = fit_ending accounts say k stream.Unsupp
 
 -- ---- headers
 
-fit_opening : {A : Type 0} (accounts : List Account) (say : ItemOut → A) (k : ℕ) (entropy : List ℕ) (s : Stage) (h : Hall A) → IsStageOf accounts s → Fit accounts (opening say k entropy s h)
+fit_opening : {A : Type 0} (accounts : List Account) (say : ItemOut → A) (k : ℕ) (entropy : List ℕ) (s : Stage) (h : ServerState A) → IsStageOf accounts s → Fit accounts (opening say k entropy s h)
 fit_opening accounts say k entropy stage.Start h is = (tt, tt)
 fit_opening accounts say k entropy stage.Login h is = (tt, tt)
 fit_opening accounts say k entropy stage.Challenge h is = (tt, tt)
 fit_opening accounts say k entropy (stage.Restart account) h is = (is, tt)
 fit_opening accounts say k entropy (stage.Ready account) h is = (tt, tt)
 
-fit_answering : {A : Type 0} (accounts : List Account) (say : ItemOut → A) (k : ℕ) (st : Standing) (a : HeaderAnswer) (h : Hall A) → IsStageOf accounts st.stage → Fit accounts (answering_header say k st a h)
+fit_answering : {A : Type 0} (accounts : List Account) (say : ItemOut → A) (k : ℕ) (st : Standing) (a : HeaderAnswer) (h : ServerState A) → IsStageOf accounts st.stage → Fit accounts (answering_header say k st a h)
 fit_answering accounts say k st Opens h is = fit_opening accounts say k st.entropy st.stage h is
 fit_answering accounts say k st (Refused why) h is = fit_ending accounts say k _ st h
 
-fit_header_in : {A : Type 0} (accounts : List Account) (say : ItemOut → A) (k : ℕ) (header : Header) (st : Standing) (b : Bool) (h : Hall A) → IsStageOf accounts st.stage → Fit accounts (header_in say k header st b h)
+fit_header_in : {A : Type 0} (accounts : List Account) (say : ItemOut → A) (k : ℕ) (header : Header) (st : Standing) (b : Bool) (h : ServerState A) → IsStageOf accounts st.stage → Fit accounts (header_in say k header st b h)
 fit_header_in accounts say k header st true h is = fit_answering accounts say k st (header_answer h.domain header) h is
 fit_header_in accounts say k header st false h is = fit_ending accounts say k stream.UnsupportedStanzaType st h
 
-pub fit_header : {A : Type 0} (accounts : List Account) (say : ItemOut → A) (k : ℕ) (header : Header) (st : Standing) (h : Hall A) → IsStageOf accounts st.stage → Fit accounts (at_header say k header st h)
+pub fit_header : {A : Type 0} (accounts : List Account) (say : ItemOut → A) (k : ℕ) (header : Header) (st : Standing) (h : ServerState A) → IsStageOf accounts st.stage → Fit accounts (at_header say k header st h)
 fit_header accounts say k header st h is = fit_header_in accounts say k header st (awaits_header st.stage) h is
 
 -- ---- logins
@@ -147,17 +147,17 @@ begun_either : (accounts : List Account) (b : Bool) (x y : AuthAnswer) → IsBeg
 begun_either accounts true x y here there = here
 begun_either accounts false x y here there = there
 
-found_below : (start : ℕ) (name : List ℕ) (accounts : List Account) → IfSome (account_from start name accounts) (λ (f : FoundView). f.place < start + length accounts)
+found_below : (start : ℕ) (name : List ℕ) (accounts : List Account) → IfSome (account_from start name accounts) (λ (f : FoundView). f.position < start + length accounts)
 found_below start name [] = tt
 found_below start name (a ∷ accounts) =
     elim (cases_Bool (bytes_eq name a.name)) [
       | inl here ↦ rw here (omega arith)
       | inr other ↦
           let longer : start + 1 + length accounts ≡ start + suc (length accounts) = omega arith in
-          rw other (subst (λ n. IfSome (account_from (start + 1) name accounts) (λ (f : FoundView). f.place < n)) longer (found_below (start + 1) name accounts))
+          rw other (subst (λ n. IfSome (account_from (start + 1) name accounts) (λ (f : FoundView). f.position < n)) longer (found_below (start + 1) name accounts))
     ]
 
-begun_there : (accounts : List Account) (first : ClientFirst) (tail : List ℕ) (o : Option FoundView) → IfSome o (λ (f : FoundView). f.place < 0 + length accounts) → IsBegun accounts (begun_by first tail o)
+begun_there : (accounts : List Account) (first : ClientFirst) (tail : List ℕ) (o : Option FoundView) → IfSome o (λ (f : FoundView). f.position < 0 + length accounts) → IsBegun accounts (begun_by first tail o)
 begun_there accounts first tail None is = tt
 begun_there accounts first tail (Some found) is = omega (arith, is)
 
@@ -181,7 +181,7 @@ fit_finishing accounts say k left None is = tt
 fit_finishing accounts say k left (Some (Ok login)) is = (is, tt)
 fit_finishing accounts say k left (Some (Err why)) is = fit_failing accounts say k why left
 
-fit_other : {A : Type 0} (accounts : List Account) (say : ItemOut → A) (k : ℕ) (w : Word) (st : Standing) (h : Hall A) → Fit accounts (at_login_other say k w st h)
+fit_other : {A : Type 0} (accounts : List Account) (say : ItemOut → A) (k : ℕ) (w : Word) (st : Standing) (h : ServerState A) → Fit accounts (at_login_other say k w st h)
 fit_other accounts say k (word.Stanza long read) st h = fit_ending accounts say k stream.NotAuthorized st h
 fit_other accounts say k (word.Enable resume) st h = fit_any accounts say k (word.Enable resume) st h
 fit_other accounts say k word.Request st h = fit_any accounts say k word.Request st h
@@ -194,7 +194,7 @@ fit_other accounts say k word.BadField st h = fit_any accounts say k word.BadFie
 fit_other accounts say k word.StreamError st h = fit_any accounts say k word.StreamError st h
 fit_other accounts say k word.Other st h = fit_any accounts say k word.Other st h
 
-pub fit_login : {A : Type 0} (say : ItemOut → A) (k : ℕ) (w : Word) (st : Standing) (h : Hall A) → Fit h.accounts (at_login say k w st h)
+pub fit_login : {A : Type 0} (say : ItemOut → A) (k : ℕ) (w : Word) (st : Standing) (h : ServerState A) → Fit h.accounts (at_login say k w st h)
 fit_login say k (word.Auth e bad) st h = fit_beginning h.accounts say k st.tries (auth_answer e st.entropy h.accounts) (auth_begun h.accounts e st.entropy)
 fit_login say k (word.Stanza long read) st h = fit_other h.accounts say k (word.Stanza long read) st h
 fit_login say k (word.Enable resume) st h = fit_other h.accounts say k (word.Enable resume) st h
@@ -221,7 +221,7 @@ answered_right : (accounts : List Account) (e : Elem) (o : Option Negotiation) �
 answered_right accounts e None is = tt
 answered_right accounts e (Some n) is = ended_right accounts n (carrier_read _ e) is
 
-pub fit_challenge : {A : Type 0} (accounts : List Account) (say : ItemOut → A) (k : ℕ) (w : Word) (st : Standing) (h : Hall A) → IfSome (negotiation_at k h) (λ (n : Negotiation). Exists accounts n.account) → Fit accounts (at_challenge say k w st h)
+pub fit_challenge : {A : Type 0} (accounts : List Account) (say : ItemOut → A) (k : ℕ) (w : Word) (st : Standing) (h : ServerState A) → IfSome (negotiation_at k h) (λ (n : Negotiation). Exists accounts n.account) → Fit accounts (at_challenge say k w st h)
 fit_challenge accounts say k (word.Response e bad) st h is = fit_finishing accounts say k st.tries (option_map (final_answer e) (negotiation_at k h)) (answered_right accounts e (negotiation_at k h) is)
 fit_challenge accounts say k (word.Stanza long read) st h is = fit_other accounts say k (word.Stanza long read) st h
 fit_challenge accounts say k (word.Enable resume) st h is = fit_other accounts say k (word.Enable resume) st h
@@ -240,17 +240,17 @@ fit_parting : {A : Type 0} (accounts : List Account) (say : ItemOut → A) (o : 
 fit_parting accounts say None error more rest = rest
 fit_parting accounts say (Some k) error more rest = rest
 
-fit_binding : {A : Type 0} (accounts : List Account) (say : ItemOut → A) (k account : ℕ) (id : List ℕ) (o : Option (List ℕ)) (h : Hall A) → Exists accounts account → Fit accounts (binding_as say k account id o h)
+fit_binding : {A : Type 0} (accounts : List Account) (say : ItemOut → A) (k account : ℕ) (id : List ℕ) (o : Option (List ℕ)) (h : ServerState A) → Exists accounts account → Fit accounts (binding_as say k account id o h)
 fit_binding accounts say k account id None h is = tt
 fit_binding accounts say k account id (Some resource) h is = (is, fit_parting accounts say (former_of (option_map ended_of (session_named account resource h.sessions))) (say (error_item stream.Conflict)) _ tt)
 
-fit_bind : {A : Type 0} (accounts : List Account) (say : ItemOut → A) (k account : ℕ) (id : List ℕ) (bind : Elem) (h : Hall A) → Exists accounts account → Fit accounts (at_bind say k account id bind h)
+fit_bind : {A : Type 0} (accounts : List Account) (say : ItemOut → A) (k account : ℕ) (id : List ℕ) (bind : Elem) (h : ServerState A) → Exists accounts account → Fit accounts (at_bind say k account id bind h)
 fit_bind accounts say k account id bind h is = fit_binding accounts say k account id (result_ok (chosen h.next (asked_resource bind))) h is
 
-pub fit_enable : {A : Type 0} (accounts : List Account) (say : ItemOut → A) (k : ℕ) (resume : Bool) (t : Told) → Fit accounts (at_enable say k resume t)
+pub fit_enable : {A : Type 0} (accounts : List Account) (say : ItemOut → A) (k : ℕ) (resume : Bool) (t : SessionInfo) → Fit accounts (at_enable say k resume t)
 fit_enable accounts say k resume t = fit_either accounts t.counted _ _ tt tt
 
-pub fit_request : {A : Type 0} (accounts : List Account) (say : ItemOut → A) (k : ℕ) (t : Told) → Fit accounts (at_request say k t)
+pub fit_request : {A : Type 0} (accounts : List Account) (say : ItemOut → A) (k : ℕ) (t : SessionInfo) → Fit accounts (at_request say k t)
 fit_request accounts say k t = fit_either accounts t.counted _ _ tt tt
 
 fit_acknowledging : {A : Type 0} (accounts : List Account) (say : ItemOut → A) (k n h : ℕ) (o : Option (Result ℕ TooHighCount)) → Fit accounts (acknowledging say k n h o)
@@ -258,8 +258,8 @@ fit_acknowledging accounts say k n h None = tt
 fit_acknowledging accounts say k n h (Some (Ok more)) = tt
 fit_acknowledging accounts say k n h (Some (Err why)) = tt
 
-pub fit_ack : {A : Type 0} (accounts : List Account) (say : ItemOut → A) (k h : ℕ) (t : Told) (hall : Hall A) → Fit accounts (at_ack say k h t hall)
-fit_ack accounts say k h t hall = fit_either accounts t.counted _ _ (fit_acknowledging accounts say k t.number h (option_map (ack_answer h) (session_of t.number hall.sessions))) tt
+pub fit_ack : {A : Type 0} (accounts : List Account) (say : ItemOut → A) (k h : ℕ) (t : SessionInfo) (server_state : ServerState A) → Fit accounts (at_ack say k h t server_state)
+fit_ack accounts say k h t server_state = fit_either accounts t.counted _ _ (fit_acknowledging accounts say k t.number h (option_map (ack_answer h) (session_of t.number server_state.sessions))) tt
 
 fit_saying : {A : Type 0} (accounts : List Account) (k : ℕ) (items : List A) (more : List (Act A)) → Fit accounts more → Fit accounts (saying k items more)
 fit_saying accounts k [] more rest = rest
@@ -276,9 +276,9 @@ fit_resuming accounts say k account previd h (Ok resumed) waiting =
     fit_parting accounts say resumed.former (say (error_item stream.Conflict)) _
     (fit_saying accounts k waiting (asking say k resumed.number (nat_le ASKS_AT (length waiting))) (fit_asking accounts say k resumed.number (nat_le ASKS_AT (length waiting))))
 
-fit_resume : {A : Type 0} (accounts : List Account) (say : ItemOut → A) (k account : ℕ) (previd : List ℕ) (h : ℕ) (hall : Hall A) → Fit accounts (at_resume say k account previd h hall)
-fit_resume accounts say k account previd h hall =
-    fit_resuming accounts say k account previd h (resume_answer h (session_resumed previd account hall.sessions)) (resent_where h (session_resumed previd account hall.sessions))
+fit_resume : {A : Type 0} (accounts : List Account) (say : ItemOut → A) (k account : ℕ) (previd : List ℕ) (h : ℕ) (server_state : ServerState A) → Fit accounts (at_resume say k account previd h server_state)
+fit_resume accounts say k account previd h server_state =
+    fit_resuming accounts say k account previd h (resume_answer h (session_resumed previd account server_state.sessions)) (resent_where h (session_resumed previd account server_state.sessions))
 
 -- ---- requests
 
@@ -291,16 +291,16 @@ fit_entries accounts say n asker entries [] more rest = rest
 fit_entries accounts say n asker entries (number ∷ numbers) more rest =
     fit_entry accounts say n asker (entry_numbered number entries) (sending_entries say n asker entries numbers more) (fit_entries accounts say n asker entries numbers more rest)
 
-fit_paging : {A : Type 0} (accounts : List Account) (say : ItemOut → A) (q : IqView) (t : Told) (queryid : List ℕ) (kept : Kept) (o : Option CutView) (h : Hall A) → Fit accounts (paging say q t queryid kept o h)
+fit_paging : {A : Type 0} (accounts : List Account) (say : ItemOut → A) (q : IqView) (t : SessionInfo) (queryid : List ℕ) (kept : Kept) (o : Option CutView) (h : ServerState A) → Fit accounts (paging say q t queryid kept o h)
 fit_paging accounts say q t queryid kept None h = tt
 fit_paging accounts say q t queryid kept (Some cut) h =
     fit_entries accounts say t.number (asker_of t queryid h) kept.entries cut.numbers (answering_iq say t (fin_item (envelope_of q t h) cut)) tt
 
-fit_querying : {A : Type 0} (accounts : List Account) (say : ItemOut → A) (q : IqView) (t : Told) (query : MamQuery) (o : Option Kept) (h : Hall A) → Fit accounts (querying_in say q t query o h)
+fit_querying : {A : Type 0} (accounts : List Account) (say : ItemOut → A) (q : IqView) (t : SessionInfo) (query : MamQuery) (o : Option Kept) (h : ServerState A) → Fit accounts (querying_in say q t query o h)
 fit_querying accounts say q t query None h = tt
 fit_querying accounts say q t query (Some kept) h = fit_paging accounts say q t query.queryid kept (page_of (kept_by kept.owner kept.entries) query.query) h
 
-fit_serving : {A : Type 0} (accounts : List Account) (say : ItemOut → A) (o : Option Request) (q : IqView) (t : Told) (h : Hall A) → Fit accounts (serving say o q t h)
+fit_serving : {A : Type 0} (accounts : List Account) (say : ItemOut → A) (o : Option Request) (q : IqView) (t : SessionInfo) (h : ServerState A) → Fit accounts (serving say o q t h)
 fit_serving accounts say None q t h = tt
 fit_serving accounts say (Some request.Ping) q t h = tt
 fit_serving accounts say (Some (request.Info at_domain)) q t h = tt
@@ -311,48 +311,48 @@ fit_serving accounts say (Some (request.Carbons on)) q t h = tt
 fit_serving accounts say (Some (request.Archive query)) q t h = fit_querying accounts say q t query (archive_at t.account h) h
 fit_serving accounts say (Some (request.Refused e)) q t h = tt
 
-pub fit_iq : {A : Type 0} (accounts : List Account) (say : ItemOut → A) (q : IqView) (t : Told) (h : Hall A) → Fit accounts (at_iq say q t h)
+pub fit_iq : {A : Type 0} (accounts : List Account) (say : ItemOut → A) (q : IqView) (t : SessionInfo) (h : ServerState A) → Fit accounts (at_iq say q t h)
 fit_iq accounts say q t h = fit_serving accounts say (request_of q t h) q t h
 
 -- ---- other stanzas
 
-fit_returning : {A : Type 0} (accounts : List Account) (say : ItemOut → A) (kind : PresenceKind) (to : List ℕ) (p : Presence) (t : Told) → Fit accounts (returning say kind to p t)
+fit_returning : {A : Type 0} (accounts : List Account) (say : ItemOut → A) (kind : PresenceKind) (to : List ℕ) (p : Presence) (t : SessionInfo) → Fit accounts (returning say kind to p t)
 fit_returning accounts say Available to p t = tt
 fit_returning accounts say Unavailable to p t = tt
 fit_returning accounts say Error to p t = tt
 fit_returning accounts say Other to p t = tt
 
-fit_directing : {A : Type 0} (accounts : List Account) (say : ItemOut → A) (here : Bool) (kind : PresenceKind) (to : List ℕ) (p : Presence) (t : Told) → Fit accounts (directing say here kind to p t)
+fit_directing : {A : Type 0} (accounts : List Account) (say : ItemOut → A) (here : Bool) (kind : PresenceKind) (to : List ℕ) (p : Presence) (t : SessionInfo) → Fit accounts (directing say here kind to p t)
 fit_directing accounts say true kind to p t = tt
 fit_directing accounts say false kind to p t = fit_returning accounts say kind to p t
 
-pub fit_presence : {A : Type 0} (accounts : List Account) (say : ItemOut → A) (o : Option (List ℕ)) (kind : PresenceKind) (p : Presence) (t : Told) (h : Hall A) → Fit accounts (presenting say o kind p t h)
+pub fit_presence : {A : Type 0} (accounts : List Account) (say : ItemOut → A) (o : Option (List ℕ)) (kind : PresenceKind) (p : Presence) (t : SessionInfo) (h : ServerState A) → Fit accounts (presenting say o kind p t h)
 fit_presence accounts say (Some to) kind p t h = fit_directing accounts say (is_local to h) kind to p t
 fit_presence accounts say None Available p t h = tt
 fit_presence accounts say None Unavailable p t h = tt
 fit_presence accounts say None Error p t h = tt
 fit_presence accounts say None Other p t h = tt
 
-pub fit_bad_to : {A : Type 0} (accounts : List Account) (say : ItemOut → A) (message reply : Bool) (id to : List ℕ) (t : Told) (h : Hall A) → Fit accounts (at_bad_to say message reply id to t h)
+pub fit_bad_to : {A : Type 0} (accounts : List Account) (say : ItemOut → A) (message reply : Bool) (id to : List ℕ) (t : SessionInfo) (h : ServerState A) → Fit accounts (at_bad_to say message reply id to t h)
 fit_bad_to accounts say message false id to t h = tt
 fit_bad_to accounts say message true id to t h = tt
 
 -- ---- where no session is on the connection
 
-fit_ready_iq : {A : Type 0} (accounts : List Account) (say : ItemOut → A) (k account : ℕ) (kind : IqKind) (q : IqView) (bind : Option Elem) (st : Standing) (h : Hall A) → Exists accounts account → Fit accounts (ready_iq say k account kind q bind st h)
+fit_ready_iq : {A : Type 0} (accounts : List Account) (say : ItemOut → A) (k account : ℕ) (kind : IqKind) (q : IqView) (bind : Option Elem) (st : Standing) (h : ServerState A) → Exists accounts account → Fit accounts (ready_iq say k account kind q bind st h)
 fit_ready_iq accounts say k account iq.Set q (Some bind) st h is = fit_bind accounts say k account q.id bind h is
 fit_ready_iq accounts say k account iq.Set q None st h is = fit_ending accounts say k stream.NotAuthorized st h
 fit_ready_iq accounts say k account iq.Get q bind st h is = fit_ending accounts say k stream.NotAuthorized st h
 fit_ready_iq accounts say k account iq.Result q bind st h is = fit_ending accounts say k stream.NotAuthorized st h
 fit_ready_iq accounts say k account iq.Error q bind st h is = fit_ending accounts say k stream.NotAuthorized st h
 
-fit_ready_stanza : {A : Type 0} (accounts : List Account) (say : ItemOut → A) (k account : ℕ) (read : Result Stanza StanzaFault) (st : Standing) (h : Hall A) → Exists accounts account → Fit accounts (ready_stanza say k account read st h)
+fit_ready_stanza : {A : Type 0} (accounts : List Account) (say : ItemOut → A) (k account : ℕ) (read : Result Stanza StanzaFault) (st : Standing) (h : ServerState A) → Exists accounts account → Fit accounts (ready_stanza say k account read st h)
 fit_ready_stanza accounts say k account (Ok (stanza.Iq q)) st h is = fit_ready_iq accounts say k account q.kind q (first_named binding _ q.payload) st h is
 fit_ready_stanza accounts say k account (Ok (stanza.Message m)) st h is = fit_ending accounts say k stream.NotAuthorized st h
 fit_ready_stanza accounts say k account (Ok (stanza.Presence p)) st h is = fit_ending accounts say k stream.NotAuthorized st h
 fit_ready_stanza accounts say k account (Err why) st h is = fit_ending accounts say k stream.NotAuthorized st h
 
-pub fit_ready : {A : Type 0} (accounts : List Account) (say : ItemOut → A) (k account : ℕ) (w : Word) (st : Standing) (h : Hall A) → Exists accounts account → Fit accounts (at_ready say k account w st h)
+pub fit_ready : {A : Type 0} (accounts : List Account) (say : ItemOut → A) (k account : ℕ) (w : Word) (st : Standing) (h : ServerState A) → Exists accounts account → Fit accounts (at_ready say k account w st h)
 fit_ready accounts say k account (word.Stanza long read) st h is = fit_ready_stanza accounts say k account read st h is
 fit_ready accounts say k account (word.Resume previd handled) st h is = fit_resume accounts say k account previd handled h
 fit_ready accounts say k account (word.Enable resume) st h is = tt

@@ -29,8 +29,8 @@ other_stays k j (e ∷ es) apart =
       | inr elsewhere ↦ rw elsewhere (elim (cases_Bool (is_number k e.0)) [ inl found ↦ rw found refl | inr other ↦ rw other (other_stays k j es apart) ])
     ]
 
-pub conn_left : {A : Type 0} (k j : ℕ) (s : Step A) → is_number k j ≡ false → conn_at k (shut j s).hall ≡ conn_at k s.hall
-conn_left k j s apart = other_stays k j s.hall.conns apart
+pub conn_left : {A : Type 0} (k j : ℕ) (s : Step A) → is_number k j ≡ false → conn_at k (shut j s).server_state ≡ conn_at k s.server_state
+conn_left k j s apart = other_stays k j s.server_state.conns apart
 
 pub found_kept : {A : Type 0} (p q : Session A → Bool) (ss : List (Session A)) (t : Session A) → find p ss ≡ Some t → q t ≡ true → find p (filter q ss) ≡ Some t
 found_kept p q [] t is kept = is
@@ -45,8 +45,8 @@ found_kept p q (s ∷ ss) t is kept =
           elim (cases_Bool (q s)) [ inl stays ↦ rw (stays, other) rest | inr gone ↦ rw gone rest ]
     ]
 
-pub session_left : {A : Type 0} (n j : ℕ) (t : Session A) (s : Step A) → session_of n s.hall.sessions ≡ Some t → is_at j t ≡ false → session_of n (shut j s).hall.sessions ≡ Some t
-session_left n j t s is apart = found_kept (is_numbered n) (λ u. not (is_at j u)) s.hall.sessions t is (ap not apart)
+pub session_left : {A : Type 0} (n j : ℕ) (t : Session A) (s : Step A) → session_of n s.server_state.sessions ≡ Some t → is_at j t ≡ false → session_of n (shut j s).server_state.sessions ≡ Some t
+session_left n j t s is apart = found_kept (is_numbered n) (λ u. not (is_at j u)) s.server_state.sessions t is (ap not apart)
 
 pub others_left : {A : Type 0} (m n : ℕ) (f : Session A → Session A) (ss : List (Session A)) → ((s : Session A) → (f s).shown.number ≡ s.shown.number) → (m == n) ≡ false → session_of m (with_session n f ss) ≡ session_of m ss
 others_left m n f [] same apart = refl

@@ -92,17 +92,17 @@ gone_stable n = record {
       (none_more (is_numbered n) (fresh next account resource k) ss (ne_eqb next n (λ same. omega (arith, below, same))) is.0, omega (arith, below));
 }
 
-pub gone_items : {A : Type 0} (say : ItemOut → A) (k n : ℕ) (items : List Item) (s : Step A) → IsGone n s.hall → IsGone n (after_items say k items s).hall
+pub gone_items : {A : Type 0} (say : ItemOut → A) (k n : ℕ) (items : List Item) (s : Step A) → IsGone n s.server_state → IsGone n (after_items say k items s).server_state
 gone_items say k n items s is = let gone = by_items (gone_stable n) say k items s (is.none, is.spent) in record { none = gone.0; spent = gone.1 }
 
-pub gone_events : {A : Type 0} (say : ItemOut → A) (n : ℕ) (events : List Event) (r : Run A) → IsGone n r.server.hall → IsGone n (after_events say events r).server.hall
+pub gone_events : {A : Type 0} (say : ItemOut → A) (n : ℕ) (events : List Event) (r : Run A) → IsGone n r.server.server_state → IsGone n (after_events say events r).server.server_state
 gone_events say n events r is = let gone = by_events (gone_stable n) say events r (is.none, is.spent) in record { none = gone.0; spent = gone.1 }
 
 next_stable : {A : Type 0} (least : ℕ) → IsStable {A = A} (λ ss next. least ≤ next)
 next_stable least = record { some = λ p ss next is. is; same = λ g keeps ss next is. is; more = λ account resource k ss next is. omega (arith, is) }
 
-pub next_rises : {A : Type 0} (say : ItemOut → A) (k : ℕ) (items : List Item) (s : Step A) → s.hall.next ≤ (after_items say k items s).hall.next
-next_rises say k items s = by_items (next_stable s.hall.next) say k items s (omega arith)
+pub next_rises : {A : Type 0} (say : ItemOut → A) (k : ℕ) (items : List Item) (s : Step A) → s.server_state.next ≤ (after_items say k items s).server_state.next
+next_rises say k items s = by_items (next_stable s.server_state.next) say k items s (omega arith)
 
 -- ---- a connection is shut
 
@@ -120,6 +120,6 @@ none_at {A = A} k n from next t (s ∷ ss) rise found on =
           elim (cases_Bool (not (is_at k s))) [ inl stays ↦ rw (stays, other) rest | inr goes ↦ rw goes rest ]
     ]
 
-pub shut_gone : {A : Type 0} (k n : ℕ) (t : Session A) (s : Step A) → HaveNumbers s.hall → session_of n s.hall.sessions ≡ Some t → is_at k t ≡ true → IsGone n (shut k s).hall
+pub shut_gone : {A : Type 0} (k n : ℕ) (t : Session A) (s : Step A) → HaveNumbers s.server_state → session_of n s.server_state.sessions ≡ Some t → is_at k t ≡ true → IsGone n (shut k s).server_state
 shut_gone k n t s have found on =
-    record { none = none_at k n 1 s.hall.next t s.hall.sessions have found on; spent = subst (λ m. m < s.hall.next) (number_is n t s.hall.sessions found) (found_below (is_numbered n) 1 s.hall.next s.hall.sessions t have found) }
+    record { none = none_at k n 1 s.server_state.next t s.server_state.sessions have found on; spent = subst (λ m. m < s.server_state.next) (number_is n t s.server_state.sessions found) (found_below (is_numbered n) 1 s.server_state.next s.server_state.sessions t have found) }

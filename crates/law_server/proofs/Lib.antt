@@ -1,12 +1,12 @@
 -- ---- sessions and small steps, turned
-pub mod SessionsTurned
-pub mod StepsTurned
+pub mod SessionsRendered
+pub mod StepsRendered
 -- ---- rows, turned
-pub mod StreamsTurned
-pub mod SessionRowsTurned
-pub mod RequestsTurned
-pub mod MessagesTurned
-pub mod TableTurned
+pub mod StreamsRendered
+pub mod SessionRowsRendered
+pub mod RequestsRendered
+pub mod MessagesRendered
+pub mod TableRendered
 -- ---- counts
 pub mod Counts
 -- ---- requests
@@ -18,9 +18,9 @@ pub mod PiecesJoined
 -- ---- what steps leave
 pub mod Frames
 -- ---- moments, and connections that come and go
-pub mod MomentsTurned
+pub mod MomentsRendered
 -- ---- bytes
-pub mod EventsTurned
+pub mod EventsRendered
 -- ---- what acts mean for archives
 pub mod Marks
 pub mod QuietRows

@@ -19,8 +19,8 @@ use Rattle.law_server.specs.Taken.{Reads, account_of}
 use Rattle.mam_archive.specs.Entries.{EntryView}
 use Rattle.sm_live.specs.Rule.{RisesTo}
 use Rattle.sm_live.specs.Sessions.{Session, is_named, is_of, number_of, session_at, session_named, session_of, sessions_of, told}
-use Rattle.sm_live.specs.declared.told.Told.{Told}
-use Rattle.srv_handlers.specs.Messages.{archiving, at_message, carrying, copy_for, copying, copying_to, delivering, delivering_to, is_full_in, messaging, number_behind, number_in, telling}
+use Rattle.sm_live.specs.declared.told.SessionInfo.{SessionInfo}
+use Rattle.srv_handlers.specs.Messages.{archiving, at_message, carrying, copy_for, copying, copying_to, delivering, delivering_to, is_full_in, messaging, number_after, number_in, telling}
 use Rattle.srv_route.proofs.Chosen.{AreFound, all_found}
 use Rattle.srv_route.specs.Destinations.{Bare, Destination, Full, NoUser, RemoteDomain, destination_of}
 use Rattle.srv_route.specs.Messages.{is_archived, is_chat, is_copied, is_for_users}
@@ -28,7 +28,7 @@ use Rattle.srv_route.specs.Plans.{archiving_of, copied_of, dropped, having_it, i
 use Rattle.srv_route.specs.Routes.{Bounced, PlanOf, RouteOf, Routed, archives_of, plan_renamed, renamed}
 use Rattle.srv_route.specs.declared.archiving.Archiving.{Archiving}
 use Rattle.srv_route.specs.declared.archiving.Archiving.TheVariants.{Both, Nowhere, Once}
-use Rattle.srv_state.specs.State.{Hall, Kept, archive_at, bare_address, session_address}
+use Rattle.srv_state.specs.State.{Kept, ServerState, archive_at, bare_address, session_address}
 use Rattle.srv_state.specs.Steps.{Act}
 use Rattle.srv_state.specs.declared.connection.Standing.{Standing}
 use Rattle.xml_framer.specs.declared.items.Item.{Item}
@@ -66,7 +66,7 @@ pub living : {A : Type 0} (sessions ts : List (Session A)) → AreFound sessions
 living sessions [] found = tt
 living sessions (t ∷ ts) found = (found.0, living sessions ts found.1)
 
-pub all_live : {A : Type 0} (h : Hall A) → HaveNumbers h → AllByRecursion (Lives h.sessions) h.sessions
+pub all_live : {A : Type 0} (h : ServerState A) → HaveNumbers h → AllByRecursion (Lives h.sessions) h.sessions
 all_live h numbers = living h.sessions h.sessions (all_found h.next 1 h.sessions (rises 1 h.next h.sessions numbers))
 
 -- ---- the plan
@@ -95,7 +95,7 @@ abbrev PlanGoes : {A : Type 0} → Destination → MessageView → ℕ → List 
 PlanGoes d m sender sessions (Bounced e) = Unit {0}
 PlanGoes d m sender sessions (Routed r) = Goes d m sender sessions r
 
-module _ {A : Type 0} (d : Destination) (m : MessageView) (t : Told) (sessions : List (Session A)) (live : AllByRecursion (Lives sessions) sessions) where
+module _ {A : Type 0} (d : Destination) (m : MessageView) (t : SessionInfo) (sessions : List (Session A)) (live : AllByRecursion (Lives sessions) sessions) where
   goes_either : (b : Bool) (p q : PlanOf (Session A)) → PlanGoes d m t.account sessions p → PlanGoes d m t.account sessions q → PlanGoes d m t.account sessions (cond b p q)
   goes_either true p q here there = here
   goes_either false p q here there = there
@@ -142,7 +142,7 @@ module _ {A : Type 0} (d : Destination) (m : MessageView) (t : Told) (sessions :
   goes_to_full account resource None is names =
       goes_either (is_chat m.kind) (to_bare m t account sessions) (to_user m t account [] sessions) (goes_to_bare account names) (goes_to_user account [] names tt)
 
-plan_goes : {A : Type 0} (d : Destination) (m : MessageView) (t : Told) (sessions : List (Session A)) → AllByRecursion (Lives sessions) sessions → PlanGoes d m t.account sessions (planned d m t sessions)
+plan_goes : {A : Type 0} (d : Destination) (m : MessageView) (t : SessionInfo) (sessions : List (Session A)) → AllByRecursion (Lives sessions) sessions → PlanGoes d m t.account sessions (planned d m t sessions)
 plan_goes RemoteDomain m t sessions live = goes_refused RemoteDomain m t sessions live RemoteServerNotFound
 plan_goes NoUser m t sessions live = goes_refused NoUser m t sessions live ServiceUnavailable
 plan_goes (Bare account) m t sessions live = goes_to_bare (Bare account) m t sessions live account refl
@@ -150,7 +150,7 @@ plan_goes (Full account resource) m t sessions live = goes_to_full (Full account
 
 -- ---- the numbers that archives give
 
-same_next : (o : Option Kept) → number_behind o ≡ next_in o
+same_next : (o : Option Kept) → number_after o ≡ next_in o
 same_next None = refl
 same_next (Some kept) = refl
 
@@ -168,16 +168,16 @@ names_sender true true sender account is = rw (eq-eqb account sender (sym (eqb-t
 names_sender true false sender account is = rw (eq-eqb sender sender refl) refl
 names_sender false same sender account is = refl
 
-pub number_is : {A : Type 0} (place : ℕ) (m : MessageView) (accounts : List ℕ) (h : Hall A) → list_any (λ other. other == place) accounts ≡ is_archived m → number_in place accounts h ≡ number_for place m h
-number_is place m accounts h names =
-    ap (λ b. cond b (number_behind (archive_at place h)) None) names ∙ ap (λ (o : Option ℕ). cond (is_archived m) o None) (same_next (archive_at place h))
+pub number_is : {A : Type 0} (position : ℕ) (m : MessageView) (accounts : List ℕ) (h : ServerState A) → list_any (λ other. other == position) accounts ≡ is_archived m → number_in position accounts h ≡ number_for position m h
+number_is position m accounts h names =
+    ap (λ b. cond b (number_after (archive_at position h)) None) names ∙ ap (λ (o : Option ℕ). cond (is_archived m) o None) (same_next (archive_at position h))
 
 abbrev pub NamesIt : ℕ → MessageView → List ℕ → Type 0
-NamesIt place m accounts = list_any (λ other. other == place) accounts ≡ is_archived m
+NamesIt position m accounts = list_any (λ other. other == position) accounts ≡ is_archived m
 
 -- ---- what is sent
 
-module _ {A : Type 0} (say : ItemOut → A) (k : ℕ) (i : Item) (st : Standing) (h : Hall A) (sender : Session A) (on : session_at k h.sessions ≡ Some sender) (m : MessageView) (reads : Reads i m) where
+module _ {A : Type 0} (say : ItemOut → A) (k : ℕ) (i : Item) (st : Standing) (h : ServerState A) (sender : Session A) (on : session_at k h.sessions ≡ Some sender) (m : MessageView) (reads : Reads i m) where
   module _ (addressee : ℕ) (names : account_of (destination_of h.domain h.accounts sender.shown.account m.to) ≡ Some addressee) (accounts : List ℕ) where
     calm_delivery : NamesIt addressee m accounts → (s : Session A) (o : Option (Session A)) (more : List (Act A)) → o ≡ Some s → IsLiveOf h.sessions addressee s → AreCalm say k i st h more
         → AreCalm say k i st h (delivering_to say (going_on sender m h) accounts (number_of s) (option_map told o) h more)
@@ -204,11 +204,11 @@ module _ {A : Type 0} (say : ItemOut → A) (k : ℕ) (i : Item) (st : Standing)
     calm_delivering named (s ∷ ss) more all rest =
         calm_delivery named s (session_of (number_of s) h.sessions) (delivering say (going_on sender m h) accounts (map number_of ss) h more) all.0.0 all.0 (calm_delivering named ss more all.1 rest)
 
-    copy_is : (sent : Bool) (place : ℕ) (s u : Session A) → NamesIt place m accounts → u.shown.account ≡ place
-        → copy_item (copy_for sent (going_on sender m h) accounts u.shown.account h) (session_address (number_of s) h) ≡ copy sent sender m place s h
-    copy_is sent place s u named owner =
+    copy_is : (sent : Bool) (position : ℕ) (s u : Session A) → NamesIt position m accounts → u.shown.account ≡ position
+        → copy_item (copy_for sent (going_on sender m h) accounts u.shown.account h) (session_address (number_of s) h) ≡ copy sent sender m position s h
+    copy_is sent position s u named owner =
         let made = λ (x : ℕ) (n : Option ℕ). copy_item (record { sent = sent; moment = h.moment; by = bare_address x h; number = n; message = going_on sender m h }) (session_address (number_of s) h) in
-        ap (λ (x : ℕ). made x (number_in x accounts h)) owner ∙ ap (made place) (number_is place m accounts h named)
+        ap (λ (x : ℕ). made x (number_in x accounts h)) owner ∙ ap (made position) (number_is position m accounts h named)
 
     calm_sent_copy : NamesIt sender.shown.account m accounts → (s : Session A) (o : Option (Session A)) (more : List (Act A)) → o ≡ Some s → WantsCopy h.sessions sender.shown.account s → AreCalm say k i st h more
         → AreCalm say k i st h (copying_to say true (going_on sender m h) accounts (number_of s) (option_map told o) h more)
@@ -254,13 +254,13 @@ module _ {A : Type 0} (say : ItemOut → A) (k : ℕ) (i : Item) (st : Standing)
     calm_received_copies named (s ∷ ss) more all rest =
         calm_received_copy named s (session_of (number_of s) h.sessions) (copying say false (going_on sender m h) accounts (map number_of ss) h more) all.0.0 all.0 (calm_received_copies named ss more all.1 rest)
 
-  calm_archiving : (e : EntryView) (places : List ℕ) (more : List (Act A)) → AreCalm say k i st h more → AreCalm say k i st h (archiving e places more)
+  calm_archiving : (e : EntryView) (positions : List ℕ) (more : List (Act A)) → AreCalm say k i st h more → AreCalm say k i st h (archiving e positions more)
   calm_archiving e [] more rest = rest
-  calm_archiving e (place ∷ places) more rest = ((tt, tt), calm_archiving e places more rest)
+  calm_archiving e (position ∷ positions) more rest = ((tt, tt), calm_archiving e positions more rest)
 
-  calm_telling : (full : MessageView) (places : List ℕ) (more : List (Act A)) → AreCalm say k i st h more → AreCalm say k i st h (telling full places more)
+  calm_telling : (full : MessageView) (positions : List ℕ) (more : List (Act A)) → AreCalm say k i st h more → AreCalm say k i st h (telling full positions more)
   calm_telling full [] more rest = rest
-  calm_telling full (place ∷ places) more rest = ((tt, tt), rest)
+  calm_telling full (position ∷ positions) more rest = ((tt, tt), rest)
 
   calm_carried : (r : RouteOf (Session A)) → GoesTo (destination_of h.domain h.accounts sender.shown.account m.to) m sender.shown.account h.sessions r
       → AreCalm say k i st h (carrying say (going_on sender m h) (archives_of r.archiving) (renamed number_of r) h)

@@ -28,7 +28,7 @@ use Rattle.srv_login.specs.declared.negotiation.Negotiation.{Negotiation}
 use Rattle.srv_login.specs.declared.sasl_condition.SaslCondition.{SaslCondition}
 use Rattle.srv_login.specs.declared.sasl_condition.SaslCondition.TheVariants.{Aborted}
 use Rattle.srv_state.specs.Logins.{answering, at_challenge, at_login, at_login_other, beginning, failing, finishing, negotiation_at}
-use Rattle.srv_state.specs.State.{Hall}
+use Rattle.srv_state.specs.State.{ServerState}
 use Rattle.srv_state.specs.Streams.{answering_header, at_any, at_header, awaits_header, closing, ending, ending_in, header_in, opening, parting}
 use Rattle.srv_state.specs.declared.connection.Stage.{Stage}
 use Rattle.srv_state.specs.declared.connection.Stage.TheVariants as stage
@@ -47,7 +47,7 @@ use Rattle.xml_writer.specs.Items.{ItemOut}
 
 record IsFoundFrom (start : ℕ) (accounts : List Account) (f : FoundView) : Type 0 where
   at : ℕ
-  place : f.place ≡ start + at
+  position : f.position ≡ start + at
   named : Account
   there : slice_get accounts at ≡ Some named
   credentials : f.credentials ≡ named.credentials
@@ -59,16 +59,16 @@ if_some P Q f (Some t) is = f t is
 found_later : (start : ℕ) (a : Account) (accounts : List Account) (f : FoundView) → IsFoundFrom (start + 1) accounts f → IsFoundFrom start (a ∷ accounts) f
 found_later start a accounts f is =
     let n = is.at in
-    let was : f.place ≡ start + 1 + n = is.place in
+    let was : f.position ≡ start + 1 + n = is.position in
     let more : start + 1 + n ≡ start + suc n = omega arith in
-    record { at = suc n; place = was ∙ more; named = is.named; there = is.there; credentials = is.credentials }
+    record { at = suc n; position = was ∙ more; named = is.named; there = is.there; credentials = is.credentials }
 
 found_from : (start : ℕ) (name : List ℕ) (accounts : List Account) → IfSome (account_from start name accounts) (IsFoundFrom start accounts)
 found_from start name [] = tt
 found_from start name (a ∷ accounts) =
     let first : start ≡ start + 0 = omega arith in
     elim (cases_Bool (bytes_eq name a.name)) [
-      | inl here ↦ rw here (record { at = 0; place = first; named = a; there = refl; credentials = refl })
+      | inl here ↦ rw here (record { at = 0; position = first; named = a; there = refl; credentials = refl })
       | inr other ↦ rw other (if_some (IsFoundFrom (start + 1) accounts) (IsFoundFrom start (a ∷ accounts)) (found_later start a accounts) (account_from (start + 1) name accounts) (found_from (start + 1) name accounts))
     ]
 
@@ -85,11 +85,11 @@ begun_there : (accounts : List Account) (entropy : List ℕ) (first : ClientFirs
 begun_there accounts entropy first None is = tt
 begun_there accounts entropy first (Some found) is =
     let n = is.at in
-    let was : found.place ≡ 0 + n = is.place in
-    let place : n ≡ found.place = omega (arith, was) in
+    let was : found.position ≡ 0 + n = is.position in
+    let position : n ≡ found.position = omega (arith, was) in
     record {
       named = is.named;
-      there = subst (λ (p : ℕ). slice_get accounts p ≡ Some is.named) place is.there;
+      there = subst (λ (p : ℕ). slice_get accounts p ≡ Some is.named) position is.there;
       first = first;
       begun_so = ap (λ (c : CredentialsView). begun_server first c (added_nonce entropy)) is.credentials;
     }
@@ -112,7 +112,7 @@ abbrev pub IsResponseOfItem : Item → Word → Type 0
 IsResponseOfItem i (word.Response e bad) = i ≡ item.Element e
 IsResponseOfItem i w = Unit {0}
 
-module _ {A : Type 0} (say : ItemOut → A) (k : ℕ) (i : Item) (st : Standing) (h : Hall A) where
+module _ {A : Type 0} (say : ItemOut → A) (k : ℕ) (i : Item) (st : Standing) (h : ServerState A) where
   pub calm_closing : AreCalm say k i st h (closing say k)
   calm_closing = ((inl refl, tt), ((tt, tt), tt))
 

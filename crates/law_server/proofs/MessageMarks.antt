@@ -4,11 +4,11 @@ use Rattle.std.proofs.lemmas.Bool.{false≢true}
 use Rattle.std.specs.List.{list_any}
 use Rattle.std.specs.Option.{IfSome, unwrap_or}
 use Rattle.sm_resumption.proofs.RowFacts.{same_from_eqb}
-use Rattle.srv_state.specs.State.{Hall, archive_at, bare_address, session_address}
+use Rattle.srv_state.specs.State.{ServerState, archive_at, bare_address, session_address}
 use Rattle.srv_state.specs.Steps.{Act}
 use Rattle.im_forwarding.specs.Passed.{addressed}
-use Rattle.sm_live.specs.Sessions.{Session, number_of, session_named, told_of}
-use Rattle.sm_live.specs.declared.told.Told.{Told}
+use Rattle.sm_live.specs.Sessions.{Session, info_of, number_of, session_named}
+use Rattle.sm_live.specs.declared.told.SessionInfo.{SessionInfo}
 use Rattle.srv_handlers.specs.Messages.{archiving, at_message, bouncing, carrying, copying, copying_to, delivering, delivering_to, is_full_at, is_full_in, messaging, no_room, telling}
 use Rattle.im_messages.specs.Entries.{entry_of}
 use Rattle.srv_route.specs.Destinations.{Bare, Destination, Full, NoUser, RemoteDomain, destination_of}
@@ -54,25 +54,25 @@ archived_or_not : (b : Bool) (sender account : ℕ) → (cond b (once_or_both se
 archived_or_not true sender account = inr refl
 archived_or_not false sender account = inl refl
 
-is_routed : {A : Type 0} (d : Destination) (m : MessageView) (t : Told) (account : ℕ) (deliver sessions : List (Session A)) → account_of d ≡ Some account → IsPlanned d t.account (routed m t account deliver sessions)
+is_routed : {A : Type 0} (d : Destination) (m : MessageView) (t : SessionInfo) (account : ℕ) (deliver sessions : List (Session A)) → account_of d ≡ Some account → IsPlanned d t.account (routed m t account deliver sessions)
 is_routed d m t account deliver sessions names =
     elim (archived_or_not (is_archived m) t.account account) [ inl nowhere ↦ inl nowhere | inr there ↦ inr (account, names, there) ]
 
-is_to_user : {A : Type 0} (d : Destination) (m : MessageView) (t : Told) (account : ℕ) (deliver sessions : List (Session A)) → account_of d ≡ Some account → IsPlanned d t.account (to_user m t account deliver sessions)
+is_to_user : {A : Type 0} (d : Destination) (m : MessageView) (t : SessionInfo) (account : ℕ) (deliver sessions : List (Session A)) → account_of d ≡ Some account → IsPlanned d t.account (to_user m t account deliver sessions)
 is_to_user d m t account deliver sessions names =
     planned_either d t.account (is_for_users m.kind) (routed m t account deliver sessions) (refused ServiceUnavailable m.kind)
     (is_routed d m t account deliver sessions names) (is_refused _ d t.account ServiceUnavailable m.kind)
 
-is_to_bare : {A : Type 0} (d : Destination) (m : MessageView) (t : Told) (account : ℕ) (sessions : List (Session A)) → account_of d ≡ Some account → IsPlanned d t.account (to_bare m t account sessions)
+is_to_bare : {A : Type 0} (d : Destination) (m : MessageView) (t : SessionInfo) (account : ℕ) (sessions : List (Session A)) → account_of d ≡ Some account → IsPlanned d t.account (to_bare m t account sessions)
 is_to_bare d m t account sessions names = is_to_user d m t account (ready_of account sessions) sessions names
 
-is_to_full : {A : Type 0} (d : Destination) (m : MessageView) (t : Told) (account : ℕ) (o : Option (Session A)) (sessions : List (Session A)) → account_of d ≡ Some account → IsPlanned d t.account (to_full m t account o sessions)
+is_to_full : {A : Type 0} (d : Destination) (m : MessageView) (t : SessionInfo) (account : ℕ) (o : Option (Session A)) (sessions : List (Session A)) → account_of d ≡ Some account → IsPlanned d t.account (to_full m t account o sessions)
 is_to_full d m t account (Some s) sessions names = is_routed d m t account (s ∷ []) sessions names
 is_to_full d m t account None sessions names =
     planned_either d t.account (is_chat m.kind) (to_bare m t account sessions) (to_user m t account [] sessions)
     (is_to_bare d m t account sessions names) (is_to_user d m t account [] sessions names)
 
-is_planned : {A : Type 0} (d : Destination) (m : MessageView) (t : Told) (sessions : List (Session A)) → IsPlanned d t.account (planned d m t sessions)
+is_planned : {A : Type 0} (d : Destination) (m : MessageView) (t : SessionInfo) (sessions : List (Session A)) → IsPlanned d t.account (planned d m t sessions)
 is_planned RemoteDomain m t sessions = is_refused _ RemoteDomain t.account RemoteServerNotFound m.kind
 is_planned NoUser m t sessions = is_refused _ NoUser t.account ServiceUnavailable m.kind
 is_planned (Bare account) m t sessions = is_to_bare (Bare account) m t account sessions refl
@@ -88,23 +88,23 @@ is_renamed f d sender p (inr there) = inr (there.0, there.1, renamed_archiving f
 
 -- ---- what is sent
 
-quiet_delivery : {A : Type 0} (say : ItemOut → A) (m : MessageView) (accounts : List ℕ) (n : ℕ) (o : Option Told) (h : Hall A) (more : List (Act A)) → marks (delivering_to say m accounts n o h more) ≡ marks more
+quiet_delivery : {A : Type 0} (say : ItemOut → A) (m : MessageView) (accounts : List ℕ) (n : ℕ) (o : Option SessionInfo) (h : ServerState A) (more : List (Act A)) → marks (delivering_to say m accounts n o h more) ≡ marks more
 quiet_delivery say m accounts n None h more = refl
 quiet_delivery say m accounts n (Some t) h more = refl
 
-quiet_delivering : {A : Type 0} (say : ItemOut → A) (m : MessageView) (accounts numbers : List ℕ) (h : Hall A) (more : List (Act A)) → marks (delivering say m accounts numbers h more) ≡ marks more
+quiet_delivering : {A : Type 0} (say : ItemOut → A) (m : MessageView) (accounts numbers : List ℕ) (h : ServerState A) (more : List (Act A)) → marks (delivering say m accounts numbers h more) ≡ marks more
 quiet_delivering say m accounts [] h more = refl
 quiet_delivering say m accounts (n ∷ numbers) h more =
-    quiet_delivery say m accounts n (told_of n h.sessions) h (delivering say m accounts numbers h more) ∙ quiet_delivering say m accounts numbers h more
+    quiet_delivery say m accounts n (info_of n h.sessions) h (delivering say m accounts numbers h more) ∙ quiet_delivering say m accounts numbers h more
 
-quiet_copy : {A : Type 0} (say : ItemOut → A) (sent : Bool) (m : MessageView) (accounts : List ℕ) (n : ℕ) (o : Option Told) (h : Hall A) (more : List (Act A)) → marks (copying_to say sent m accounts n o h more) ≡ marks more
+quiet_copy : {A : Type 0} (say : ItemOut → A) (sent : Bool) (m : MessageView) (accounts : List ℕ) (n : ℕ) (o : Option SessionInfo) (h : ServerState A) (more : List (Act A)) → marks (copying_to say sent m accounts n o h more) ≡ marks more
 quiet_copy say sent m accounts n None h more = refl
 quiet_copy say sent m accounts n (Some t) h more = refl
 
-quiet_copying : {A : Type 0} (say : ItemOut → A) (sent : Bool) (m : MessageView) (accounts numbers : List ℕ) (h : Hall A) (more : List (Act A)) → marks (copying say sent m accounts numbers h more) ≡ marks more
+quiet_copying : {A : Type 0} (say : ItemOut → A) (sent : Bool) (m : MessageView) (accounts numbers : List ℕ) (h : ServerState A) (more : List (Act A)) → marks (copying say sent m accounts numbers h more) ≡ marks more
 quiet_copying say sent m accounts [] h more = refl
 quiet_copying say sent m accounts (n ∷ numbers) h more =
-    quiet_copy say sent m accounts n (told_of n h.sessions) h (copying say sent m accounts numbers h more) ∙ quiet_copying say sent m accounts numbers h more
+    quiet_copy say sent m accounts n (info_of n h.sessions) h (copying say sent m accounts numbers h more) ∙ quiet_copying say sent m accounts numbers h more
 
 -- ---- the row
 
@@ -134,7 +134,7 @@ marks_carried moment sender account m false sent quiet =
     ap (λ (ms : List Mark). Entry sender e ∷ Entry account e ∷ Notice e.from e.to e.origin ∷ ms) quiet
 
 -- the message of a session, as it was taken
-pub record IsTakenOf {A : Type 0} (m : MessageView) (t : Told) (h : Hall A) (taken : Taken) : Type 0 where
+pub record IsTakenOf {A : Type 0} (m : MessageView) (t : SessionInfo) (h : ServerState A) (taken : Taken) : Type 0 where
   pub sender : taken.sender ≡ t.account
   pub addressee : account_of (destination_of h.domain h.accounts t.account m.to) ≡ Some taken.addressee
   pub sender_room : is_full_at (archive_at t.account h) ≡ false
@@ -160,7 +160,7 @@ room_either f s a false same none = (let first = neither (f s) (f a || false) no
 room_both : (f : ℕ → Bool) (s a : ℕ) → list_any f (archives_of (once_or_both s a)) ≡ false → (f s ≡ false) × (f a ≡ false)
 room_both f s a none = room_either f s a (s == a) refl none
 
-carried : {A : Type 0} (say : ItemOut → A) (m : MessageView) (t : Told) (r : RouteOf ℕ) (h : Hall A)
+carried : {A : Type 0} (say : ItemOut → A) (m : MessageView) (t : SessionInfo) (r : RouteOf ℕ) (h : ServerState A)
     → IsPlanned (destination_of h.domain h.accounts t.account m.to) t.account (Routed r)
     → is_full_in (archives_of r.archiving) h ≡ false → Marks (IsTakenOf m t h) (carrying say (addressed (session_address t.number h) (unwrap_or m.to (bare_address t.account h)) m) (archives_of r.archiving) r h)
 carried say m t r h is room =
@@ -171,7 +171,7 @@ carried say m t r h is room =
     let sent = delivering say full accounts r.deliver h copies in
     let quiet : marks sent ≡ [] = quiet_delivering say full accounts r.deliver h copies ∙ quiet_copying say true full accounts r.sent h received ∙ quiet_copying say false full accounts r.received h [] in
     let rooms : (account : ℕ) → r.archiving ≡ once_or_both t.account account → (is_full_at (archive_at t.account h) ≡ false) × (is_full_at (archive_at account h) ≡ false) =
-    λ account planned_so. room_both (λ place. is_full_at (archive_at place h)) t.account account (subst (λ (x : Archiving). is_full_in (archives_of x) h ≡ false) planned_so room) in
+    λ account planned_so. room_both (λ position. is_full_at (archive_at position h)) t.account account (subst (λ (x : Archiving). is_full_in (archives_of x) h ≡ false) planned_so room) in
     elim is [
       | inl nowhere ↦ (None, marks_once h.moment full r.archiving sent quiet nowhere, tt)
       | inr there ↦ (
@@ -182,7 +182,7 @@ carried say m t r h is room =
       )
     ]
 
-message_marks : {A : Type 0} (say : ItemOut → A) (m : MessageView) (t : Told) (p : PlanOf ℕ) (h : Hall A)
+message_marks : {A : Type 0} (say : ItemOut → A) (m : MessageView) (t : SessionInfo) (p : PlanOf ℕ) (h : ServerState A)
     → IsPlanned (destination_of h.domain h.accounts t.account m.to) t.account p → Marks (IsTakenOf m t h) (messaging say m (unwrap_or m.to (bare_address t.account h)) t p h)
 message_marks say m t (Bounced e) h is = (None, refl, tt)
 message_marks say m t (Routed r) h is = unless_full (is_full_in (archives_of r.archiving) h) refl
@@ -191,7 +191,7 @@ message_marks say m t (Routed r) h is = unless_full (is_full_in (archives_of r.a
     unless_full true is_full = (None, refl, tt)
     unless_full false room = carried say m t r h is room
 
-pub at_message_marks : {A : Type 0} (say : ItemOut → A) (m : MessageView) (t : Told) (h : Hall A) → Marks (IsTakenOf m t h) (at_message say m t h)
+pub at_message_marks : {A : Type 0} (say : ItemOut → A) (m : MessageView) (t : SessionInfo) (h : ServerState A) → Marks (IsTakenOf m t h) (at_message say m t h)
 at_message_marks say m t h =
     let d = destination_of h.domain h.accounts t.account m.to in
     message_marks say m t (plan_renamed number_of (plan_of h.domain h.accounts h.sessions m t)) h

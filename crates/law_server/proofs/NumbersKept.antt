@@ -7,11 +7,11 @@ use Rattle.std.specs.Option.{option_map}
 use Rattle.sm_acks.specs.declared.end.TheConstants.{MOST_UNACKNOWLEDGED}
 use Rattle.mam_archive.specs.Entries.{EntryView}
 use Rattle.srv_state.specs.Moments.{at_moment, gone_at}
-use Rattle.srv_state.specs.State.{Hall, Kept, Step, address_shown, archive_at, full_address, session_address, shown_of}
+use Rattle.srv_state.specs.State.{Kept, ServerState, Step, address_shown, archive_at, full_address, session_address, shown_of}
 use Rattle.srv_state.specs.Steps as steps
-use Rattle.srv_state.specs.Steps.{Act, act, acted, archived_in, ask_where, in_hall, in_sessions, is_due, overflow, part, part_where, put, put_where, queue, send_told, shut}
-use Rattle.sm_live.specs.Sessions.{Session, acknowledged, after_resume, asks, copies, enables, fresh, handles, is_at, is_expired, is_too_high, less, lost, parked, presents, resumes, session_at, session_named, session_of, session_resumed, told_of, waits, with_session, without}
-use Rattle.sm_live.specs.declared.told.Told.{Told}
+use Rattle.srv_state.specs.Steps.{Act, act, acted, archived_in, ask_where, in_server_state, in_sessions, is_due, overflow, part, part_where, put, put_where, queue, send_by_info, shut}
+use Rattle.sm_live.specs.Sessions.{Session, acknowledged, after_resume, asks, copies, enables, fresh, handles, info_of, is_at, is_expired, is_too_high, less, lost, parked, presents, resumes, session_at, session_named, session_of, session_resumed, waits, with_session, without}
+use Rattle.sm_live.specs.declared.told.SessionInfo.{SessionInfo}
 use Rattle.im_replies.specs.Streams.{error_item}
 use Rattle.im_replies.specs.declared.conditions.StreamCondition.TheVariants.{ResourceConstraint}
 use Rattle.law_server.specs.Numbers.{HaveNumbers, Rise}
@@ -71,75 +71,75 @@ rise_lost now (Some s) from next ss rise =
 
 -- ---- events
 
-pub numbers_at_moment : {A : Type 0} (now : ℕ) (h : Hall A) → HaveNumbers h → HaveNumbers (at_moment now h)
+pub numbers_at_moment : {A : Type 0} (now : ℕ) (h : ServerState A) → HaveNumbers h → HaveNumbers (at_moment now h)
 numbers_at_moment now h have = rise_some (λ s. not (is_expired _ s)) 1 h.next h.sessions have
 
-pub numbers_gone : {A : Type 0} (k : ℕ) (h : Hall A) → HaveNumbers h → HaveNumbers (gone_at k h)
+pub numbers_gone : {A : Type 0} (k : ℕ) (h : ServerState A) → HaveNumbers h → HaveNumbers (gone_at k h)
 numbers_gone k h have = rise_lost h.moment (session_at k h.sessions) 1 h.next h.sessions have
 
 -- ---- acts
 
-numbers_changed : {A : Type 0} (n : ℕ) (f : Session A → Session A) (s : Step A) → ((t : Session A) → (f t).shown.number ≡ t.shown.number) → HaveNumbers s.hall → HaveNumbers (in_sessions (with_session n f) s).hall
-numbers_changed n f s same have = rise_changed n f same 1 s.hall.next s.hall.sessions have
+numbers_changed : {A : Type 0} (n : ℕ) (f : Session A → Session A) (s : Step A) → ((t : Session A) → (f t).shown.number ≡ t.shown.number) → HaveNumbers s.server_state → HaveNumbers (in_sessions (with_session n f) s).server_state
+numbers_changed n f s same have = rise_changed n f same 1 s.server_state.next s.server_state.sessions have
 
-numbers_shut : {A : Type 0} (k : ℕ) (s : Step A) → HaveNumbers s.hall → HaveNumbers (shut k s).hall
-numbers_shut k s have = rise_some (λ t. not (is_at k t)) 1 s.hall.next s.hall.sessions have
+numbers_shut : {A : Type 0} (k : ℕ) (s : Step A) → HaveNumbers s.server_state → HaveNumbers (shut k s).server_state
+numbers_shut k s have = rise_some (λ t. not (is_at k t)) 1 s.server_state.next s.server_state.sessions have
 
-numbers_put : {A : Type 0} (o : Option ℕ) (a : A) (s : Step A) → HaveNumbers s.hall → HaveNumbers (put_where o a s).hall
+numbers_put : {A : Type 0} (o : Option ℕ) (a : A) (s : Step A) → HaveNumbers s.server_state → HaveNumbers (put_where o a s).server_state
 numbers_put None a s have = have
 numbers_put (Some k) a s have = have
 
-numbers_part : {A : Type 0} (say : ItemOut → A) (o : Option ℕ) (error : A) (s : Step A) → HaveNumbers s.hall → HaveNumbers (part_where say o error s).hall
+numbers_part : {A : Type 0} (say : ItemOut → A) (o : Option ℕ) (error : A) (s : Step A) → HaveNumbers s.server_state → HaveNumbers (part_where say o error s).server_state
 numbers_part say None error s have = have
 numbers_part say (Some k) error s have = numbers_shut k (put k (say Closing) (put k error s)) have
 
-numbers_ask : {A : Type 0} (say : ItemOut → A) (n : ℕ) (o : Option ℕ) (due : Bool) (s : Step A) → HaveNumbers s.hall → HaveNumbers (ask_where say n o due s).hall
+numbers_ask : {A : Type 0} (say : ItemOut → A) (n : ℕ) (o : Option ℕ) (due : Bool) (s : Step A) → HaveNumbers s.server_state → HaveNumbers (ask_where say n o due s).server_state
 numbers_ask say n o false s have = have
 numbers_ask say n None true s have = have
 numbers_ask say n (Some k) true s have = numbers_changed n (asks true) s (λ t. refl) have
 
-numbers_queue : {A : Type 0} (say : ItemOut → A) (n : ℕ) (a : A) (t : Told) (s : Step A) → HaveNumbers s.hall → HaveNumbers (queue say n a t s).hall
+numbers_queue : {A : Type 0} (say : ItemOut → A) (n : ℕ) (a : A) (t : SessionInfo) (s : Step A) → HaveNumbers s.server_state → HaveNumbers (queue say n a t s).server_state
 numbers_queue say n a t s have =
     let u = in_sessions (with_session n (waits a)) s in
     numbers_ask say n t.conn (is_due t) (put_where t.conn a u) (numbers_put t.conn a u (numbers_changed n (waits a) s (λ x. refl) have))
 
-numbers_overflow : {A : Type 0} (say : ItemOut → A) (n : ℕ) (t : Told) (s : Step A) → HaveNumbers s.hall → HaveNumbers (overflow say n t s).hall
+numbers_overflow : {A : Type 0} (say : ItemOut → A) (n : ℕ) (t : SessionInfo) (s : Step A) → HaveNumbers s.server_state → HaveNumbers (overflow say n t s).server_state
 numbers_overflow say n t s have =
-    numbers_part say t.conn (say (error_item ResourceConstraint)) (in_sessions (without n) s) (rise_some (λ x. not (x.shown.number == n)) 1 s.hall.next s.hall.sessions have)
+    numbers_part say t.conn (say (error_item ResourceConstraint)) (in_sessions (without n) s) (rise_some (λ x. not (x.shown.number == n)) 1 s.server_state.next s.server_state.sessions have)
 
-numbers_either : {A : Type 0} (b : Bool) (s t : Step A) → HaveNumbers s.hall → HaveNumbers t.hall → HaveNumbers (cond b s t).hall
+numbers_either : {A : Type 0} (b : Bool) (s t : Step A) → HaveNumbers s.server_state → HaveNumbers t.server_state → HaveNumbers (cond b s t).server_state
 numbers_either true s t a b = a
 numbers_either false s t a b = b
 
-numbers_sent : {A : Type 0} (say : ItemOut → A) (n : ℕ) (a : A) (o : Option Told) (s : Step A) → HaveNumbers s.hall → HaveNumbers (send_told say n a o s).hall
+numbers_sent : {A : Type 0} (say : ItemOut → A) (n : ℕ) (a : A) (o : Option SessionInfo) (s : Step A) → HaveNumbers s.server_state → HaveNumbers (send_by_info say n a o s).server_state
 numbers_sent say n a None s have = have
 numbers_sent say n a (Some t) s have =
     numbers_either (not t.counted) _ _ (numbers_put t.conn a s have)
     (numbers_either (t.waiting == MOST_UNACKNOWLEDGED) _ _ (numbers_overflow say n t s have) (numbers_queue say n a t s have))
 
-numbers_archived : {A : Type 0} (e : EntryView) (account : ℕ) (o : Option Kept) (h : Hall A) → HaveNumbers h → HaveNumbers (archived_in e account o h)
+numbers_archived : {A : Type 0} (e : EntryView) (account : ℕ) (o : Option Kept) (h : ServerState A) → HaveNumbers h → HaveNumbers (archived_in e account o h)
 numbers_archived e account None h have = have
 numbers_archived e account (Some kept) h have = have
 
-numbers_act : {A : Type 0} (say : ItemOut → A) (a : Act A) (s : Step A) → HaveNumbers s.hall → HaveNumbers (act say a s).hall
+numbers_act : {A : Type 0} (say : ItemOut → A) (a : Act A) (s : Step A) → HaveNumbers s.server_state → HaveNumbers (act say a s).server_state
 numbers_act say (steps.Say k a) s have = have
 numbers_act say (steps.Close k) s have = numbers_shut k s have
 numbers_act say (steps.Enter k phase) s have = have
 numbers_act say (steps.Fail k left) s have = have
 numbers_act say (steps.Bind account resource k) s have =
-    rise_more 1 s.hall.next account resource k _ (rise_less (session_named account resource s.hall.sessions) 1 s.hall.next s.hall.sessions have)
-numbers_act say (steps.Resume previd account h k) s have = rise_resumed h k (session_resumed previd account s.hall.sessions) 1 s.hall.next s.hall.sessions have
+    rise_more 1 s.server_state.next account resource k _ (rise_less (session_named account resource s.server_state.sessions) 1 s.server_state.next s.server_state.sessions have)
+numbers_act say (steps.Resume previd account h k) s have = rise_resumed h k (session_resumed previd account s.server_state.sessions) 1 s.server_state.next s.server_state.sessions have
 numbers_act say (steps.Enable n resume) s have = numbers_changed n (enables resume) s (λ t. refl) have
 numbers_act say (steps.Acknowledge n h) s have = numbers_changed n (acknowledged h) s (λ t. refl) have
 numbers_act say (steps.Ask n on) s have = numbers_changed n (asks on) s (λ t. refl) have
 numbers_act say (steps.Handle n) s have = numbers_changed n handles s (λ t. refl) have
 numbers_act say (steps.Present n available priority) s have = numbers_changed n (presents available priority) s (λ t. refl) have
 numbers_act say (steps.Copy n on) s have = numbers_changed n (copies on) s (λ t. refl) have
-numbers_act say (steps.Send n a) s have = numbers_sent say n a (told_of n s.hall.sessions) s have
-numbers_act say (steps.Archive account e) s have = numbers_archived e account (archive_at account s.hall) s.hall have
+numbers_act say (steps.Send n a) s have = numbers_sent say n a (info_of n s.server_state.sessions) s have
+numbers_act say (steps.Archive account e) s have = numbers_archived e account (archive_at account s.server_state) s.server_state have
 numbers_act say (steps.Tell from to origin) s have = have
 
-pub numbers_acted : {A : Type 0} (say : ItemOut → A) (acts : List (Act A)) (s : Step A) → HaveNumbers s.hall → HaveNumbers (acted say acts s).hall
+pub numbers_acted : {A : Type 0} (say : ItemOut → A) (acts : List (Act A)) (s : Step A) → HaveNumbers s.server_state → HaveNumbers (acted say acts s).server_state
 numbers_acted say [] s have = have
 numbers_acted say (a ∷ acts) s have = numbers_acted say acts (act say a s) (numbers_act say a s have)
 
@@ -172,5 +172,5 @@ found_by_number {A = A} p from next (s ∷ ss) t rise found =
     ]
 
 -- and so its address is one of its account
-pub address_is : {A : Type 0} (k : ℕ) (h : Hall A) (t : Session A) → HaveNumbers h → session_at k h.sessions ≡ Some t → session_address t.shown.number h ≡ full_address t.shown.account t.shown.resource h
+pub address_is : {A : Type 0} (k : ℕ) (h : ServerState A) (t : Session A) → HaveNumbers h → session_at k h.sessions ≡ Some t → session_address t.shown.number h ≡ full_address t.shown.account t.shown.resource h
 address_is k h t have found = ap (λ o. address_shown (option_map shown_of o) h) (found_by_number (is_at k) 1 h.next h.sessions t have found)

@@ -69,9 +69,9 @@ passed_texts by number m =
     ∙ kept_texts by m.payload
 
 -- the elements
-behind_text : (run : List ℕ) (more : Nodes) → elements_of (joined (text_node run) more) ≡ elements_of more
-behind_text [] more = refl
-behind_text (c ∷ cs) more = refl
+after_text : (run : List ℕ) (more : Nodes) → elements_of (joined (text_node run) more) ≡ elements_of more
+after_text [] more = refl
+after_text (c ∷ cs) more = refl
 
 no_elements : (run : List ℕ) → elements_of (text_node run) ≡ []
 no_elements [] = refl
@@ -79,7 +79,7 @@ no_elements (c ∷ cs) = refl
 
 elements_left : (run : List ℕ) (ks : Nodes) → elements_of (texts_joined run ks) ≡ elements_of ks
 elements_left run no_nodes = no_elements run
-elements_left run (child e rest) = behind_text run (child e (texts_joined [] rest)) ∙ ap (λ (es : List Elem). e ∷ es) (elements_left [] rest)
+elements_left run (child e rest) = after_text run (child e (texts_joined [] rest)) ∙ ap (λ (es : List Elem). e ∷ es) (elements_left [] rest)
 elements_left run (text t rest) = elements_left (run ++ t) rest
 
 elements_by : (given : Bool) (e : Elem) (kept : Nodes) (es : List Elem) → elements_of kept ≡ es → elements_of (cond given kept (child e kept)) ≡ cond (not given) (e ∷ es) es

@@ -27,20 +27,20 @@ is_none (Some x) is = absurd (false≢true (sym is))
 
 -- a connection that isn't open
 
-nothing_more : {A : Type 0} (say : ItemOut → A) (k : ℕ) (items : List Item) (s : Step A) → conn_at k s.hall ≡ None → after_items say k items s ≡ s
+nothing_more : {A : Type 0} (say : ItemOut → A) (k : ℕ) (items : List Item) (s : Step A) → conn_at k s.server_state ≡ None → after_items say k items s ≡ s
 nothing_more say k [] s none = refl
 nothing_more say k (i ∷ items) s none = ap (after_items say k items) (shut_stays say k i s none) ∙ nothing_more say k items s none
 
-no_fault : {A : Type 0} (say : ItemOut → A) (k : ℕ) (o : Option Fault) (s : Step A) → conn_at k s.hall ≡ None → after_fault say k o s ≡ s
+no_fault : {A : Type 0} (say : ItemOut → A) (k : ℕ) (o : Option Fault) (s : Step A) → conn_at k s.server_state ≡ None → after_fault say k o s ≡ s
 no_fault say k None s none = refl
-no_fault say k (Some e) s none = ap (λ (c : Option Connection). acted say (at_fault say k e (option_map standing_of c) s.hall) s) none
+no_fault say k (Some e) s none = ap (λ (c : Option Connection). acted say (at_fault say k e (option_map standing_of c) s.server_state) s) none
 
 second : {A : Type 0} (say : ItemOut → A) (k : ℕ) (b : List ℕ) (f : State) (s : Step A) → after_turn say k (turn_of b f) s ≡ at_piece say k b (left_open k f s) s
 second say k b f s =
     elim (cases_Bool (is_open k s)) [
       | inl still ↦ rw still refl
       | inr shut ↦
-          let none = is_none (conn_at k s.hall) shut in
+          let none = is_none (conn_at k s.server_state) shut in
           rw shut (ap (after_fault say k (turn_of b f).state.fault) (nothing_more say k (turn_of b f).items s none) ∙ no_fault say k (turn_of b f).state.fault s none)
     ]
 

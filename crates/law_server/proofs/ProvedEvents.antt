@@ -17,7 +17,7 @@ use Rattle.srv_core.specs.Events.{after_bytes, at_piece, begun, framer_at, turn_
 use Rattle.srv_core.specs.Table.{after_item, after_items}
 use Rattle.srv_login.specs.declared.account.Account.{Account}
 use Rattle.srv_state.specs.Moments.{at_moment, fresh_conn, gone_at}
-use Rattle.srv_state.specs.State.{Hall, Step, conn_at, is_number}
+use Rattle.srv_state.specs.State.{ServerState, Step, conn_at, is_number}
 use Rattle.srv_state.specs.declared.connection.Connection.{Connection}
 use Rattle.srv_state.specs.declared.connection.Phase.TheVariants as phase
 use Rattle.xml_framer.specs.States as framing
@@ -35,9 +35,9 @@ record IsShown {A : Type 0} (C : ℕ → List ℕ → Type 0) (accounts : List A
   i : Item
   rest : List Item
   are : items ≡ front ++ i ∷ rest
-  proof : IsProof accounts entropy k account i (after_items say k front s).hall
+  proof : IsProof accounts entropy k account i (after_items say k front s).server_state
 
-shown_now : {A : Type 0} (C : ℕ → List ℕ → Type 0) (accounts : List Account) (say : ItemOut → A) (k : ℕ) (i : Item) (items : List Item) (s : Step A) (account : ℕ) → Proves C accounts k i s.hall account → IsShown C accounts say k (i ∷ items) s account
+shown_now : {A : Type 0} (C : ℕ → List ℕ → Type 0) (accounts : List Account) (say : ItemOut → A) (k : ℕ) (i : Item) (items : List Item) (s : Step A) (account : ℕ) → Proves C accounts k i s.server_state account → IsShown C accounts say k (i ∷ items) s account
 shown_now C accounts say k i items s account proves = record { entropy = proves.0; drawn = proves.1; front = []; i = i; rest = items; are = refl; proof = proves.2 }
 
 shown_later : {A : Type 0} (C : ℕ → List ℕ → Type 0) (accounts : List Account) (say : ItemOut → A) (k : ℕ) (i : Item) (items : List Item) (s : Step A) (account : ℕ) → IsShown C accounts say k items (after_item say k i s) account → IsShown C accounts say k (i ∷ items) s account
@@ -57,24 +57,24 @@ shown_more C accounts say k items more s account shown =
     }
 
 -- it was proved before, or is by this item
-abbrev NowOr : {A : Type 0} → (ℕ → ℕ → Type 0) → (ℕ → List ℕ → Type 0) → List Account → ℕ → Item → Hall A → ℕ → ℕ → Type 0
+abbrev NowOr : {A : Type 0} → (ℕ → ℕ → Type 0) → (ℕ → List ℕ → Type 0) → List Account → ℕ → Item → ServerState A → ℕ → ℕ → Type 0
 NowOr P C accounts k i h j account = P j account ⊎ ((j ≡ k) × Proves C accounts k i h account)
 
 module _ {A : Type 0} (C : ℕ → List ℕ → Type 0) (accounts : List Account) (say : ItemOut → A) (k : ℕ) where
-  more_proved : (P R : ℕ → ℕ → Type 0) → ((j account : ℕ) → P j account → R j account) → (h : Hall A) → Stands C P accounts h → Stands C R accounts h
+  more_proved : (P R : ℕ → ℕ → Type 0) → ((j account : ℕ) → P j account → R j account) → (h : ServerState A) → Stands C P accounts h → Stands C R accounts h
   more_proved P R f h stands =
       stands_more C C P R accounts h stands.drawn
       (logins_more C C P R accounts (λ j. Unit {0}) (λ j entropy any is. is) (λ j account any is. f j account is) h.conns (any_of h.conns) stands.logins) stands
 
   stands_items : (items : List Item) (s : Step A) (P R : ℕ → ℕ → Type 0) → ((j account : ℕ) → P j account → R j account) → ((account : ℕ) → IsShown C accounts say k items s account → R k account)
-      → IsSound s.hall → s.hall.accounts ≡ accounts → Stands C P accounts s.hall → Stands C R accounts (after_items say k items s).hall
-  stands_items [] s P R f shown sound same stands = more_proved P R f s.hall stands
+      → IsSound s.server_state → s.server_state.accounts ≡ accounts → Stands C P accounts s.server_state → Stands C R accounts (after_items say k items s).server_state
+  stands_items [] s P R f shown sound same stands = more_proved P R f s.server_state stands
   stands_items (i ∷ items) s P R f shown sound same stands =
       let takes = (item_takes say k i s).1 in
-      stands_items items (after_item say k i s) (NowOr P C accounts k i s.hall) R either (λ account later. shown account (shown_later C accounts say k i items s account later)) (takes.sound sound) (takes.accounts ∙ same)
-      (stands_item C (NowOr P C accounts k i s.hall) accounts say k i s sound.numbers same (λ account proves. inr (refl, proves)) (more_proved P (NowOr P C accounts k i s.hall) (λ j account is. inl is) s.hall stands))
+      stands_items items (after_item say k i s) (NowOr P C accounts k i s.server_state) R either (λ account later. shown account (shown_later C accounts say k i items s account later)) (takes.sound sound) (takes.accounts ∙ same)
+      (stands_item C (NowOr P C accounts k i s.server_state) accounts say k i s sound.numbers same (λ account proves. inr (refl, proves)) (more_proved P (NowOr P C accounts k i s.server_state) (λ j account is. inl is) s.server_state stands))
     where
-      either : (j account : ℕ) → NowOr P C accounts k i s.hall j account → R j account
+      either : (j account : ℕ) → NowOr P C accounts k i s.server_state j account → R j account
       either j account (inl was) = f j account was
       either j account (inr is) = subst (λ (x : ℕ). R x account) (sym is.0) (shown account (shown_now C accounts say k i items s account is.1))
 
@@ -104,9 +104,9 @@ came_more events k entropy e other came = record {
 -- what is so behind these events
 record Follows {A : Type 0} (say : ItemOut → A) (accounts : List Account) (start : Run A) (events : List Event) (r : Run A) : Type 0 where
   is : r ≡ after_events say events start
-  sound : IsSound r.server.hall
-  same : r.server.hall.accounts ≡ accounts
-  stands : Stands (Came events) (HasProved say accounts start events) accounts r.server.hall
+  sound : IsSound r.server.server_state
+  same : r.server.server_state.accounts ≡ accounts
+  stands : Stands (Came events) (HasProved say accounts start events) accounts r.server.server_state
 
 module _ {A : Type 0} (say : ItemOut → A) (accounts : List Account) (start : Run A) where
   proved_more : (events : List Event) (k account : ℕ) (e : Event) → comes k e ≡ false → HasProved say accounts start events k account → HasProved say accounts start (events ++ e ∷ []) k account
@@ -131,7 +131,7 @@ module _ {A : Type 0} (say : ItemOut → A) (accounts : List Account) (start : R
       }
 
   proved_now : (events : List Event) (r : Run A) (k account : ℕ) (piece : List ℕ) (now : ℕ) (e : Event) → r ≡ after_events say events start → IsBringing k piece now e → comes k e ≡ false
-      → (f : framing.State) → framer_at k r.server.framers ≡ Some f → IsShown (Came events) accounts say k (turn_of piece f).items (begun now r.server.hall r.outs) account → HasProved say accounts start (events ++ e ∷ []) k account
+      → (f : framing.State) → framer_at k r.server.framers ≡ Some f → IsShown (Came events) accounts say k (turn_of piece f).items (begun now r.server.server_state r.outs) account → HasProved say accounts start (events ++ e ∷ []) k account
   proved_now events r k account piece now e is brings other f framed shown =
       let came = shown.drawn in
       let there : r ≡ after_events say (came.before ++ Connect k shown.entropy came.moment ∷ came.since) start = is ∙ ap (λ (es : List Event). after_events say es start) came.are in
@@ -159,7 +159,7 @@ module _ {A : Type 0} (say : ItemOut → A) (accounts : List Account) (start : R
   led events r e is = ap (after_event say e) is ∙ sym (events_join events (e ∷ []) start)
 
   -- an event after which no connection came
-  stands_on : (events : List Event) (e : Event) → ((k : ℕ) → comes k e ≡ false) → (R : ℕ → ℕ → Type 0) → ((j account : ℕ) → R j account → HasProved say accounts start (events ++ e ∷ []) j account) → (h : Hall A)
+  stands_on : (events : List Event) (e : Event) → ((k : ℕ) → comes k e ≡ false) → (R : ℕ → ℕ → Type 0) → ((j account : ℕ) → R j account → HasProved say accounts start (events ++ e ∷ []) j account) → (h : ServerState A)
       → Stands (Came events) R accounts h → Stands (Came (events ++ e ∷ [])) (HasProved say accounts start (events ++ e ∷ [])) accounts h
   stands_on events e other R f h stands =
       let more = λ (j : ℕ) (entropy : List ℕ) (any : Unit {0}) (came : Came events j entropy). came_more events j entropy e (other j) came in
@@ -167,7 +167,7 @@ module _ {A : Type 0} (say : ItemOut → A) (accounts : List Account) (start : R
       (drawn_more (Came events) (Came (events ++ e ∷ [])) (λ j. Unit {0}) more h.conns (any_of h.conns) stands.drawn)
       (logins_more (Came events) (Came (events ++ e ∷ [])) R (HasProved say accounts start (events ++ e ∷ [])) accounts (λ j. Unit {0}) more (λ j account any is. f j account is) h.conns (any_of h.conns) stands.logins) stands
 
-  stands_moment : (C : ℕ → List ℕ → Type 0) (P : ℕ → ℕ → Type 0) (now : ℕ) (h : Hall A) → Stands C P accounts h → Stands C P accounts (at_moment now h)
+  stands_moment : (C : ℕ → List ℕ → Type 0) (P : ℕ → ℕ → Type 0) (now : ℕ) (h : ServerState A) → Stands C P accounts h → Stands C P accounts (at_moment now h)
   stands_moment C P now h stands = holds_some C P accounts ⊥ 0 (λ s. not (is_expired (max h.moment now) s)) h.sessions h.conns stands
 
   -- ---- a connection comes
@@ -179,60 +179,60 @@ module _ {A : Type 0} (say : ItemOut → A) (accounts : List Account) (start : R
         | inr other ↦ other
       ]
 
-  follows_comes : (events : List Event) (r : Run A) (k : ℕ) (entropy : List ℕ) (now : ℕ) → conn_at k r.server.hall ≡ None → Follows say accounts start events r → Follows say accounts start (events ++ Connect k entropy now ∷ []) (after_event say (Connect k entropy now) r)
+  follows_comes : (events : List Event) (r : Run A) (k : ℕ) (entropy : List ℕ) (now : ℕ) → conn_at k r.server.server_state ≡ None → Follows say accounts start events r → Follows say accounts start (events ++ Connect k entropy now ∷ []) (after_event say (Connect k entropy now) r)
   follows_comes events r k entropy now none follows =
       let e = Connect k entropy now in
-      let h = at_moment now r.server.hall in
-      let moved = stands_moment (Came events) (HasProved say accounts start events) now r.server.hall follows.stands in
-      let those = none_there k r.server.hall.conns none in
+      let h = at_moment now r.server.server_state in
+      let moved = stands_moment (Came events) (HasProved say accounts start events) now r.server.server_state follows.stands in
+      let those = none_there k r.server.server_state.conns none in
       let more = λ (j : ℕ) (drawn : List ℕ) (other : is_number k j ≡ false) (came : Came events j drawn). came_more events j drawn e (came_apart j k other) came in
       let proved = λ (j account : ℕ) (other : is_number k j ≡ false) (is : HasProved say accounts start events j account). proved_more events j account e (came_apart j k other) is in
       let wider =
       stands_more (Came events) (Came (events ++ e ∷ [])) (HasProved say accounts start events) (HasProved say accounts start (events ++ e ∷ [])) accounts h
-      (drawn_more (Came events) (Came (events ++ e ∷ [])) (λ j. is_number k j ≡ false) more r.server.hall.conns those moved.drawn)
-      (logins_more (Came events) (Came (events ++ e ∷ [])) (HasProved say accounts start events) (HasProved say accounts start (events ++ e ∷ [])) accounts (λ j. is_number k j ≡ false) more proved r.server.hall.conns those moved.logins) moved in
+      (drawn_more (Came events) (Came (events ++ e ∷ [])) (λ j. is_number k j ≡ false) more r.server.server_state.conns those moved.drawn)
+      (logins_more (Came events) (Came (events ++ e ∷ [])) (HasProved say accounts start events) (HasProved say accounts start (events ++ e ∷ [])) accounts (λ j. is_number k j ≡ false) more proved r.server.server_state.conns those moved.logins) moved in
       record {
         is = led events r e follows.is;
         sound = sound_connect k entropy now r.server follows.sound;
         same = follows.same;
-        stands = holds_fresh (Came (events ++ e ∷ [])) (HasProved say accounts start (events ++ e ∷ [])) accounts ⊥ 0 k (fresh_conn entropy) h.sessions r.server.hall.conns none
+        stands = holds_fresh (Came (events ++ e ∷ [])) (HasProved say accounts start (events ++ e ∷ [])) accounts ⊥ 0 k (fresh_conn entropy) h.sessions r.server.server_state.conns none
             (record { before = events; moment = now; since = []; are = refl; last = tt }) tt wider;
       }
 
   -- ---- bytes come
 
   module _ (events : List Event) (r : Run A) (follows : Follows say accounts start events r) (k : ℕ) (piece : List ℕ) (now : ℕ) (e : Event) (brings : IsBringing k piece now e) (other : (j : ℕ) → comes j e ≡ false) where
-    began : Stands (Came events) (HasProved say accounts start events) accounts (begun now r.server.hall r.outs).hall
-    began = stands_moment (Came events) (HasProved say accounts start events) now r.server.hall follows.stands
+    began : Stands (Came events) (HasProved say accounts start events) accounts (begun now r.server.server_state r.outs).server_state
+    began = stands_moment (Came events) (HasProved say accounts start events) now r.server.server_state follows.stands
 
     still_proved : (j account : ℕ) → HasProved say accounts start events j account → HasProved say accounts start (events ++ e ∷ []) j account
     still_proved j account proved = proved_more events j account e (other j) proved
 
     -- some first items of what the bytes give
     stands_front : (f : framing.State) → framer_at k r.server.framers ≡ Some f → (items more : List Item) → items ++ more ≡ (turn_of piece f).items
-        → Stands (Came events) (HasProved say accounts start (events ++ e ∷ [])) accounts (after_items say k items (begun now r.server.hall r.outs)).hall
+        → Stands (Came events) (HasProved say accounts start (events ++ e ∷ [])) accounts (after_items say k items (begun now r.server.server_state r.outs)).server_state
     stands_front f framed items more are =
-        stands_items (Came events) accounts say k items (begun now r.server.hall r.outs) (HasProved say accounts start events) (HasProved say accounts start (events ++ e ∷ [])) still_proved
+        stands_items (Came events) accounts say k items (begun now r.server.server_state r.outs) (HasProved say accounts start events) (HasProved say accounts start (events ++ e ∷ [])) still_proved
         (λ account shown. proved_now events r k account piece now e follows.is brings (other k) f framed
-        (subst (λ (all : List Item). IsShown (Came events) accounts say k all (begun now r.server.hall r.outs) account) are (shown_more (Came events) accounts say k items more (begun now r.server.hall r.outs) account shown)))
-        (sound_at_moment now r.server.hall follows.sound) follows.same began
+        (subst (λ (all : List Item). IsShown (Came events) accounts say k all (begun now r.server.server_state r.outs) account) are (shown_more (Came events) accounts say k items more (begun now r.server.server_state r.outs) account shown)))
+        (sound_at_moment now r.server.server_state follows.sound) follows.same began
 
-    stands_piece : (o : Option framing.State) → framer_at k r.server.framers ≡ o → Stands (Came events) (HasProved say accounts start (events ++ e ∷ [])) accounts (at_piece say k piece o (begun now r.server.hall r.outs)).hall
-    stands_piece None framed = more_proved (Came events) accounts say k (HasProved say accounts start events) (HasProved say accounts start (events ++ e ∷ [])) still_proved (begun now r.server.hall r.outs).hall began
+    stands_piece : (o : Option framing.State) → framer_at k r.server.framers ≡ o → Stands (Came events) (HasProved say accounts start (events ++ e ∷ [])) accounts (at_piece say k piece o (begun now r.server.server_state r.outs)).server_state
+    stands_piece None framed = more_proved (Came events) accounts say k (HasProved say accounts start events) (HasProved say accounts start (events ++ e ∷ [])) still_proved (begun now r.server.server_state r.outs).server_state began
     stands_piece (Some f) framed =
         let t = turn_of piece f in
-        let takes = (items_take say k t.items (begun now r.server.hall r.outs)).1 in
-        stands_fault (Came events) (HasProved say accounts start (events ++ e ∷ [])) accounts say k t.state.fault (after_items say k t.items (begun now r.server.hall r.outs))
-        ((takes.sound (sound_at_moment now r.server.hall follows.sound)).numbers) (takes.accounts ∙ follows.same) (stands_front f framed t.items [] (append-nil t.items))
+        let takes = (items_take say k t.items (begun now r.server.server_state r.outs)).1 in
+        stands_fault (Came events) (HasProved say accounts start (events ++ e ∷ [])) accounts say k t.state.fault (after_items say k t.items (begun now r.server.server_state r.outs))
+        ((takes.sound (sound_at_moment now r.server.server_state follows.sound)).numbers) (takes.accounts ∙ follows.same) (stands_front f framed t.items [] (append-nil t.items))
 
     follows_brings : e ≡ Bytes k piece now → Follows say accounts start (events ++ e ∷ []) (after_event say (Bytes k piece now) r)
     follows_brings is_so =
         let takes = (bytes_take say k piece now r.server r.outs).1 in
         record {
           is = ap (λ (x : Event). after_event say x r) (sym is_so) ∙ led events r e follows.is;
-          sound = takes.sound (sound_at_moment now r.server.hall follows.sound);
+          sound = takes.sound (sound_at_moment now r.server.server_state follows.sound);
           same = takes.accounts ∙ follows.same;
-          stands = stands_on events e other (HasProved say accounts start (events ++ e ∷ [])) (λ j account is. is) (after_bytes say k piece now r.server r.outs).hall (stands_piece (framer_at k r.server.framers) refl);
+          stands = stands_on events e other (HasProved say accounts start (events ++ e ∷ [])) (λ j account is. is) (after_bytes say k piece now r.server r.outs).server_state (stands_piece (framer_at k r.server.framers) refl);
         }
 
     stop_follows : (count : ℕ) (o : Option framing.State) → framer_at k r.server.framers ≡ o → after_event say e r ≡ stopped_in say k piece count now o r → Follows say accounts start (events ++ e ∷ []) (stopped_in say k piece count now o r)
@@ -240,18 +240,18 @@ module _ {A : Type 0} (say : ItemOut → A) (accounts : List Account) (start : R
       is = sym is_so ∙ led events r e follows.is;
       sound = follows.sound;
       same = follows.same;
-      stands = stands_on events e other (HasProved say accounts start events) still_proved r.server.hall follows.stands;
+      stands = stands_on events e other (HasProved say accounts start events) still_proved r.server.server_state follows.stands;
     }
     stop_follows count (Some f) framed is_so =
         let items = take count (turn_of piece f).items in
-        let s = after_items say k items (begun now r.server.hall r.outs) in
-        let takes = (items_take say k items (begun now r.server.hall r.outs)).1 in
+        let s = after_items say k items (begun now r.server.server_state r.outs) in
+        let takes = (items_take say k items (begun now r.server.server_state r.outs)).1 in
         record {
           is = sym is_so ∙ led events r e follows.is;
-          sound = sound_gone k s.hall (takes.sound (sound_at_moment now r.server.hall follows.sound));
+          sound = sound_gone k s.server_state (takes.sound (sound_at_moment now r.server.server_state follows.sound));
           same = takes.accounts ∙ follows.same;
-          stands = stands_on events e other (HasProved say accounts start (events ++ e ∷ [])) (λ j account is. is) (gone_at k s.hall)
-              (holds_gone (Came events) (HasProved say accounts start (events ++ e ∷ [])) accounts ⊥ 0 k s.hall.moment s.hall.sessions s.hall.conns
+          stands = stands_on events e other (HasProved say accounts start (events ++ e ∷ [])) (λ j account is. is) (gone_at k s.server_state)
+              (holds_gone (Came events) (HasProved say accounts start (events ++ e ∷ [])) accounts ⊥ 0 k s.server_state.moment s.server_state.sessions s.server_state.conns
               (stands_front f framed items (drop count (turn_of piece f).items) (take-append-drop count (turn_of piece f).items)));
         }
 
@@ -264,8 +264,8 @@ module _ {A : Type 0} (say : ItemOut → A) (accounts : List Account) (start : R
       stop_follows events r follows k piece now (Stop k piece count now) (some_taken count refl) (λ j. refl) count (framer_at k r.server.framers) refl refl
   follows_one events r (Gone k now) may follows =
       let e = Gone k now in
-      let h = at_moment now r.server.hall in
-      let moved = stands_moment (Came events) (HasProved say accounts start events) now r.server.hall follows.stands in
+      let h = at_moment now r.server.server_state in
+      let moved = stands_moment (Came events) (HasProved say accounts start events) now r.server.server_state follows.stands in
       record {
         is = led events r e follows.is;
         sound = sound_gone_now k now r.server follows.sound;
@@ -277,10 +277,10 @@ module _ {A : Type 0} (say : ItemOut → A) (accounts : List Account) (start : R
       let e = Tick now in
       record {
         is = led events r e follows.is;
-        sound = sound_at_moment now r.server.hall follows.sound;
+        sound = sound_at_moment now r.server.server_state follows.sound;
         same = follows.same;
-        stands = stands_on events e (λ j. refl) (HasProved say accounts start events) (λ j account is. proved_more events j account e refl is) (at_moment now r.server.hall)
-            (stands_moment (Came events) (HasProved say accounts start events) now r.server.hall follows.stands);
+        stands = stands_on events e (λ j. refl) (HasProved say accounts start events) (λ j account is. proved_more events j account e refl is) (at_moment now r.server.server_state)
+            (stands_moment (Came events) (HasProved say accounts start events) now r.server.server_state follows.stands);
       }
 
   follows_all : (past events : List Event) (r : Run A) → MayFollow say events r → Follows say accounts start past r → Follows say accounts start (past ++ events) (after_events say events r)
@@ -300,22 +300,22 @@ module _ {A : Type 0} (say : ItemOut → A) (domain : List ℕ) (accounts : List
     stands = record { single = λ j. tt; seated = tt; drawn = tt; logins = tt; empty = λ b. absurd b };
   })
 
-  pub sound_behind : IsSound (after_events say events (at_first domain accounts keep)).server.hall
-  sound_behind = from_start.sound
+  pub sound_after : IsSound (after_events say events (at_first domain accounts keep)).server.server_state
+  sound_after = from_start.sound
 
-  login_proved : (k : ℕ) (c : Connection) → conn_at k (after_events say events (at_first domain accounts keep)).server.hall ≡ Some c
+  login_proved : (k : ℕ) (c : Connection) → conn_at k (after_events say events (at_first domain accounts keep)).server.server_state ≡ Some c
       → IsBackedBy (Came events) (HasProved say accounts (at_first domain accounts keep) events) accounts k c.phase
-  login_proved k c opened = at_entry (StandsOn (Came events) (HasProved say accounts (at_first domain accounts keep) events) accounts) k c (after_events say events (at_first domain accounts keep)).server.hall.conns from_start.stands.logins opened
+  login_proved k c opened = at_entry (StandsOn (Came events) (HasProved say accounts (at_first domain accounts keep) events) accounts) k c (after_events say events (at_first domain accounts keep)).server.server_state.conns from_start.stands.logins opened
 
-  pub restart_proved : (k account : ℕ) (c : Connection) → conn_at k (after_events say events (at_first domain accounts keep)).server.hall ≡ Some c → c.phase ≡ phase.Restart account → HasProved say accounts (at_first domain accounts keep) events k account
+  pub restart_proved : (k account : ℕ) (c : Connection) → conn_at k (after_events say events (at_first domain accounts keep)).server.server_state ≡ Some c → c.phase ≡ phase.Restart account → HasProved say accounts (at_first domain accounts keep) events k account
   restart_proved k account c opened is = subst (IsBackedBy (Came events) (HasProved say accounts (at_first domain accounts keep) events) accounts k) is (login_proved k c opened)
 
-  pub ready_proved : (k account : ℕ) (c : Connection) → conn_at k (after_events say events (at_first domain accounts keep)).server.hall ≡ Some c → c.phase ≡ phase.Ready account → HasProved say accounts (at_first domain accounts keep) events k account
+  pub ready_proved : (k account : ℕ) (c : Connection) → conn_at k (after_events say events (at_first domain accounts keep)).server.server_state ≡ Some c → c.phase ≡ phase.Ready account → HasProved say accounts (at_first domain accounts keep) events k account
   ready_proved k account c opened is = subst (IsBackedBy (Came events) (HasProved say accounts (at_first domain accounts keep) events) accounts k) is (login_proved k c opened)
 
-  pub session_proved : (k : ℕ) (t : Session A) → session_at k (after_events say events (at_first domain accounts keep)).server.hall.sessions ≡ Some t → HasProved say accounts (at_first domain accounts keep) events k t.shown.account
+  pub session_proved : (k : ℕ) (t : Session A) → session_at k (after_events say events (at_first domain accounts keep)).server.server_state.sessions ≡ Some t → HasProved say accounts (at_first domain accounts keep) events k t.shown.account
   session_proved k t found =
-      let h = (after_events say events (at_first domain accounts keep)).server.hall in
+      let h = (after_events say events (at_first domain accounts keep)).server.server_state in
       let seat = found_has (IsSeated h.conns) (is_at k) h.sessions t from_start.stands.seated found in
       let ready = seat.1 k (conn_is k t.shown.conn seat.0) in
       ready_proved k t.shown.account ready.0 ready.1 ready.2

@@ -17,26 +17,26 @@ use Rattle.law_server.specs.Live.{ArrivesWhereDue, GoesWhereDue, IsItsSession, I
 use Rattle.law_server.specs.Numbers.{HaveNumbers}
 use Rattle.mam_archive.specs.Entries.{EntryView}
 use Rattle.sm_acks.specs.declared.end.TheConstants.{MOST_UNACKNOWLEDGED}
-use Rattle.sm_live.specs.Sessions.{Session, acknowledged, after_resume, asks, copies, enables, fresh, handles, is_at, is_numbered, is_too_high, less, presents, resumes, session_named, session_of, session_resumed, told, told_of, waits, with_session, without}
-use Rattle.sm_live.specs.declared.told.Told.{Told}
+use Rattle.sm_live.specs.Sessions.{Session, acknowledged, after_resume, asks, copies, enables, fresh, handles, info_of, is_at, is_numbered, is_too_high, less, presents, resumes, session_named, session_of, session_resumed, told, waits, with_session, without}
+use Rattle.sm_live.specs.declared.told.SessionInfo.{SessionInfo}
 use Rattle.srv_core.specs.Table.{after_item, at_item, at_open}
-use Rattle.srv_state.specs.State.{Hall, Kept, Out, Put, Shut, Step, Took, archive_at}
+use Rattle.srv_state.specs.State.{Kept, Out, Put, ServerState, Shut, Step, Took, archive_at}
 use Rattle.srv_state.specs.Steps as steps
-use Rattle.srv_state.specs.Steps.{Act, act, acted, archived_in, ask_where, in_sessions, is_due, overflow, part_where, put, put_where, queue, send_told, shut}
+use Rattle.srv_state.specs.Steps.{Act, act, acted, archived_in, ask_where, in_sessions, is_due, overflow, part_where, put, put_where, queue, send_by_info, shut}
 use Rattle.srv_state.specs.Streams.{standing_at}
 use Rattle.srv_state.specs.declared.connection.Standing.{Standing}
 use Rattle.xml_framer.specs.declared.items.Item.{Item}
 use Rattle.xml_writer.specs.Items.{Closing, ItemOut}
 
 -- the session is on the connection k, or where it was
-abbrev IsWhere : {A : Type 0} → ℕ → Hall A → Session A → Type 0
+abbrev IsWhere : {A : Type 0} → ℕ → ServerState A → Session A → Type 0
 IsWhere {A = A} k h s = (s.shown.conn ≡ Some k) ⊎ ((t : Session A) × (session_of s.shown.number h.sessions ≡ Some t) × (s.shown.conn ≡ t.shown.conn))
 
-abbrev AreWhere : {A : Type 0} → ℕ → Hall A → List (Session A) → Type 0
+abbrev AreWhere : {A : Type 0} → ℕ → ServerState A → List (Session A) → Type 0
 AreWhere k h ss = AllByRecursion (IsWhere k h) ss
 
 -- these are added, each where it is due
-abbrev Adds : {A : Type 0} → (ItemOut → A) → ℕ → Item → Hall A → Step A → Step A → Type 0
+abbrev Adds : {A : Type 0} → (ItemOut → A) → ℕ → Item → ServerState A → Step A → Step A → Type 0
 Adds {A = A} say k i h s u = (more : List (Out A)) × (u.outs ≡ s.outs ++ more) × AllByRecursion (ArrivesWhereDue say k i h) more
 
 all_joined : {T : Type 0} (P : T → Type 0) (xs ys : List T) → AllByRecursion P xs → AllByRecursion P ys → AllByRecursion P (xs ++ ys)
@@ -50,26 +50,26 @@ IsHere k (steps.Resume previd account n j) = j ≡ k
 IsHere k a = Unit {0}
 
 -- it is due on the connection of a session
-abbrev IsDueOn : {A : Type 0} → (ItemOut → A) → ℕ → Item → Hall A → Option ℕ → A → Type 0
+abbrev IsDueOn : {A : Type 0} → (ItemOut → A) → ℕ → Item → ServerState A → Option ℕ → A → Type 0
 IsDueOn say k i h conn a = (j : ℕ) → conn ≡ Some j → IsPut say k i h j a
 
-calm_here : {A : Type 0} (say : ItemOut → A) (k : ℕ) (i : Item) (st : Standing) (h : Hall A) (acts : List (Act A)) → AreCalm say k i st h acts → AllByRecursion (IsHere k) acts
+calm_here : {A : Type 0} (say : ItemOut → A) (k : ℕ) (i : Item) (st : Standing) (h : ServerState A) (acts : List (Act A)) → AreCalm say k i st h acts → AllByRecursion (IsHere k) acts
 calm_here say k i st h [] all = tt
 calm_here say k i st h (steps.Bind account resource j ∷ acts) all = absurd all.0.1
 calm_here say k i st h (steps.Resume previd account n j ∷ acts) all = absurd all.0.1
 calm_here say k i st h (a ∷ acts) all = (tt, calm_here say k i st h acts all.1)
 
-row_here : {A : Type 0} (say : ItemOut → A) (k : ℕ) (i : Item) (st : Standing) (h : Hall A) (acts : List (Act A)) → IsRow say k i st h acts → AllByRecursion (IsHere k) acts
+row_here : {A : Type 0} (say : ItemOut → A) (k : ℕ) (i : Item) (st : Standing) (h : ServerState A) (acts : List (Act A)) → IsRow say k i st h acts → AllByRecursion (IsHere k) acts
 row_here say k i st h [] row = tt
 row_here say k i st h (steps.Bind account resource j ∷ acts) row = (row.0.0, calm_here say k i st h acts row.1)
 row_here say k i st h (steps.Resume previd account n j ∷ acts) row = (row.0.0, calm_here say k i st h acts row.1)
 row_here say k i st h (a ∷ acts) row = (tt, calm_here say k i st h acts row.1)
 
-open_here : {A : Type 0} (say : ItemOut → A) (k : ℕ) (i : Item) (o : Option Standing) (h : Hall A) → HaveNumbers h → AllByRecursion (IsHere k) (at_open say k i o h)
+open_here : {A : Type 0} (say : ItemOut → A) (k : ℕ) (i : Item) (o : Option Standing) (h : ServerState A) → HaveNumbers h → AllByRecursion (IsHere k) (at_open say k i o h)
 open_here say k i None h numbers = tt
 open_here say k i (Some st) h numbers = row_here say k i st h (at_item say k i st h) (row_item say k i st h numbers)
 
-module _ {A : Type 0} (say : ItemOut → A) (k : ℕ) (i : Item) (h : Hall A) where
+module _ {A : Type 0} (say : ItemOut → A) (k : ℕ) (i : Item) (h : ServerState A) where
   adds_nothing : (s u : Step A) → u.outs ≡ s.outs → Adds say k i h s u
   adds_nothing s u same = ([], same ∙ sym (append-nil s.outs), tt)
 
@@ -110,56 +110,56 @@ module _ {A : Type 0} (say : ItemOut → A) (k : ℕ) (i : Item) (h : Hall A) wh
       either true = where_some (λ s. not (s.shown.number == t.shown.number)) ss all
       either false = all_mapped (IsWhere k h) (IsWhere k h) (λ (s : Session A). cond (s.shown.number == t.shown.number) (resumes n j s) s) one ss all
 
-  where_either : (b : Bool) (s t : Step A) → AreWhere k h s.hall.sessions → AreWhere k h t.hall.sessions → AreWhere k h (cond b s t).hall.sessions
+  where_either : (b : Bool) (s t : Step A) → AreWhere k h s.server_state.sessions → AreWhere k h t.server_state.sessions → AreWhere k h (cond b s t).server_state.sessions
   where_either true s t one other = one
   where_either false s t one other = other
 
-  where_put : (o : Option ℕ) (a : A) (s : Step A) → AreWhere k h s.hall.sessions → AreWhere k h (put_where o a s).hall.sessions
+  where_put : (o : Option ℕ) (a : A) (s : Step A) → AreWhere k h s.server_state.sessions → AreWhere k h (put_where o a s).server_state.sessions
   where_put None a s all = all
   where_put (Some j) a s all = all
 
-  where_part : (o : Option ℕ) (error : A) (s : Step A) → AreWhere k h s.hall.sessions → AreWhere k h (part_where say o error s).hall.sessions
+  where_part : (o : Option ℕ) (error : A) (s : Step A) → AreWhere k h s.server_state.sessions → AreWhere k h (part_where say o error s).server_state.sessions
   where_part None error s all = all
-  where_part (Some j) error s all = where_some (λ t. not (is_at j t)) s.hall.sessions all
+  where_part (Some j) error s all = where_some (λ t. not (is_at j t)) s.server_state.sessions all
 
-  where_ask : (n : ℕ) (o : Option ℕ) (due : Bool) (s : Step A) → AreWhere k h s.hall.sessions → AreWhere k h (ask_where say n o due s).hall.sessions
+  where_ask : (n : ℕ) (o : Option ℕ) (due : Bool) (s : Step A) → AreWhere k h s.server_state.sessions → AreWhere k h (ask_where say n o due s).server_state.sessions
   where_ask n o false s all = all
   where_ask n None true s all = all
-  where_ask n (Some j) true s all = where_changed n (asks true) (λ t. refl) (λ t. refl) s.hall.sessions all
+  where_ask n (Some j) true s all = where_changed n (asks true) (λ t. refl) (λ t. refl) s.server_state.sessions all
 
-  where_queue : (n : ℕ) (a : A) (t : Told) (s : Step A) → AreWhere k h s.hall.sessions → AreWhere k h (queue say n a t s).hall.sessions
+  where_queue : (n : ℕ) (a : A) (t : SessionInfo) (s : Step A) → AreWhere k h s.server_state.sessions → AreWhere k h (queue say n a t s).server_state.sessions
   where_queue n a t s all =
       let u = in_sessions (with_session n (waits a)) s in
-      where_ask n t.conn (is_due t) (put_where t.conn a u) (where_put t.conn a u (where_changed n (waits a) (λ x. refl) (λ x. refl) s.hall.sessions all))
+      where_ask n t.conn (is_due t) (put_where t.conn a u) (where_put t.conn a u (where_changed n (waits a) (λ x. refl) (λ x. refl) s.server_state.sessions all))
 
-  where_sent : (n : ℕ) (a : A) (o : Option Told) (s : Step A) → AreWhere k h s.hall.sessions → AreWhere k h (send_told say n a o s).hall.sessions
+  where_sent : (n : ℕ) (a : A) (o : Option SessionInfo) (s : Step A) → AreWhere k h s.server_state.sessions → AreWhere k h (send_by_info say n a o s).server_state.sessions
   where_sent n a None s all = all
   where_sent n a (Some t) s all =
       where_either (not t.counted) _ _ (where_put t.conn a s all)
       (where_either (t.waiting == MOST_UNACKNOWLEDGED) _ _
-      (where_part t.conn (say (error_item ResourceConstraint)) (in_sessions (without n) s) (where_some (λ x. not (x.shown.number == n)) s.hall.sessions all)) (where_queue n a t s all))
+      (where_part t.conn (say (error_item ResourceConstraint)) (in_sessions (without n) s) (where_some (λ x. not (x.shown.number == n)) s.server_state.sessions all)) (where_queue n a t s all))
 
-  where_archived : (e : EntryView) (account : ℕ) (o : Option Kept) (g : Hall A) → AreWhere k h g.sessions → AreWhere k h (archived_in e account o g).sessions
+  where_archived : (e : EntryView) (account : ℕ) (o : Option Kept) (g : ServerState A) → AreWhere k h g.sessions → AreWhere k h (archived_in e account o g).sessions
   where_archived e account None g all = all
   where_archived e account (Some kept) g all = all
 
-  where_act : (a : Act A) (s : Step A) → IsHere k a → AreWhere k h s.hall.sessions → AreWhere k h (act say a s).hall.sessions
+  where_act : (a : Act A) (s : Step A) → IsHere k a → AreWhere k h s.server_state.sessions → AreWhere k h (act say a s).server_state.sessions
   where_act (steps.Say j a) s here all = all
-  where_act (steps.Close j) s here all = where_some (λ t. not (is_at j t)) s.hall.sessions all
+  where_act (steps.Close j) s here all = where_some (λ t. not (is_at j t)) s.server_state.sessions all
   where_act (steps.Enter j phase) s here all = all
   where_act (steps.Fail j left) s here all = all
   where_act (steps.Bind account resource j) s here all =
-      all_joined (IsWhere k h) (less (session_named account resource s.hall.sessions) s.hall.sessions) (fresh s.hall.next account resource j ∷ [])
-      (where_less (session_named account resource s.hall.sessions) s.hall.sessions all) (inl (ap (λ (x : ℕ). Some x) here), tt)
-  where_act (steps.Resume previd account n j) s here all = where_resumed n j (session_resumed previd account s.hall.sessions) s.hall.sessions here all
-  where_act (steps.Enable n resume) s here all = where_changed n (enables resume) (λ t. refl) (λ t. refl) s.hall.sessions all
-  where_act (steps.Acknowledge n handled) s here all = where_changed n (acknowledged handled) (λ t. refl) (λ t. refl) s.hall.sessions all
-  where_act (steps.Ask n on) s here all = where_changed n (asks on) (λ t. refl) (λ t. refl) s.hall.sessions all
-  where_act (steps.Handle n) s here all = where_changed n handles (λ t. refl) (λ t. refl) s.hall.sessions all
-  where_act (steps.Present n available priority) s here all = where_changed n (presents available priority) (λ t. refl) (λ t. refl) s.hall.sessions all
-  where_act (steps.Copy n on) s here all = where_changed n (copies on) (λ t. refl) (λ t. refl) s.hall.sessions all
-  where_act (steps.Send n a) s here all = where_sent n a (told_of n s.hall.sessions) s all
-  where_act (steps.Archive account e) s here all = where_archived e account (archive_at account s.hall) s.hall all
+      all_joined (IsWhere k h) (less (session_named account resource s.server_state.sessions) s.server_state.sessions) (fresh s.server_state.next account resource j ∷ [])
+      (where_less (session_named account resource s.server_state.sessions) s.server_state.sessions all) (inl (ap (λ (x : ℕ). Some x) here), tt)
+  where_act (steps.Resume previd account n j) s here all = where_resumed n j (session_resumed previd account s.server_state.sessions) s.server_state.sessions here all
+  where_act (steps.Enable n resume) s here all = where_changed n (enables resume) (λ t. refl) (λ t. refl) s.server_state.sessions all
+  where_act (steps.Acknowledge n handled) s here all = where_changed n (acknowledged handled) (λ t. refl) (λ t. refl) s.server_state.sessions all
+  where_act (steps.Ask n on) s here all = where_changed n (asks on) (λ t. refl) (λ t. refl) s.server_state.sessions all
+  where_act (steps.Handle n) s here all = where_changed n handles (λ t. refl) (λ t. refl) s.server_state.sessions all
+  where_act (steps.Present n available priority) s here all = where_changed n (presents available priority) (λ t. refl) (λ t. refl) s.server_state.sessions all
+  where_act (steps.Copy n on) s here all = where_changed n (copies on) (λ t. refl) (λ t. refl) s.server_state.sessions all
+  where_act (steps.Send n a) s here all = where_sent n a (info_of n s.server_state.sessions) s all
+  where_act (steps.Archive account e) s here all = where_archived e account (archive_at account s.server_state) s.server_state all
   where_act (steps.Tell from to origin) s here all = all
 
   -- ---- what is put
@@ -182,21 +182,21 @@ module _ {A : Type 0} (say : ItemOut → A) (k : ℕ) (i : Item) (h : Hall A) wh
   adds_ask n None true s = adds_nothing s s refl
   adds_ask n (Some j) true s = adds_one s (ask_where say n (Some j) true s) (Put j (say request_item)) refl (asking refl)
 
-  adds_queue : (n : ℕ) (a : A) (t : Told) (s : Step A) → IsDueOn say k i h t.conn a → Adds say k i h s (queue say n a t s)
+  adds_queue : (n : ℕ) (a : A) (t : SessionInfo) (s : Step A) → IsDueOn say k i h t.conn a → Adds say k i h s (queue say n a t s)
   adds_queue n a t s due =
       let u = in_sessions (with_session n (waits a)) s in
       let v = put_where t.conn a u in
       let first : Adds say k i h s v = adds_put t.conn a u due in
       adds_both s v (queue say n a t s) first (adds_ask n t.conn (is_due t) v)
 
-  adds_overflow : (n : ℕ) (t : Told) (s : Step A) → Adds say k i h s (overflow say n t s)
+  adds_overflow : (n : ℕ) (t : SessionInfo) (s : Step A) → Adds say k i h s (overflow say n t s)
   adds_overflow n t s = adds_part t.conn (in_sessions (without n) s)
 
   adds_either : (b : Bool) (s t u : Step A) → Adds say k i h s t → Adds say k i h s u → Adds say k i h s (cond b t u)
   adds_either true s t u one other = one
   adds_either false s t u one other = other
 
-  adds_told : (n : ℕ) (a : A) (t : Told) (s : Step A) → IsDueOn say k i h t.conn a → Adds say k i h s (send_told say n a (Some t) s)
+  adds_told : (n : ℕ) (a : A) (t : SessionInfo) (s : Step A) → IsDueOn say k i h t.conn a → Adds say k i h s (send_by_info say n a (Some t) s)
   adds_told n a t s due =
       adds_either (not t.counted) s _ _ (adds_put t.conn a s due) (adds_either (t.waiting == MOST_UNACKNOWLEDGED) s _ _ (adds_overflow n t s) (adds_queue n a t s due))
 
@@ -215,18 +215,18 @@ module _ {A : Type 0} (say : ItemOut → A) (k : ℕ) (i : Item) (h : Hall A) wh
       let found = found_has (Lives h.sessions) (is_numbered n) h.sessions gets.recipient (all_live h numbers) gets.lives in
       live gets.recipient found.1 (ap (λ (x : Session A). x.shown.conn) (sym same) ∙ sym there.2 ∙ on) gets.gets
 
-  adds_sent : HaveNumbers h → (n : ℕ) (a : A) (o : Option (Session A)) (s : Step A) → session_of n s.hall.sessions ≡ o → AreWhere k h s.hall.sessions → IsItsSession k h n ⊎ IsLiveFor say k i h n a
-      → Adds say k i h s (send_told say n a (option_map told o) s)
+  adds_sent : HaveNumbers h → (n : ℕ) (a : A) (o : Option (Session A)) (s : Step A) → session_of n s.server_state.sessions ≡ o → AreWhere k h s.server_state.sessions → IsItsSession k h n ⊎ IsLiveFor say k i h n a
+      → Adds say k i h s (send_by_info say n a (option_map told o) s)
   adds_sent numbers n a None s is all due = adds_nothing s s refl
   adds_sent numbers n a (Some t) s is all due =
-      let found = found_has (IsWhere k h) (is_numbered n) s.hall.sessions t all is in
+      let found = found_has (IsWhere k h) (is_numbered n) s.server_state.sessions t all is in
       adds_told n a (told t) s (due_on numbers n a t (eqb-true t.shown.number n found.0) found.1 due)
 
-  adds_act : HaveNumbers h → (a : Act A) (s : Step A) → GoesWhereDue say k i h a → AreWhere k h s.hall.sessions → Adds say k i h s (act say a s)
+  adds_act : HaveNumbers h → (a : Act A) (s : Step A) → GoesWhereDue say k i h a → AreWhere k h s.server_state.sessions → Adds say k i h s (act say a s)
   adds_act numbers (steps.Say j a) s (inl own) all = adds_one s (put j a s) (Put j a) refl (its_own own)
   adds_act numbers (steps.Say j a) s (inr part) all = adds_one s (put j a s) (Put j a) refl (parting part)
   adds_act numbers (steps.Close j) s due all = adds_one s (shut j s) (Shut j) refl tt
-  adds_act numbers (steps.Send n a) s due all = adds_sent numbers n a (session_of n s.hall.sessions) s refl all due
+  adds_act numbers (steps.Send n a) s due all = adds_sent numbers n a (session_of n s.server_state.sessions) s refl all due
   adds_act numbers (steps.Tell from to origin) s due all = adds_one s (act say (steps.Tell from to origin) s) (Took from to origin) refl tt
   adds_act numbers (steps.Archive account e) s due all = adds_nothing s (act say (steps.Archive account e) s) refl
   adds_act numbers (steps.Enter j phase) s due all = adds_nothing s (act say (steps.Enter j phase) s) refl
@@ -240,16 +240,16 @@ module _ {A : Type 0} (say : ItemOut → A) (k : ℕ) (i : Item) (h : Hall A) wh
   adds_act numbers (steps.Present n available priority) s due all = adds_nothing s (act say (steps.Present n available priority) s) refl
   adds_act numbers (steps.Copy n on) s due all = adds_nothing s (act say (steps.Copy n on) s) refl
 
-  adds_acted : HaveNumbers h → (acts : List (Act A)) (s : Step A) → AllByRecursion (GoesWhereDue say k i h) acts → AllByRecursion (IsHere k) acts → AreWhere k h s.hall.sessions → Adds say k i h s (acted say acts s)
+  adds_acted : HaveNumbers h → (acts : List (Act A)) (s : Step A) → AllByRecursion (GoesWhereDue say k i h) acts → AllByRecursion (IsHere k) acts → AreWhere k h s.server_state.sessions → Adds say k i h s (acted say acts s)
   adds_acted numbers [] s due here all = adds_nothing s s refl
   adds_acted numbers (a ∷ acts) s due here all =
       adds_both s (act say a s) (acted say acts (act say a s)) (adds_act numbers a s due.0 all) (adds_acted numbers acts (act say a s) due.1 here.1 (where_act a s here.0 all))
 
 -- ---- the law
 
-pub puts_due : {A : Type 0} (say : ItemOut → A) (k : ℕ) (i : Item) (s : Step A) → HaveNumbers s.hall → (more : List (Out A)) × ((after_item say k i s).outs ≡ s.outs ++ more) × All (ArrivesWhereDue say k i s.hall) more
+pub puts_due : {A : Type 0} (say : ItemOut → A) (k : ℕ) (i : Item) (s : Step A) → HaveNumbers s.server_state → (more : List (Out A)) × ((after_item say k i s).outs ≡ s.outs ++ more) × All (ArrivesWhereDue say k i s.server_state) more
 puts_due {A = A} say k i s numbers =
-    let h = s.hall in
+    let h = s.server_state in
     let o = standing_at k h in
     let there : AreWhere k h h.sessions = AllByRecursion-weaker (Lives h.sessions) (IsWhere k h) (λ (t : Session A) lives. inr (t, lives, refl)) h.sessions (all_live h numbers) in
     let adds = adds_acted say k i h numbers (at_open say k i o h) s (due_open say k i o h numbers) (open_here say k i o h numbers) there in

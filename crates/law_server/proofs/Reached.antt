@@ -15,8 +15,8 @@ use Rattle.law_server.proofs.LiveRows.{NamesIt, names_addressee, number_is}
 use Rattle.law_server.specs.Live.{delivery, going_on}
 use Rattle.law_server.specs.Ready.{IsForUsers, IsReady, IsTaken, chat, headline, normal}
 use Rattle.mam_archive.specs.Entries.{EntryView}
-use Rattle.sm_live.specs.Sessions.{Session, is_named, is_of, number_of, session_named, session_of, sessions_of, told, told_of}
-use Rattle.sm_live.specs.declared.told.Told.{Told}
+use Rattle.sm_live.specs.Sessions.{Session, info_of, is_named, is_of, number_of, session_named, session_of, sessions_of, told}
+use Rattle.sm_live.specs.declared.told.SessionInfo.{SessionInfo}
 use Rattle.srv_core.specs.Ready.{at_ready_or_bound}
 use Rattle.srv_core.specs.Stanzas.{judging, unless_own}
 use Rattle.srv_core.specs.Table.{at_open, at_word}
@@ -27,7 +27,7 @@ use Rattle.srv_route.specs.Plans.{archiving_of, is_ready, planned, ready_of, rou
 use Rattle.srv_route.specs.Routes.{PlanOf, archives_of, plan_renamed}
 use Rattle.srv_route.specs.declared.archiving.Archiving.TheVariants.{Both, Nowhere, Once}
 use Rattle.srv_state.specs.Handling.{counting}
-use Rattle.srv_state.specs.State.{Hall, archive_at, bare_address}
+use Rattle.srv_state.specs.State.{ServerState, archive_at, bare_address}
 use Rattle.srv_state.specs.Steps.{Act, Send}
 use Rattle.srv_state.specs.Streams.{standing_at}
 use Rattle.srv_state.specs.Words.{word_of}
@@ -83,7 +83,7 @@ none_full f false same sender account one other = refl
 
 -- ---- a route
 
-module _ {A : Type 0} (say : ItemOut → A) (h : Hall A) (sender : Session A) (m : MessageView) (account : ℕ) (t : Session A) (lives : session_of t.shown.number h.sessions ≡ Some t) (owner : t.shown.account ≡ account) where
+module _ {A : Type 0} (say : ItemOut → A) (h : ServerState A) (sender : Session A) (m : MessageView) (account : ℕ) (t : Session A) (lives : session_of t.shown.number h.sessions ≡ Some t) (owner : t.shown.account ≡ account) where
   abbrev given : Act A
   given = Send t.shown.number (say (delivery sender m account h))
 
@@ -95,31 +95,31 @@ module _ {A : Type 0} (say : ItemOut → A) (h : Hall A) (sender : Session A) (m
         inl (ap (λ (x : ℕ). Send (number_of t) (say (passed_item (bare_address x h) (number_in x accounts h) (going_on sender m h)))) same
         ∙ ap (λ (n : Option ℕ). Send (number_of t) (say (passed_item (bare_address account h) n (going_on sender m h)))) (number_is account m accounts h named))
 
-    has_behind : (n : ℕ) (o : Option Told) (more : List (Act A)) → Has given more → Has given (delivering_to say (going_on sender m h) accounts n o h more)
-    has_behind n None more has = has
-    has_behind n (Some u) more has = inr has
+    has_after : (n : ℕ) (o : Option SessionInfo) (more : List (Act A)) → Has given more → Has given (delivering_to say (going_on sender m h) accounts n o h more)
+    has_after n None more has = has
+    has_after n (Some u) more has = inr has
 
     has_delivering : (ss : List (Session A)) (more : List (Act A)) → Has t ss → Has given (delivering say (going_on sender m h) accounts (map number_of ss) h more)
     has_delivering [] more has = absurd has
     has_delivering (s ∷ ss) more (inl here) =
-        subst (λ (x : Session A). Has given (delivering_to say (going_on sender m h) accounts (number_of x) (told_of (number_of x) h.sessions) h (delivering say (going_on sender m h) accounts (map number_of ss) h more))) (sym here)
+        subst (λ (x : Session A). Has given (delivering_to say (going_on sender m h) accounts (number_of x) (info_of (number_of x) h.sessions) h (delivering say (going_on sender m h) accounts (map number_of ss) h more))) (sym here)
         (has_sent (session_of t.shown.number h.sessions) (delivering say (going_on sender m h) accounts (map number_of ss) h more) lives)
-    has_delivering (s ∷ ss) more (inr later) = has_behind (number_of s) (told_of (number_of s) h.sessions) (delivering say (going_on sender m h) accounts (map number_of ss) h more) (has_delivering ss more later)
+    has_delivering (s ∷ ss) more (inr later) = has_after (number_of s) (info_of (number_of s) h.sessions) (delivering say (going_on sender m h) accounts (map number_of ss) h more) (has_delivering ss more later)
 
-  has_archiving : (e : EntryView) (places : List ℕ) (more : List (Act A)) → Has given more → Has given (archiving e places more)
+  has_archiving : (e : EntryView) (positions : List ℕ) (more : List (Act A)) → Has given more → Has given (archiving e positions more)
   has_archiving e [] more has = has
-  has_archiving e (place ∷ places) more has = inr (has_archiving e places more has)
+  has_archiving e (position ∷ positions) more has = inr (has_archiving e positions more has)
 
-  has_telling : (full : MessageView) (places : List ℕ) (more : List (Act A)) → Has given more → Has given (telling full places more)
+  has_telling : (full : MessageView) (positions : List ℕ) (more : List (Act A)) → Has given more → Has given (telling full positions more)
   has_telling full [] more has = has
-  has_telling full (place ∷ places) more has = inr has
+  has_telling full (position ∷ positions) more has = inr has
 
   has_routed : (deliver : List (Session A)) → is_full_at (archive_at sender.shown.account h) ≡ false → is_full_at (archive_at account h) ≡ false → Has t deliver
       → Has given (messaging say m (unwrap_or m.to (bare_address sender.shown.account h)) (told sender) (plan_renamed number_of (routed m (told sender) account deliver h.sessions)) h)
   has_routed deliver one other has =
       let accounts = archives_of (archiving_of m sender.shown.account account) in
       let full = going_on sender m h in
-      let room : is_full_in accounts h ≡ false = none_full (λ place. is_full_at (archive_at place h)) (is_archived m) (sender.shown.account == account) sender.shown.account account one other in
+      let room : is_full_in accounts h ≡ false = none_full (λ position. is_full_at (archive_at position h)) (is_archived m) (sender.shown.account == account) sender.shown.account account one other in
       rw room
       (has_archiving (entry_of 0 h.moment full) accounts _
       (has_telling full accounts _ (has_delivering accounts (names_addressee (is_archived m) (sender.shown.account == account) sender.shown.account account) deliver _ has)))
@@ -131,20 +131,20 @@ for_users kind (chat is) = ap is_for_users is
 for_users kind (normal is) = ap is_for_users is
 for_users kind (headline is) = ap is_for_users is
 
-to_user_is : {A : Type 0} (m : MessageView) (t : Told) (account : ℕ) (deliver sessions : List (Session A)) → is_for_users m.kind ≡ true → to_user m t account deliver sessions ≡ routed m t account deliver sessions
+to_user_is : {A : Type 0} (m : MessageView) (t : SessionInfo) (account : ℕ) (deliver sessions : List (Session A)) → is_for_users m.kind ≡ true → to_user m t account deliver sessions ≡ routed m t account deliver sessions
 to_user_is m t account deliver sessions is = rw is refl
 
-to_absent_is : {A : Type 0} (m : MessageView) (t : Told) (account : ℕ) (sessions : List (Session A)) → m.kind ≡ Chat → to_full m t account None sessions ≡ routed m t account (ready_of account sessions) sessions
+to_absent_is : {A : Type 0} (m : MessageView) (t : SessionInfo) (account : ℕ) (sessions : List (Session A)) → m.kind ≡ Chat → to_full m t account None sessions ≡ routed m t account (ready_of account sessions) sessions
 to_absent_is m t account sessions is = rw is refl
 
-has_ready : {A : Type 0} (h : Hall A) (account : ℕ) (t : Session A) → IsReady h account t → Has t (ready_of account h.sessions)
+has_ready : {A : Type 0} (h : ServerState A) (account : ℕ) (t : Session A) → IsReady h account t → Has t (ready_of account h.sessions)
 has_ready h account t ready =
     has_filtered t (λ s. is_ready s.shown) (sessions_of account h.sessions) (and_from t.shown.available (int_le (pos 0) t.shown.priority) ready.available ready.priority)
     (has_filtered t (is_of account) h.sessions (eq-eqb t.shown.account account ready.account_is) (has_found _ h.sessions t ready.lives))
 
 -- ---- the item
 
-module _ {A : Type 0} (say : ItemOut → A) (k : ℕ) (h : Hall A) (sender : Session A) (m : MessageView) (account : ℕ) where
+module _ {A : Type 0} (say : ItemOut → A) (k : ℕ) (h : ServerState A) (sender : Session A) (m : MessageView) (account : ℕ) where
   either_has : (a : Act A) (b : Bool) (x y : List (Act A)) → Has a x → Has a y → Has a (cond b x y)
   either_has a true x y here there = here
   either_has a false x y here there = there
@@ -174,14 +174,14 @@ module _ {A : Type 0} (say : ItemOut → A) (k : ℕ) (h : Hall A) (sender : Ses
       (subst (λ (p : PlanOf (Session A)). Has (Send t.shown.number (say (delivery sender m account h))) (messaging say m (unwrap_or m.to (bare_address sender.shown.account h)) (told sender) (plan_renamed number_of p) h)) (sym plan)
       (has_routed say h sender m account t lives owner deliver taken.sender_room taken.addressee_room has))
 
-pub reached_bare : {A : Type 0} (say : ItemOut → A) (k : ℕ) (i : Item) (h : Hall A) (sender t : Session A) (m : MessageView) (account : ℕ) → IsTaken k i h sender m account
+pub reached_bare : {A : Type 0} (say : ItemOut → A) (k : ℕ) (i : Item) (h : ServerState A) (sender t : Session A) (m : MessageView) (account : ℕ) → IsTaken k i h sender m account
     → destination_of h.domain h.accounts sender.shown.account m.to ≡ Bare account → IsForUsers m.kind → IsReady h account t
     → Contains (at_open say k i (standing_at k h) h) (Send t.shown.number (say (delivery sender m account h)))
 reached_bare {A = A} say k i h sender t m account taken to users ready =
     planned_so say k h sender m account i t (ready_of account h.sessions) taken ready.lives ready.account_is
     (ap (λ (d : Destination). planned d m (told sender) h.sessions) to ∙ to_user_is m (told sender) account (ready_of account h.sessions) h.sessions (for_users m.kind users)) (has_ready h account t ready)
 
-pub reached_full : {A : Type 0} (say : ItemOut → A) (k : ℕ) (i : Item) (h : Hall A) (sender t : Session A) (m : MessageView) (account : ℕ) (resource : List ℕ) → IsTaken k i h sender m account
+pub reached_full : {A : Type 0} (say : ItemOut → A) (k : ℕ) (i : Item) (h : ServerState A) (sender t : Session A) (m : MessageView) (account : ℕ) (resource : List ℕ) → IsTaken k i h sender m account
     → destination_of h.domain h.accounts sender.shown.account m.to ≡ Full account resource → session_named account resource h.sessions ≡ Some t → session_of t.shown.number h.sessions ≡ Some t
     → Contains (at_open say k i (standing_at k h) h) (Send t.shown.number (say (delivery sender m account h)))
 reached_full {A = A} say k i h sender t m account resource taken to named lives =
@@ -189,7 +189,7 @@ reached_full {A = A} say k i h sender t m account resource taken to named lives 
     planned_so say k h sender m account i t (t ∷ []) taken lives (eqb-true t.shown.account account (and_parts (t.shown.account == account) _ passes).0)
     (ap (λ (d : Destination). planned d m (told sender) h.sessions) to ∙ ap (λ (o : Option (Session A)). to_full m (told sender) account o h.sessions) named) (inl refl)
 
-pub reached_absent : {A : Type 0} (say : ItemOut → A) (k : ℕ) (i : Item) (h : Hall A) (sender t : Session A) (m : MessageView) (account : ℕ) (resource : List ℕ) → IsTaken k i h sender m account
+pub reached_absent : {A : Type 0} (say : ItemOut → A) (k : ℕ) (i : Item) (h : ServerState A) (sender t : Session A) (m : MessageView) (account : ℕ) (resource : List ℕ) → IsTaken k i h sender m account
     → destination_of h.domain h.accounts sender.shown.account m.to ≡ Full account resource → session_named account resource h.sessions ≡ None → m.kind ≡ Chat → IsReady h account t
     → Contains (at_open say k i (standing_at k h) h) (Send t.shown.number (say (delivery sender m account h)))
 reached_absent {A = A} say k i h sender t m account resource taken to none kind ready =

@@ -24,7 +24,7 @@ use Rattle.srv_core.specs.Events.{at_fault, fault_condition}
 use Rattle.srv_core.specs.Ready.{at_bound, at_ready_or_bound}
 use Rattle.srv_core.specs.Stanzas.{at_stanza, handling, judging, stanza_condition}
 use Rattle.srv_core.specs.Table.{at_item, at_open, at_word}
-use Rattle.srv_state.specs.State.{Hall}
+use Rattle.srv_state.specs.State.{ServerState}
 use Rattle.srv_state.specs.Steps as steps
 use Rattle.srv_state.specs.Steps.{Act}
 use Rattle.srv_state.specs.Streams.{closing, standing_at}
@@ -91,7 +91,7 @@ of_item e word.Other is = tt
 
 -- ---- where a session is on the connection
 
-module _ {A : Type 0} (say : ItemOut → A) (k : ℕ) (e : Elem) (st : Standing) (h : Hall A) (numbers : HaveNumbers h) where
+module _ {A : Type 0} (say : ItemOut → A) (k : ℕ) (e : Elem) (st : Standing) (h : ServerState A) (numbers : HaveNumbers h) where
   module _ (sender : Session A) (on : session_at k h.sessions ≡ Some sender) where
     calm_handling : (read : Result Stanza StanzaFault) → word_of e ≡ word.Stanza false read → AreCalm say k (item.Element e) st h (handling say read (told sender) h)
     calm_handling (Ok (stanza.Message m)) is = calm_message say k (item.Element e) st h sender on m is numbers
@@ -140,24 +140,24 @@ module _ {A : Type 0} (say : ItemOut → A) (k : ℕ) (e : Elem) (st : Standing)
   row_word stage.Start is = calm_row say k (item.Element e) st h _ (calm_any say k (item.Element e) st h (word_of e))
   row_word (stage.Restart account) is = calm_row say k (item.Element e) st h _ (calm_any say k (item.Element e) st h (word_of e))
 
-pub row_item : {A : Type 0} (say : ItemOut → A) (k : ℕ) (i : Item) (st : Standing) (h : Hall A) → HaveNumbers h → IsRow say k i st h (at_item say k i st h)
+pub row_item : {A : Type 0} (say : ItemOut → A) (k : ℕ) (i : Item) (st : Standing) (h : ServerState A) → HaveNumbers h → IsRow say k i st h (at_item say k i st h)
 row_item say k (item.Header at header) st h numbers = calm_row say k (item.Header at header) st h _ (calm_header say k (item.Header at header) st h header)
 row_item say k (item.Element e) st h numbers = row_word say k e st h numbers st.stage refl
 row_item say k item.Footer st h numbers = calm_row say k item.Footer st h (closing say k) (calm_closing say k item.Footer st h)
 
 -- ---- the laws
 
-pub due_open : {A : Type 0} (say : ItemOut → A) (k : ℕ) (i : Item) (o : Option Standing) (h : Hall A) → HaveNumbers h → AllByRecursion (GoesWhereDue say k i h) (at_open say k i o h)
+pub due_open : {A : Type 0} (say : ItemOut → A) (k : ℕ) (i : Item) (o : Option Standing) (h : ServerState A) → HaveNumbers h → AllByRecursion (GoesWhereDue say k i h) (at_open say k i o h)
 due_open say k i None h numbers = tt
 due_open say k i (Some st) h numbers = row_due say k i st h (at_item say k i st h) (row_item say k i st h numbers)
 
-pub items_due : {A : Type 0} (say : ItemOut → A) (k : ℕ) (i : Item) (h : Hall A) → HaveNumbers h → All (GoesWhereDue say k i h) (at_open say k i (standing_at k h) h)
+pub items_due : {A : Type 0} (say : ItemOut → A) (k : ℕ) (i : Item) (h : ServerState A) → HaveNumbers h → All (GoesWhereDue say k i h) (at_open say k i (standing_at k h) h)
 items_due say k i h numbers = All-from_recursion (GoesWhereDue say k i h) (at_open say k i (standing_at k h) h) (due_open say k i (standing_at k h) h numbers)
 
-due_fault : {A : Type 0} (say : ItemOut → A) (k : ℕ) (i : Item) (f : Fault) (o : Option Standing) (h : Hall A) → AllByRecursion (GoesWhereDue say k i h) (at_fault say k f o h)
+due_fault : {A : Type 0} (say : ItemOut → A) (k : ℕ) (i : Item) (f : Fault) (o : Option Standing) (h : ServerState A) → AllByRecursion (GoesWhereDue say k i h) (at_fault say k f o h)
 due_fault say k i f None h = tt
 due_fault say k i f (Some st) h =
     row_due say k i st h (at_fault say k f (Some st) h) (calm_row say k i st h (at_fault say k f (Some st) h) (calm_ending say k i st h (fault_condition f.why)))
 
-pub faults_due : {A : Type 0} (say : ItemOut → A) (k : ℕ) (i : Item) (f : Fault) (h : Hall A) → All (GoesWhereDue say k i h) (at_fault say k f (standing_at k h) h)
+pub faults_due : {A : Type 0} (say : ItemOut → A) (k : ℕ) (i : Item) (f : Fault) (h : ServerState A) → All (GoesWhereDue say k i h) (at_fault say k f (standing_at k h) h)
 faults_due say k i f h = All-from_recursion (GoesWhereDue say k i h) (at_fault say k f (standing_at k h) h) (due_fault say k i f (standing_at k h) h)

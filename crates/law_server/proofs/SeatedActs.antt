@@ -15,8 +15,8 @@ use Rattle.law_server.specs.Numbers.{HaveNumbers}
 use Rattle.law_server.specs.Proved.{IsExchange, IsProof}
 use Rattle.mam_archive.specs.Entries.{EntryView}
 use Rattle.sm_acks.specs.declared.end.TheConstants.{MOST_UNACKNOWLEDGED}
-use Rattle.sm_live.specs.Sessions.{Session, acknowledged, asks, copies, enables, handles, is_at, presents, session_at, session_resumed, told_of, waits, with_session, without}
-use Rattle.sm_live.specs.declared.told.Told.{Told}
+use Rattle.sm_live.specs.Sessions.{Session, acknowledged, asks, copies, enables, handles, info_of, is_at, presents, session_at, session_resumed, waits, with_session, without}
+use Rattle.sm_live.specs.declared.told.SessionInfo.{SessionInfo}
 use Rattle.srv_core.specs.Events.{after_fault, at_fault, fault_condition}
 use Rattle.srv_core.specs.Table.{after_item, at_item, at_open}
 use Rattle.srv_login.proofs.LoginLaws.{proofs_log_in}
@@ -24,9 +24,9 @@ use Rattle.srv_login.specs.Negotiations.{LoginView}
 use Rattle.srv_login.specs.declared.account.Account.{Account}
 use Rattle.srv_login.specs.declared.negotiation.Negotiation.{Negotiation}
 use Rattle.srv_state.specs.Logins.{negotiation_in, negotiation_of}
-use Rattle.srv_state.specs.State.{Hall, Kept, Step, archive_at, conn_at, is_number, with_conn}
+use Rattle.srv_state.specs.State.{Kept, ServerState, Step, archive_at, conn_at, is_number, with_conn}
 use Rattle.srv_state.specs.Steps as steps
-use Rattle.srv_state.specs.Steps.{Act, act, acted, after_failure, archived_in, ask_where, in_hall, in_phase, in_sessions, is_due, overflow, part_where, put, put_where, queue, send_told, shut}
+use Rattle.srv_state.specs.Steps.{Act, act, acted, after_failure, archived_in, ask_where, in_phase, in_server_state, in_sessions, is_due, overflow, part_where, put, put_where, queue, send_by_info, shut}
 use Rattle.srv_state.specs.Streams.{stage_of, standing_of}
 use Rattle.srv_state.specs.declared.connection.Connection.{Connection}
 use Rattle.srv_state.specs.declared.connection.Phase.{Phase}
@@ -41,61 +41,61 @@ use Rattle.xml_writer.specs.Items.{Closing, ItemOut}
 
 -- ---- acts
 
-abbrev pub Held : {A : Type 0} → (ℕ → List ℕ → Type 0) → (ℕ → ℕ → Type 0) → List Account → Type 0 → ℕ → Hall A → Type 0
+abbrev pub Held : {A : Type 0} → (ℕ → List ℕ → Type 0) → (ℕ → ℕ → Type 0) → List Account → Type 0 → ℕ → ServerState A → Type 0
 Held C P accounts B k h = Holds C P accounts B k h.sessions h.conns
 
 module _ {A : Type 0} (C : ℕ → List ℕ → Type 0) (P : ℕ → ℕ → Type 0) (accounts : List Account) (B : Type 0) (k : ℕ) (say : ItemOut → A) where
-  held_changed : (n : ℕ) (f : Session A → Session A) (s : Step A) → ((t : Session A) → (f t).shown.conn ≡ t.shown.conn) → ((t : Session A) → (f t).shown.account ≡ t.shown.account) → Held C P accounts B k s.hall → Held C P accounts B k (in_sessions (with_session n f) s).hall
-  held_changed n f s conn account held = holds_changed C P accounts B k n f conn account s.hall.sessions s.hall.conns held
+  held_changed : (n : ℕ) (f : Session A → Session A) (s : Step A) → ((t : Session A) → (f t).shown.conn ≡ t.shown.conn) → ((t : Session A) → (f t).shown.account ≡ t.shown.account) → Held C P accounts B k s.server_state → Held C P accounts B k (in_sessions (with_session n f) s).server_state
+  held_changed n f s conn account held = holds_changed C P accounts B k n f conn account s.server_state.sessions s.server_state.conns held
 
-  pub held_shut : (j : ℕ) (s : Step A) → Held C P accounts B k s.hall → Held C P accounts B k (shut j s).hall
-  held_shut j s held = holds_shut C P accounts B k j s.hall.sessions s.hall.conns held
+  pub held_shut : (j : ℕ) (s : Step A) → Held C P accounts B k s.server_state → Held C P accounts B k (shut j s).server_state
+  held_shut j s held = holds_shut C P accounts B k j s.server_state.sessions s.server_state.conns held
 
-  held_put : (o : Option ℕ) (a : A) (s : Step A) → Held C P accounts B k s.hall → Held C P accounts B k (put_where o a s).hall
+  held_put : (o : Option ℕ) (a : A) (s : Step A) → Held C P accounts B k s.server_state → Held C P accounts B k (put_where o a s).server_state
   held_put None a s held = held
   held_put (Some j) a s held = held
 
-  held_part : (o : Option ℕ) (error : A) (s : Step A) → Held C P accounts B k s.hall → Held C P accounts B k (part_where say o error s).hall
+  held_part : (o : Option ℕ) (error : A) (s : Step A) → Held C P accounts B k s.server_state → Held C P accounts B k (part_where say o error s).server_state
   held_part None error s held = held
   held_part (Some j) error s held = held_shut j (put j (say Closing) (put j error s)) held
 
-  held_ask : (n : ℕ) (o : Option ℕ) (due : Bool) (s : Step A) → Held C P accounts B k s.hall → Held C P accounts B k (ask_where say n o due s).hall
+  held_ask : (n : ℕ) (o : Option ℕ) (due : Bool) (s : Step A) → Held C P accounts B k s.server_state → Held C P accounts B k (ask_where say n o due s).server_state
   held_ask n o false s held = held
   held_ask n None true s held = held
   held_ask n (Some j) true s held = held_changed n (asks true) s (λ t. refl) (λ t. refl) held
 
-  held_queue : (n : ℕ) (a : A) (t : Told) (s : Step A) → Held C P accounts B k s.hall → Held C P accounts B k (queue say n a t s).hall
+  held_queue : (n : ℕ) (a : A) (t : SessionInfo) (s : Step A) → Held C P accounts B k s.server_state → Held C P accounts B k (queue say n a t s).server_state
   held_queue n a t s held =
       let u = in_sessions (with_session n (waits a)) s in
       held_ask n t.conn (is_due t) (put_where t.conn a u) (held_put t.conn a u (held_changed n (waits a) s (λ x. refl) (λ x. refl) held))
 
-  held_overflow : (n : ℕ) (t : Told) (s : Step A) → Held C P accounts B k s.hall → Held C P accounts B k (overflow say n t s).hall
+  held_overflow : (n : ℕ) (t : SessionInfo) (s : Step A) → Held C P accounts B k s.server_state → Held C P accounts B k (overflow say n t s).server_state
   held_overflow n t s held =
       held_part t.conn (say (error_item ResourceConstraint)) (in_sessions (without n) s)
-      (holds_some C P accounts B k (λ x. not (x.shown.number == n)) s.hall.sessions s.hall.conns held)
+      (holds_some C P accounts B k (λ x. not (x.shown.number == n)) s.server_state.sessions s.server_state.conns held)
 
-  held_either : (b : Bool) (s t : Step A) → Held C P accounts B k s.hall → Held C P accounts B k t.hall → Held C P accounts B k (cond b s t).hall
+  held_either : (b : Bool) (s t : Step A) → Held C P accounts B k s.server_state → Held C P accounts B k t.server_state → Held C P accounts B k (cond b s t).server_state
   held_either true s t here there = here
   held_either false s t here there = there
 
-  held_sent : (n : ℕ) (a : A) (o : Option Told) (s : Step A) → Held C P accounts B k s.hall → Held C P accounts B k (send_told say n a o s).hall
+  held_sent : (n : ℕ) (a : A) (o : Option SessionInfo) (s : Step A) → Held C P accounts B k s.server_state → Held C P accounts B k (send_by_info say n a o s).server_state
   held_sent n a None s held = held
   held_sent n a (Some t) s held =
       held_either (not t.counted) _ _ (held_put t.conn a s held)
       (held_either (t.waiting == MOST_UNACKNOWLEDGED) _ _ (held_overflow n t s held) (held_queue n a t s held))
 
-  held_archived : (e : EntryView) (account : ℕ) (o : Option Kept) (h : Hall A) → Held C P accounts B k h → Held C P accounts B k (archived_in e account o h)
+  held_archived : (e : EntryView) (account : ℕ) (o : Option Kept) (h : ServerState A) → Held C P accounts B k h → Held C P accounts B k (archived_in e account o h)
   held_archived e account None h held = held
   held_archived e account (Some kept) h held = held
 
-  module _ (i : Item) (st : Standing) (h : Hall A) (empties : IsBeforeReady st.stage → B) (enters : (p : Phase) → MayEnter k i st h p → IsBackedBy C P accounts k p) where
+  module _ (i : Item) (st : Standing) (h : ServerState A) (empties : IsBeforeReady st.stage → B) (enters : (p : Phase) → MayEnter k i st h p → IsBackedBy C P accounts k p) where
     held_enter : (j : ℕ) (f : Connection → Connection) (s : Step A) → j ≡ k → IsBeforeReady st.stage → ((c : Connection) → (f c).entropy ≡ c.entropy) → ((c : Connection) → IsBackedBy C P accounts k (f c).phase)
-        → Held C P accounts B k s.hall → Held C P accounts B k (in_hall (with_conn j f) s).hall
+        → Held C P accounts B k s.server_state → Held C P accounts B k (in_server_state (with_conn j f) s).server_state
     held_enter j f s is before entropy backed held =
-        subst (λ (x : ℕ). Held C P accounts B k (in_hall (with_conn x f) s).hall) (sym is)
-        (holds_entered C P accounts B k f entropy backed (conn_at k s.hall) s.hall.sessions s.hall.conns refl (held.empty (empties before)) held)
+        subst (λ (x : ℕ). Held C P accounts B k (in_server_state (with_conn x f) s).server_state) (sym is)
+        (holds_entered C P accounts B k f entropy backed (conn_at k s.server_state) s.server_state.sessions s.server_state.conns refl (held.empty (empties before)) held)
 
-    held_act : (a : Act A) (s : Step A) → IsSteady k i st h a → Held C P accounts B k s.hall → Held C P accounts B k (act say a s).hall
+    held_act : (a : Act A) (s : Step A) → IsSteady k i st h a → Held C P accounts B k s.server_state → Held C P accounts B k (act say a s).server_state
     held_act (steps.Say j a) s steady held = held
     held_act (steps.Close j) s steady held = held_shut j s held
     held_act (steps.Enter j p) s steady held = held_enter j (in_phase p) s steady.0 steady.1 (λ c. refl) (λ c. enters p steady.2) held
@@ -108,11 +108,11 @@ module _ {A : Type 0} (C : ℕ → List ℕ → Type 0) (P : ℕ → ℕ → Typ
     held_act (steps.Handle n) s steady held = held_changed n handles s (λ t. refl) (λ t. refl) held
     held_act (steps.Present n available priority) s steady held = held_changed n (presents available priority) s (λ t. refl) (λ t. refl) held
     held_act (steps.Copy n on) s steady held = held_changed n (copies on) s (λ t. refl) (λ t. refl) held
-    held_act (steps.Send n a) s steady held = held_sent n a (told_of n s.hall.sessions) s held
-    held_act (steps.Archive account e) s steady held = held_archived e account (archive_at account s.hall) s.hall held
+    held_act (steps.Send n a) s steady held = held_sent n a (info_of n s.server_state.sessions) s held
+    held_act (steps.Archive account e) s steady held = held_archived e account (archive_at account s.server_state) s.server_state held
     held_act (steps.Tell from to origin) s steady held = held
 
-    pub held_calm : (acts : List (Act A)) (s : Step A) → AreCalm say k i st h acts → Held C P accounts B k s.hall → Held C P accounts B k (acted say acts s).hall
+    pub held_calm : (acts : List (Act A)) (s : Step A) → AreCalm say k i st h acts → Held C P accounts B k s.server_state → Held C P accounts B k (acted say acts s).server_state
     held_calm [] s all held = held
     held_calm (a ∷ acts) s all held = held_calm acts (act say a s) all.1 (held_act a s all.0.1 held)
 
@@ -158,34 +158,34 @@ module _ {A : Type 0} (C : ℕ → List ℕ → Type 0) (P : ℕ → ℕ → Typ
   not_before : (account : ℕ) → stage_of c.phase ≡ stage.Ready account → IsBeforeReady (stage_of c.phase) → ⊥
   not_before account ready before = subst IsBeforeReady ready before
 
-  held_row : (acts : List (Act A)) → conn_at k s.hall ≡ Some c → HaveNumbers s.hall → ((p : Phase) → MayEnter k i (standing_of c) s.hall p → IsBackedBy C P accounts k p) → IsRow say k i (standing_of c) s.hall acts
-      → Held C P accounts (IsBeforeReady (stage_of c.phase)) k s.hall → Held C P accounts (IsBeforeReady (stage_of c.phase)) k (acted say acts s).hall
+  held_row : (acts : List (Act A)) → conn_at k s.server_state ≡ Some c → HaveNumbers s.server_state → ((p : Phase) → MayEnter k i (standing_of c) s.server_state p → IsBackedBy C P accounts k p) → IsRow say k i (standing_of c) s.server_state acts
+      → Held C P accounts (IsBeforeReady (stage_of c.phase)) k s.server_state → Held C P accounts (IsBeforeReady (stage_of c.phase)) k (acted say acts s).server_state
   held_row [] opened numbers enters row held = held
   held_row (steps.Bind account resource j ∷ acts) opened numbers enters row held =
       let seats = row.0 in
-      let ready : IsReadyAt k account s.hall.conns = (c, opened, ready_phase c.phase account seats.2) in
-      let bound = holds_bound C P accounts (IsBeforeReady (stage_of c.phase)) k s.hall.next account resource s.hall.sessions s.hall.conns (not_before account seats.2) (none_found k s.hall.sessions seats.1) ready held in
-      held_calm C P accounts (IsBeforeReady (stage_of c.phase)) k say i (standing_of c) s.hall (λ b. b) enters acts (act say (steps.Bind account resource j) s) row.1
-      (subst (λ (x : ℕ). Held C P accounts (IsBeforeReady (stage_of c.phase)) k (act say (steps.Bind account resource x) s).hall) (sym seats.0) bound)
+      let ready : IsReadyAt k account s.server_state.conns = (c, opened, ready_phase c.phase account seats.2) in
+      let bound = holds_bound C P accounts (IsBeforeReady (stage_of c.phase)) k s.server_state.next account resource s.server_state.sessions s.server_state.conns (not_before account seats.2) (none_found k s.server_state.sessions seats.1) ready held in
+      held_calm C P accounts (IsBeforeReady (stage_of c.phase)) k say i (standing_of c) s.server_state (λ b. b) enters acts (act say (steps.Bind account resource j) s) row.1
+      (subst (λ (x : ℕ). Held C P accounts (IsBeforeReady (stage_of c.phase)) k (act say (steps.Bind account resource x) s).server_state) (sym seats.0) bound)
   held_row (steps.Resume previd account n j ∷ acts) opened numbers enters row held =
       let seats = row.0 in
-      let ready : IsReadyAt k account s.hall.conns = (c, opened, ready_phase c.phase account seats.2) in
+      let ready : IsReadyAt k account s.server_state.conns = (c, opened, ready_phase c.phase account seats.2) in
       let resumed =
-      holds_resumed C P accounts (IsBeforeReady (stage_of c.phase)) k n s.hall.next account previd (session_resumed previd account s.hall.sessions) s.hall.sessions s.hall.conns refl (not_before account seats.2) numbers
-      (none_found k s.hall.sessions seats.1) ready held in
-      held_calm C P accounts (IsBeforeReady (stage_of c.phase)) k say i (standing_of c) s.hall (λ b. b) enters acts (act say (steps.Resume previd account n j) s) row.1
-      (subst (λ (x : ℕ). Held C P accounts (IsBeforeReady (stage_of c.phase)) k (act say (steps.Resume previd account n x) s).hall) (sym seats.0) resumed)
+      holds_resumed C P accounts (IsBeforeReady (stage_of c.phase)) k n s.server_state.next account previd (session_resumed previd account s.server_state.sessions) s.server_state.sessions s.server_state.conns refl (not_before account seats.2) numbers
+      (none_found k s.server_state.sessions seats.1) ready held in
+      held_calm C P accounts (IsBeforeReady (stage_of c.phase)) k say i (standing_of c) s.server_state (λ b. b) enters acts (act say (steps.Resume previd account n j) s) row.1
+      (subst (λ (x : ℕ). Held C P accounts (IsBeforeReady (stage_of c.phase)) k (act say (steps.Resume previd account n x) s).server_state) (sym seats.0) resumed)
   held_row (a ∷ acts) opened numbers enters row held =
-      held_calm C P accounts (IsBeforeReady (stage_of c.phase)) k say i (standing_of c) s.hall (λ b. b) enters (a ∷ acts) s row held
+      held_calm C P accounts (IsBeforeReady (stage_of c.phase)) k say i (standing_of c) s.server_state (λ b. b) enters (a ∷ acts) s row held
 
 -- ---- an item
 
 -- no row is under way
-abbrev pub Stands : {A : Type 0} → (ℕ → List ℕ → Type 0) → (ℕ → ℕ → Type 0) → List Account → Hall A → Type 0
+abbrev pub Stands : {A : Type 0} → (ℕ → List ℕ → Type 0) → (ℕ → ℕ → Type 0) → List Account → ServerState A → Type 0
 Stands C P accounts h = Held C P accounts ⊥ 0 h
 
 -- more is proved
-pub stands_more : {A : Type 0} (C D : ℕ → List ℕ → Type 0) (P R : ℕ → ℕ → Type 0) (accounts : List Account) (h : Hall A) → AllByRecursion (WasDrawn D) h.conns → AllByRecursion (StandsOn D R accounts) h.conns → Stands C P accounts h → Stands D R accounts h
+pub stands_more : {A : Type 0} (C D : ℕ → List ℕ → Type 0) (P R : ℕ → ℕ → Type 0) (accounts : List Account) (h : ServerState A) → AllByRecursion (WasDrawn D) h.conns → AllByRecursion (StandsOn D R accounts) h.conns → Stands C P accounts h → Stands D R accounts h
 stands_more C D P R accounts h drawn logins stands = record { single = stands.single; seated = stands.seated; drawn = drawn; logins = logins; empty = λ b. absurd b }
 
 backed_more : (C D : ℕ → List ℕ → Type 0) (P R : ℕ → ℕ → Type 0) (accounts : List Account) (k : ℕ) (p : Phase) → ((entropy : List ℕ) → C k entropy → D k entropy) → ((account : ℕ) → P k account → R k account) → IsBackedBy C P accounts k p → IsBackedBy D R accounts k p
@@ -214,11 +214,11 @@ no_element : (e : Elem) → item.Footer ≡ item.Element e → ⊥
 no_element e is = absurd (cc is)
 
 -- an item that proves the password of an account on the connection
-abbrev pub Proves : {A : Type 0} → (ℕ → List ℕ → Type 0) → List Account → ℕ → Item → Hall A → ℕ → Type 0
+abbrev pub Proves : {A : Type 0} → (ℕ → List ℕ → Type 0) → List Account → ℕ → Item → ServerState A → ℕ → Type 0
 Proves C accounts k i h account = (entropy : List ℕ) × C k entropy × IsProof accounts entropy k account i h
 
 module _ {A : Type 0} (C : ℕ → List ℕ → Type 0) (P : ℕ → ℕ → Type 0) (accounts : List Account) (say : ItemOut → A) (k : ℕ) where
-  module _ (i : Item) (c : Connection) (h : Hall A) (opened : conn_at k h ≡ Some c) (same : h.accounts ≡ accounts) where
+  module _ (i : Item) (c : Connection) (h : ServerState A) (opened : conn_at k h ≡ Some c) (same : h.accounts ≡ accounts) where
     proof_of : (account : ℕ) → IsBackedBy C P accounts k c.phase → Answers k i h account → Proves C accounts k i h account
     proof_of account backed answers =
         let n = answers.n in
@@ -250,33 +250,33 @@ module _ {A : Type 0} (C : ℕ → List ℕ → Type 0) (P : ℕ → ℕ → Typ
     enters_so backed drawn proves (phase.Restart account) may = proves account (proof_of account backed may)
     enters_so backed drawn proves (phase.Ready account) may = subst (IsBackedBy C P accounts k) (restart_phase c.phase account may) backed
 
-  stands_open : (i : Item) (s : Step A) (o : Option Connection) → conn_at k s.hall ≡ o → HaveNumbers s.hall → s.hall.accounts ≡ accounts → ((account : ℕ) → Proves C accounts k i s.hall account → P k account) → Stands C P accounts s.hall
-      → Stands C P accounts (acted say (at_open say k i (option_map standing_of o) s.hall) s).hall
+  stands_open : (i : Item) (s : Step A) (o : Option Connection) → conn_at k s.server_state ≡ o → HaveNumbers s.server_state → s.server_state.accounts ≡ accounts → ((account : ℕ) → Proves C accounts k i s.server_state account → P k account) → Stands C P accounts s.server_state
+      → Stands C P accounts (acted say (at_open say k i (option_map standing_of o) s.server_state) s).server_state
   stands_open i s None opened numbers same proves stands = stands
   stands_open i s (Some c) opened numbers same proves stands =
-      let backed = at_entry (StandsOn C P accounts) k c s.hall.conns stands.logins opened in
-      let drawn = at_entry (WasDrawn C) k c s.hall.conns stands.drawn opened in
-      let held : Held C P accounts (IsBeforeReady (stage_of c.phase)) k s.hall =
-      record { single = stands.single; seated = stands.seated; drawn = stands.drawn; logins = stands.logins; empty = λ b. before_none k c s.hall.conns s.hall.sessions opened stands.seated b } in
-      let after = held_row C P accounts k say i c s (at_item say k i (standing_of c) s.hall) opened numbers (enters_so i c s.hall opened same backed drawn proves) (row_item say k i (standing_of c) s.hall numbers) held in
+      let backed = at_entry (StandsOn C P accounts) k c s.server_state.conns stands.logins opened in
+      let drawn = at_entry (WasDrawn C) k c s.server_state.conns stands.drawn opened in
+      let held : Held C P accounts (IsBeforeReady (stage_of c.phase)) k s.server_state =
+      record { single = stands.single; seated = stands.seated; drawn = stands.drawn; logins = stands.logins; empty = λ b. before_none k c s.server_state.conns s.server_state.sessions opened stands.seated b } in
+      let after = held_row C P accounts k say i c s (at_item say k i (standing_of c) s.server_state) opened numbers (enters_so i c s.server_state opened same backed drawn proves) (row_item say k i (standing_of c) s.server_state numbers) held in
       record { single = after.single; seated = after.seated; drawn = after.drawn; logins = after.logins; empty = λ b. absurd b }
 
-  pub stands_item : (i : Item) (s : Step A) → HaveNumbers s.hall → s.hall.accounts ≡ accounts → ((account : ℕ) → Proves C accounts k i s.hall account → P k account) → Stands C P accounts s.hall → Stands C P accounts (after_item say k i s).hall
-  stands_item i s numbers same proves stands = stands_open i s (conn_at k s.hall) refl numbers same proves stands
+  pub stands_item : (i : Item) (s : Step A) → HaveNumbers s.server_state → s.server_state.accounts ≡ accounts → ((account : ℕ) → Proves C accounts k i s.server_state account → P k account) → Stands C P accounts s.server_state → Stands C P accounts (after_item say k i s).server_state
+  stands_item i s numbers same proves stands = stands_open i s (conn_at k s.server_state) refl numbers same proves stands
 
   -- a fault of the stream
-  fault_open : (f : Fault) (s : Step A) (o : Option Connection) → conn_at k s.hall ≡ o → HaveNumbers s.hall → s.hall.accounts ≡ accounts → Stands C P accounts s.hall → Stands C P accounts (acted say (at_fault say k f (option_map standing_of o) s.hall) s).hall
+  fault_open : (f : Fault) (s : Step A) (o : Option Connection) → conn_at k s.server_state ≡ o → HaveNumbers s.server_state → s.server_state.accounts ≡ accounts → Stands C P accounts s.server_state → Stands C P accounts (acted say (at_fault say k f (option_map standing_of o) s.server_state) s).server_state
   fault_open f s None opened numbers same stands = stands
   fault_open f s (Some c) opened numbers same stands =
-      let backed = at_entry (StandsOn C P accounts) k c s.hall.conns stands.logins opened in
-      let drawn = at_entry (WasDrawn C) k c s.hall.conns stands.drawn opened in
-      let held : Held C P accounts (IsBeforeReady (stage_of c.phase)) k s.hall =
-      record { single = stands.single; seated = stands.seated; drawn = stands.drawn; logins = stands.logins; empty = λ b. before_none k c s.hall.conns s.hall.sessions opened stands.seated b } in
-      let acts = at_fault say k f (Some (standing_of c)) s.hall in
-      let row = calm_row say k item.Footer (standing_of c) s.hall acts (calm_ending say k item.Footer (standing_of c) s.hall (fault_condition f.why)) in
-      let after = held_row C P accounts k say item.Footer c s acts opened numbers (enters_so item.Footer c s.hall opened same backed drawn (λ account proof. absurd (no_element proof.2.element proof.2.is))) row held in
+      let backed = at_entry (StandsOn C P accounts) k c s.server_state.conns stands.logins opened in
+      let drawn = at_entry (WasDrawn C) k c s.server_state.conns stands.drawn opened in
+      let held : Held C P accounts (IsBeforeReady (stage_of c.phase)) k s.server_state =
+      record { single = stands.single; seated = stands.seated; drawn = stands.drawn; logins = stands.logins; empty = λ b. before_none k c s.server_state.conns s.server_state.sessions opened stands.seated b } in
+      let acts = at_fault say k f (Some (standing_of c)) s.server_state in
+      let row = calm_row say k item.Footer (standing_of c) s.server_state acts (calm_ending say k item.Footer (standing_of c) s.server_state (fault_condition f.why)) in
+      let after = held_row C P accounts k say item.Footer c s acts opened numbers (enters_so item.Footer c s.server_state opened same backed drawn (λ account proof. absurd (no_element proof.2.element proof.2.is))) row held in
       record { single = after.single; seated = after.seated; drawn = after.drawn; logins = after.logins; empty = λ b. absurd b }
 
-  pub stands_fault : (f : Option Fault) (s : Step A) → HaveNumbers s.hall → s.hall.accounts ≡ accounts → Stands C P accounts s.hall → Stands C P accounts (after_fault say k f s).hall
+  pub stands_fault : (f : Option Fault) (s : Step A) → HaveNumbers s.server_state → s.server_state.accounts ≡ accounts → Stands C P accounts s.server_state → Stands C P accounts (after_fault say k f s).server_state
   stands_fault None s numbers same stands = stands
-  stands_fault (Some f) s numbers same stands = fault_open f s (conn_at k s.hall) refl numbers same stands
+  stands_fault (Some f) s numbers same stands = fault_open f s (conn_at k s.server_state) refl numbers same stands

@@ -12,9 +12,9 @@ use Rattle.law_server.proofs.Frames.{others_left}
 use Rattle.law_server.specs.Live.{IsOn}
 use Rattle.sm_acks.specs.declared.end.TheConstants.{MOST_UNACKNOWLEDGED}
 use Rattle.sm_live.specs.Sessions.{Session, asks, session_of, told, waits, with_session, without}
-use Rattle.sm_live.specs.declared.told.Told.{Told}
+use Rattle.sm_live.specs.declared.told.SessionInfo.{SessionInfo}
 use Rattle.srv_state.specs.State.{Out, Put, Shut, Step}
-use Rattle.srv_state.specs.Steps.{ask_where, in_sessions, is_due, overflow, part_where, put, put_where, queue, send, send_told, shut}
+use Rattle.srv_state.specs.Steps.{ask_where, in_sessions, is_due, overflow, part_where, put, put_where, queue, send, send_by_info, shut}
 use Rattle.xml_writer.specs.Items.{Closing, ItemOut}
 
 -- ---- outputs
@@ -53,28 +53,28 @@ adds_ask say n o false s = adds_nothing o s s refl
 adds_ask say n None true s = adds_nothing None s s refl
 adds_ask say n (Some j) true s = adds_one (Some j) s (ask_where say n (Some j) true s) (Put j (say request_item)) refl refl
 
-adds_queue : {A : Type 0} (say : ItemOut → A) (n : ℕ) (a : A) (t : Told) (s : Step A) → Adds t.conn s (queue say n a t s)
+adds_queue : {A : Type 0} (say : ItemOut → A) (n : ℕ) (a : A) (t : SessionInfo) (s : Step A) → Adds t.conn s (queue say n a t s)
 adds_queue say n a t s =
     let u = in_sessions (with_session n (waits a)) s in
     let v = put_where t.conn a u in
     let first : Adds t.conn s v = adds_put t.conn a u in
     adds_both t.conn s v (queue say n a t s) first (adds_ask say n t.conn (is_due t) v)
 
-adds_overflow : {A : Type 0} (say : ItemOut → A) (n : ℕ) (t : Told) (s : Step A) → Adds t.conn s (overflow say n t s)
+adds_overflow : {A : Type 0} (say : ItemOut → A) (n : ℕ) (t : SessionInfo) (s : Step A) → Adds t.conn s (overflow say n t s)
 adds_overflow say n t s = adds_part say t.conn (say (error_item ResourceConstraint)) (in_sessions (without n) s)
 
 adds_either : {A : Type 0} (conn : Option ℕ) (b : Bool) (s t u : Step A) → Adds conn s t → Adds conn s u → Adds conn s (cond b t u)
 adds_either conn true s t u here there = here
 adds_either conn false s t u here there = there
 
-adds_sent : {A : Type 0} (say : ItemOut → A) (n : ℕ) (a : A) (t : Told) (s : Step A) → Adds t.conn s (send_told say n a (Some t) s)
+adds_sent : {A : Type 0} (say : ItemOut → A) (n : ℕ) (a : A) (t : SessionInfo) (s : Step A) → Adds t.conn s (send_by_info say n a (Some t) s)
 adds_sent say n a t s =
     adds_either t.conn (not t.counted) s _ _ (adds_put t.conn a s) (adds_either t.conn (t.waiting == MOST_UNACKNOWLEDGED) s _ _ (adds_overflow say n t s) (adds_queue say n a t s))
 
-pub only_there : {A : Type 0} (say : ItemOut → A) (n : ℕ) (a : A) (t : Session A) (s : Step A) → session_of n s.hall.sessions ≡ Some t
+pub only_there : {A : Type 0} (say : ItemOut → A) (n : ℕ) (a : A) (t : Session A) (s : Step A) → session_of n s.server_state.sessions ≡ Some t
     → (more : List (Out A)) × ((send say n a s).outs ≡ s.outs ++ more) × All (IsOn t.shown.conn) more
 only_there {A = A} say n a t s found =
-    subst (λ (o : Option (Session A)). (more : List (Out A)) × ((send_told say n a (option_map told o) s).outs ≡ s.outs ++ more) × All (IsOn t.shown.conn) more) (sym found) (adds_sent say n a (told t) s)
+    subst (λ (o : Option (Session A)). (more : List (Out A)) × ((send_by_info say n a (option_map told o) s).outs ≡ s.outs ++ more) × All (IsOn t.shown.conn) more) (sym found) (adds_sent say n a (told t) s)
 
 -- ---- where there is room
 
@@ -83,7 +83,7 @@ record IsRoomy {A : Type 0} (say : ItemOut → A) (n : ℕ) (a : A) (t : Session
   uncounted : P (put_where t.shown.conn a s)
   counted : P (queue say n a (told t) s)
 
-by_room : {A : Type 0} (say : ItemOut → A) (n : ℕ) (a : A) (t : Session A) (s : Step A) (P : Step A → Type 0) → IsRoomy say n a t s P → (t.shown.counted ≡ false) ⊎ (length t.waiting ≢ MOST_UNACKNOWLEDGED) → P (send_told say n a (Some (told t)) s)
+by_room : {A : Type 0} (say : ItemOut → A) (n : ℕ) (a : A) (t : Session A) (s : Step A) (P : Step A → Type 0) → IsRoomy say n a t s P → (t.shown.counted ≡ false) ⊎ (length t.waiting ≢ MOST_UNACKNOWLEDGED) → P (send_by_info say n a (Some (told t)) s)
 by_room say n a t s P room free =
     elim (cases_Bool t.shown.counted) [
       | inl counted ↦ rw counted (rw (unfull counted free) room.counted)
@@ -103,10 +103,10 @@ puts_ask say n None j a true s u is = ([], is)
 puts_ask {A = A} say n (Some i) j a true s u is =
     (Put i (say request_item) ∷ [], ap (λ (outs : List (Out A)). outs ++ Put i (say request_item) ∷ []) is ∙ append_assoc s.outs (Put j a ∷ []) (Put i (say request_item) ∷ []))
 
-pub puts_there : {A : Type 0} (say : ItemOut → A) (n j : ℕ) (a : A) (t : Session A) (s : Step A) → session_of n s.hall.sessions ≡ Some t → t.shown.conn ≡ Some j → (t.shown.counted ≡ false) ⊎ (length t.waiting ≢ MOST_UNACKNOWLEDGED)
+pub puts_there : {A : Type 0} (say : ItemOut → A) (n j : ℕ) (a : A) (t : Session A) (s : Step A) → session_of n s.server_state.sessions ≡ Some t → t.shown.conn ≡ Some j → (t.shown.counted ≡ false) ⊎ (length t.waiting ≢ MOST_UNACKNOWLEDGED)
     → (more : List (Out A)) × ((send say n a s).outs ≡ s.outs ++ Put j a ∷ more)
 puts_there {A = A} say n j a t s found conn room =
-    subst (λ (o : Option (Session A)). Puts j a s (send_told say n a (option_map told o) s)) (sym found)
+    subst (λ (o : Option (Session A)). Puts j a s (send_by_info say n a (option_map told o) s)) (sym found)
     (by_room say n a t s (Puts j a s)
     (record {
       uncounted = ([], put_out t.shown.conn j a s conn);
@@ -124,7 +124,7 @@ found_changed n f same (s ∷ ss) =
     ]
 
 abbrev Waits : {A : Type 0} → ℕ → A → Session A → Step A → Type 0
-Waits {A = A} n a t u = (v : Session A) × (session_of n u.hall.sessions ≡ Some v) × (v.waiting ≡ t.waiting ++ a ∷ [])
+Waits {A = A} n a t u = (v : Session A) × (session_of n u.server_state.sessions ≡ Some v) × (v.waiting ≡ t.waiting ++ a ∷ [])
 
 waits_put : {A : Type 0} (o : Option ℕ) (n : ℕ) (a b : A) (t : Session A) (s : Step A) → Waits n a t s → Waits n a t (put_where o b s)
 waits_put None n a b t s waits_so = waits_so
@@ -133,37 +133,37 @@ waits_put (Some j) n a b t s waits_so = waits_so
 waits_ask : {A : Type 0} (say : ItemOut → A) (o : Option ℕ) (due : Bool) (n : ℕ) (a : A) (t : Session A) (s : Step A) → Waits n a t s → Waits n a t (ask_where say n o due s)
 waits_ask say o false n a t s waits_so = waits_so
 waits_ask say None true n a t s waits_so = waits_so
-waits_ask say (Some j) true n a t s waits_so = (asks true waits_so.0, found_changed n (asks true) (λ x. refl) s.hall.sessions ∙ ap (option_map (asks true)) waits_so.1, waits_so.2)
+waits_ask say (Some j) true n a t s waits_so = (asks true waits_so.0, found_changed n (asks true) (λ x. refl) s.server_state.sessions ∙ ap (option_map (asks true)) waits_so.1, waits_so.2)
 
-pub waits_there : {A : Type 0} (say : ItemOut → A) (n : ℕ) (a : A) (t : Session A) (s : Step A) → session_of n s.hall.sessions ≡ Some t → t.shown.counted ≡ true → length t.waiting ≢ MOST_UNACKNOWLEDGED
-    → (u : Session A) × (session_of n (send say n a s).hall.sessions ≡ Some u) × (u.waiting ≡ t.waiting ++ a ∷ [])
+pub waits_there : {A : Type 0} (say : ItemOut → A) (n : ℕ) (a : A) (t : Session A) (s : Step A) → session_of n s.server_state.sessions ≡ Some t → t.shown.counted ≡ true → length t.waiting ≢ MOST_UNACKNOWLEDGED
+    → (u : Session A) × (session_of n (send say n a s).server_state.sessions ≡ Some u) × (u.waiting ≡ t.waiting ++ a ∷ [])
 waits_there {A = A} say n a t s found counted room =
     let u = in_sessions (with_session n (waits a)) s in
-    let first : Waits n a t u = (waits a t, found_changed n (waits a) (λ x. refl) s.hall.sessions ∙ ap (option_map (waits a)) found, refl) in
+    let first : Waits n a t u = (waits a t, found_changed n (waits a) (λ x. refl) s.server_state.sessions ∙ ap (option_map (waits a)) found, refl) in
     let queued : Waits n a t (queue say n a (told t) s) = waits_ask say t.shown.conn (is_due (told t)) n a t (put_where t.shown.conn a u) (waits_put t.shown.conn n a a t u first) in
     let unfull : (length t.waiting == MOST_UNACKNOWLEDGED) ≡ false = ne_eqb (length t.waiting) MOST_UNACKNOWLEDGED room in
-    subst (λ (o : Option (Session A)). Waits n a t (send_told say n a (option_map told o) s)) (sym found) (rw counted (rw unfull queued))
+    subst (λ (o : Option (Session A)). Waits n a t (send_by_info say n a (option_map told o) s)) (sym found) (rw counted (rw unfull queued))
 
 -- ---- other sessions
 
-pub others_wait_on : {A : Type 0} (say : ItemOut → A) (m n : ℕ) (a : A) (t : Session A) (s : Step A) → session_of n s.hall.sessions ≡ Some t → (m == n) ≡ false → (t.shown.counted ≡ false) ⊎ (length t.waiting ≢ MOST_UNACKNOWLEDGED)
-    → session_of m (send say n a s).hall.sessions ≡ session_of m s.hall.sessions
+pub others_wait_on : {A : Type 0} (say : ItemOut → A) (m n : ℕ) (a : A) (t : Session A) (s : Step A) → session_of n s.server_state.sessions ≡ Some t → (m == n) ≡ false → (t.shown.counted ≡ false) ⊎ (length t.waiting ≢ MOST_UNACKNOWLEDGED)
+    → session_of m (send say n a s).server_state.sessions ≡ session_of m s.server_state.sessions
 others_wait_on {A = A} say m n a t s found apart room =
-    subst (λ (o : Option (Session A)). session_of m (send_told say n a (option_map told o) s).hall.sessions ≡ session_of m s.hall.sessions) (sym found)
-    (by_room say n a t s (λ (u : Step A). session_of m u.hall.sessions ≡ session_of m s.hall.sessions)
+    subst (λ (o : Option (Session A)). session_of m (send_by_info say n a (option_map told o) s).server_state.sessions ≡ session_of m s.server_state.sessions) (sym found)
+    (by_room say n a t s (λ (u : Step A). session_of m u.server_state.sessions ≡ session_of m s.server_state.sessions)
     (record {
       uncounted = same_put t.shown.conn a s;
       counted =
           same_ask t.shown.conn (is_due (told t)) (put_where t.shown.conn a (in_sessions (with_session n (waits a)) s))
           ∙ same_put t.shown.conn a (in_sessions (with_session n (waits a)) s)
-          ∙ others_left m n (waits a) s.hall.sessions (λ x. refl) apart;
+          ∙ others_left m n (waits a) s.server_state.sessions (λ x. refl) apart;
     }) room)
   where
-    same_put : (o : Option ℕ) (b : A) (u : Step A) → session_of m (put_where o b u).hall.sessions ≡ session_of m u.hall.sessions
+    same_put : (o : Option ℕ) (b : A) (u : Step A) → session_of m (put_where o b u).server_state.sessions ≡ session_of m u.server_state.sessions
     same_put None b u = refl
     same_put (Some j) b u = refl
 
-    same_ask : (o : Option ℕ) (due : Bool) (u : Step A) → session_of m (ask_where say n o due u).hall.sessions ≡ session_of m u.hall.sessions
+    same_ask : (o : Option ℕ) (due : Bool) (u : Step A) → session_of m (ask_where say n o due u).server_state.sessions ≡ session_of m u.server_state.sessions
     same_ask o false u = refl
     same_ask None true u = refl
-    same_ask (Some j) true u = others_left m n (asks true) u.hall.sessions (λ x. refl) apart
+    same_ask (Some j) true u = others_left m n (asks true) u.server_state.sessions (λ x. refl) apart

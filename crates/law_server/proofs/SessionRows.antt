@@ -23,7 +23,7 @@ use Rattle.law_server.specs.Answering.{IsOf}
 use Rattle.law_server.specs.Live.{IsItsSession, conflict, footer}
 use Rattle.sm_acks.specs.declared.end.TooHigh.{TooHigh as TooHighCount}
 use Rattle.sm_live.specs.Sessions.{Session, ack_answer, ended_of, resume_answer, session_at, session_named, session_of, session_resumed, told}
-use Rattle.sm_live.specs.declared.told.Told.{Told}
+use Rattle.sm_live.specs.declared.told.SessionInfo.{SessionInfo}
 use Rattle.sm_resumption.specs.declared.answers.ResumeFault.{ResumeFault}
 use Rattle.sm_resumption.specs.declared.answers.ResumeFault.TheVariants.{TooHigh, UnknownPrevid}
 use Rattle.sm_resumption.specs.declared.answers.ResumeOk.{ResumeOk}
@@ -33,7 +33,7 @@ use Rattle.srv_handlers.specs.Bindings.{asked_resource, at_bind, binding_as, cho
 use Rattle.srv_handlers.specs.Managements.{acknowledging, at_ack, at_enable, at_request}
 use Rattle.srv_handlers.specs.Requests.{at_iq}
 use Rattle.srv_handlers.specs.Resumptions.{asking, at_resume, resent_where, resuming, saying}
-use Rattle.srv_state.specs.State.{Hall}
+use Rattle.srv_state.specs.State.{ServerState}
 use Rattle.srv_state.specs.Steps as steps
 use Rattle.srv_state.specs.Steps.{Act}
 use Rattle.srv_state.specs.Streams.{at_any, parting_where}
@@ -47,7 +47,7 @@ use Rattle.xml_trees.specs.Readers.{first_named}
 use Rattle.xml_trees.specs.Trees.{Elem}
 use Rattle.xml_writer.specs.Items.{ItemOut}
 
-module _ {A : Type 0} (say : ItemOut → A) (k : ℕ) (i : Item) (st : Standing) (h : Hall A) where
+module _ {A : Type 0} (say : ItemOut → A) (k : ℕ) (i : Item) (st : Standing) (h : ServerState A) where
   pub calm_either : (b : Bool) (x y : List (Act A)) → AreCalm say k i st h x → AreCalm say k i st h y → AreCalm say k i st h (cond b x y)
   calm_either true x y here there = here
   calm_either false x y here there = there
@@ -117,10 +117,10 @@ module _ {A : Type 0} (say : ItemOut → A) (k : ℕ) (i : Item) (st : Standing)
 
   -- ---- where one is
 
-  pub calm_enable : (resume : Bool) (t : Told) → AreCalm say k i st h (at_enable say k resume t)
+  pub calm_enable : (resume : Bool) (t : SessionInfo) → AreCalm say k i st h (at_enable say k resume t)
   calm_enable resume t = calm_either t.counted _ _ ((inl refl, tt), tt) ((tt, tt), ((inl refl, tt), tt))
 
-  pub calm_request : (t : Told) → AreCalm say k i st h (at_request say k t)
+  pub calm_request : (t : SessionInfo) → AreCalm say k i st h (at_request say k t)
   calm_request t = calm_either t.counted _ _ ((inl refl, tt), tt) ((inl refl, tt), tt)
 
   calm_acknowledging : (n handled : ℕ) (o : Option (Result ℕ TooHighCount)) → AreCalm say k i st h (acknowledging say k n handled o)
@@ -128,7 +128,7 @@ module _ {A : Type 0} (say : ItemOut → A) (k : ℕ) (i : Item) (st : Standing)
   calm_acknowledging n handled (Some (Ok more)) = ((tt, tt), ((tt, tt), tt))
   calm_acknowledging n handled (Some (Err why)) = calm_parting say k i st h _
 
-  pub calm_ack : (handled : ℕ) (t : Told) → AreCalm say k i st h (at_ack say k handled t h)
+  pub calm_ack : (handled : ℕ) (t : SessionInfo) → AreCalm say k i st h (at_ack say k handled t h)
   calm_ack handled t = calm_either t.counted _ _ (calm_acknowledging t.number handled (option_map (ack_answer handled) (session_of t.number h.sessions))) ((inl refl, tt), tt)
 
   module _ (sender : Session A) (on : session_at k h.sessions ≡ Some sender) where

@@ -3,7 +3,7 @@ use Rattle.std.proofs.Common.{◌≡◌, true, false, [], ◌∷◌, Some, None,
 use Rattle.base_lemmas.specs.Hexadecimal.{hex16_of}
 use Rattle.sm_live.specs.Sessions.{Session, is_too_high, session_of, session_resumed}
 use Rattle.sm_resumption.specs.Previds.{previd_of}
-use Rattle.srv_state.specs.State.{Hall}
+use Rattle.srv_state.specs.State.{ServerState}
 use Rattle.srv_state.specs.Steps.{binds, shut}
 use Rattle.srv_state.specs.declared.connection.Connection.{Connection}
 use Rattle.srv_state.specs.declared.connection.Phase.TheVariants as phase
@@ -24,32 +24,32 @@ one = record {
 abbrev conn : Connection
 conn = record { entropy = []; phase = phase.Ready 0; tries = tries.Three }
 
-abbrev hall : Hall ItemOut
-hall = record { domain = codes "b"; accounts = []; archives = []; sessions = one ∷ []; next = 2; conns = (7, conn) ∷ []; moment = 0 }
+abbrev server_state : ServerState ItemOut
+server_state = record { domain = codes "b"; accounts = []; archives = []; sessions = one ∷ []; next = 2; conns = (7, conn) ∷ []; moment = 0 }
 
-abbrev behind : Hall ItemOut
-behind = (shut 7 (record { hall = hall; outs = [] })).hall
+abbrev following : ServerState ItemOut
+following = (shut 7 (record { server_state = server_state; outs = [] })).server_state
 
 -- the premises are met
-stands : IsLoggedIn 7 0 (Some one) hall
+stands : IsLoggedIn 7 0 (Some one) server_state
 stands = record { conn = conn; there = refl; login = refl; on = refl }
 
-rises : HaveNumbers hall
+rises : HaveNumbers server_state
 rises = (omega arith, omega arith)
 
 high : is_too_high 1 one ≡ true
 high = refl
 
 -- before the shut it can be resumed, and behind it it can't, and the next session has another number
-found : session_resumed (previd_of 1) 0 hall.sessions ≡ Some one
+found : session_resumed (previd_of 1) 0 server_state.sessions ≡ Some one
 unfolding hex16_of
 found = refl
 
-lost : session_resumed (previd_of 1) 0 behind.sessions ≡ None
+lost : session_resumed (previd_of 1) 0 following.sessions ≡ None
 lost = refl
 
-gone : IsGone 1 behind
+gone : IsGone 1 following
 gone = record { none = refl; spent = omega arith }
 
-next : session_of 1 (binds 0 (codes "a") 8 behind).sessions ≡ None
+next : session_of 1 (binds 0 (codes "a") 8 following).sessions ≡ None
 next = refl

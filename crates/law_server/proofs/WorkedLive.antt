@@ -7,7 +7,7 @@ use Rattle.law_server.specs.Ready.{IsReady}
 use Rattle.sm_live.specs.Sessions.{Session, told}
 use Rattle.srv_handlers.specs.Messages.{at_message}
 use Rattle.srv_login.specs.declared.account.Account.{Account}
-use Rattle.srv_state.specs.State.{Hall}
+use Rattle.srv_state.specs.State.{ServerState}
 use Rattle.srv_state.specs.Steps.{Send}
 use Rattle.xml_trees.specs.Trees.{no_nodes}
 use Rattle.xml_writer.specs.Items.{ItemOut}
@@ -25,8 +25,8 @@ session number owner = record {
 }
 
 -- alice's session sends, bob has one, and carol has one
-hall : Hall ItemOut
-hall = record {
+server_state : ServerState ItemOut
+server_state = record {
   domain = codes "x";
   accounts = account (codes "alice") ∷ account (codes "bob") ∷ account (codes "carol") ∷ [];
   archives = [];
@@ -39,10 +39,10 @@ hall = record {
 message : MessageView
 message = record { from = None; to = Some (codes "bob@x"); id = codes "m"; kind = Chat; lang = []; payload = no_nodes }
 
-bob_gets_it : at_message (λ item. item) message (told (session 1 0)) hall ≡ Send 2 (delivery (session 1 0) message 1 hall) ∷ []
-unfolding account session hall message
+bob_gets_it : at_message (λ item. item) message (told (session 1 0)) server_state ≡ Send 2 (delivery (session 1 0) message 1 server_state) ∷ []
+unfolding account session server_state message
 bob_gets_it = refl
 
-bob_is_ready : IsReady hall 1 (session 2 1)
-unfolding account session hall
+bob_is_ready : IsReady server_state 1 (session 2 1)
+unfolding account session server_state
 bob_is_ready = record { lives = refl; account_is = refl; available = refl; priority = refl }

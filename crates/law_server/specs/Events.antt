@@ -28,28 +28,28 @@ run w outs = record { server = w; outs = outs }
 
 -- the server alone, with what it has put out
 abbrev pub stand_of : {A : Type 0} → Run A → Step A
-stand_of r = record { hall = r.server.hall; outs = r.outs }
+stand_of r = record { server_state = r.server.server_state; outs = r.outs }
 
 -- The bytes did this. The framer of the connection has taken them, and connections that were shut have none.
 abbrev pub brought : {A : Type 0} → ℕ → List ℕ → Run A → Step A → Run A
 brought k piece r done =
-    run (whole done.hall (dropped (news r.outs done.outs) (fed k piece (framer_at k r.server.framers) r.server.framers))) done.outs
+    run (whole done.server_state (dropped (news r.outs done.outs) (fed k piece (framer_at k r.server.framers) r.server.framers))) done.outs
 
 -- Some first items did this, and the connection is gone.
 abbrev pub left_at : {A : Type 0} → ℕ → Run A → Step A → Run A
 left_at k r done =
-    run (whole (gone_at k done.hall) (dropped (news r.outs done.outs) (remove_entry (is_number k) r.server.framers))) done.outs
+    run (whole (gone_at k done.server_state) (dropped (news r.outs done.outs) (remove_entry (is_number k) r.server.framers))) done.outs
 
 abbrev pub stopped_in : {A : Type 0} → (ItemOut → A) → ℕ → List ℕ → ℕ → ℕ → Option State → Run A → Run A
 stopped_in say k piece done now None r = r
-stopped_in say k piece done now (Some f) r = left_at k r (after_items say k (take done (turn_of piece f).items) (begun now r.server.hall r.outs))
+stopped_in say k piece done now (Some f) r = left_at k r (after_items say k (take done (turn_of piece f).items) (begun now r.server.server_state r.outs))
 
 abbrev pub after_event : {A : Type 0} → (ItemOut → A) → Event → Run A → Run A
 after_event say (Connect k entropy now) r = run (after_connect k entropy now r.server) r.outs
 after_event say (Bytes k piece now) r = brought k piece r (after_bytes say k piece now r.server r.outs)
 after_event say (Stop k piece done now) r = stopped_in say k piece done now (framer_at k r.server.framers) r
 after_event say (Gone k now) r = run (after_gone k now r.server) r.outs
-after_event say (Tick now) r = run (whole (at_moment now r.server.hall) r.server.framers) r.outs
+after_event say (Tick now) r = run (whole (at_moment now r.server.server_state) r.server.framers) r.outs
 
 -- all of them, in order
 abbrev pub after_events : {A : Type 0} → (ItemOut → A) → List Event → Run A → Run A

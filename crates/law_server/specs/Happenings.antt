@@ -7,7 +7,7 @@ use Rattle.xml_writer.specs.Items.{ItemOut}
 
 -- a connection comes under a number that no open connection has, as `Server::connect` requires
 abbrev pub MayHappen : {A : Type 0} → Event → Run A → Type 0
-MayHappen (event.Connect k entropy now) r = conn_at k r.server.hall ≡ None
+MayHappen (event.Connect k entropy now) r = conn_at k r.server.server_state ≡ None
 MayHappen e r = Unit {0}
 
 abbrev pub MayFollow : {A : Type 0} → (ItemOut → A) → List Event → Run A → Type 0

@@ -1,11 +1,11 @@
 -- ---- each thing that is put turned into another
-pub mod Turned
+pub mod Rendered
 -- ---- what requests lead to
 pub mod Answering
 -- ---- pieces of bytes
 pub mod Pieces
--- a server of bytes as the image of one of items
-pub mod Images
+-- a server of bytes as an encoding of one of items
+pub mod Encodings
 -- ---- messages that were taken, and what archives get
 pub mod Taken
 -- ---- what goes out live

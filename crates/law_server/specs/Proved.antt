@@ -12,7 +12,7 @@ use Rattle.srv_login.specs.Logins.{HasRightProof}
 use Rattle.srv_login.specs.Negotiations.{LoginView}
 use Rattle.srv_login.specs.declared.account.Account.{Account}
 use Rattle.srv_login.specs.declared.negotiation.Negotiation.{Negotiation}
-use Rattle.srv_state.specs.State.{Hall, conn_at}
+use Rattle.srv_state.specs.State.{ServerState, conn_at}
 use Rattle.srv_state.specs.declared.connection.Connection.{Connection}
 use Rattle.srv_state.specs.declared.connection.Phase.TheVariants as phase
 use Rattle.xml_framer.specs.States as framing
@@ -35,7 +35,7 @@ pub record IsExchange (accounts : List Account) (entropy : List ℕ) (n : Negoti
 
 -- The connection awaits the end of such an exchange with the account, and the item is a `response` with a final message
 -- within the grammar, with the whole nonce and with the right proof for the account's stored key.
-pub record IsProof {A : Type 0} (accounts : List Account) (entropy : List ℕ) (k account : ℕ) (i : Item) (h : Hall A) : Type 0 where
+pub record IsProof {A : Type 0} (accounts : List Account) (entropy : List ℕ) (k account : ℕ) (i : Item) (h : ServerState A) : Type 0 where
   pub conn : Connection
   pub is_open : conn_at k h ≡ Some conn
   pub exchange : Negotiation
@@ -57,7 +57,7 @@ pub record BringsProof {A : Type 0} (say : ItemOut → A) (accounts : List Accou
   pub i : Item
   pub rest : List Item
   pub items : (turn_of piece framer).items ≡ front ++ i ∷ rest
-  pub proof : IsProof accounts entropy k account i (after_items say k front (begun now r.server.hall r.outs)).hall
+  pub proof : IsProof accounts entropy k account i (after_items say k front (begun now r.server.server_state r.outs)).server_state
 
 -- ---- events
 

@@ -3,7 +3,7 @@ use Rattle.std.specs.Prelude.{◌≡◌, ℕ, ◌==◌, Bool, true, false, ◌||
 use Rattle.std.specs.List.{AllByRecursion}
 use Rattle.std.specs.Option.{option_map}
 use Rattle.mam_archive.specs.Entries.{EntryView}
-use Rattle.srv_state.specs.State.{Hall, Kept, Out, Put, Shut, Step, Took, archive_at, bare_address, full_address, session_address}
+use Rattle.srv_state.specs.State.{Kept, Out, Put, ServerState, Shut, Step, Took, archive_at, bare_address, full_address, session_address}
 use Rattle.srv_state.specs.Steps.{appended}
 use Rattle.srv_state.specs.Words.{word_of}
 use Rattle.srv_state.specs.declared.word.Word.TheVariants as word
@@ -37,8 +37,8 @@ tells_take (Put k a) = false
 tells_take (Shut k) = false
 
 -- what outputs tell of messages that were taken
-abbrev pub takes_told : {A : Type 0} → List (Out A) → List (Out A)
-takes_told outs = filter tells_take outs
+abbrev pub takes_reported : {A : Type 0} → List (Out A) → List (Out A)
+takes_reported outs = filter tells_take outs
 
 -- ---- what archives get
 
@@ -65,13 +65,13 @@ account_of (Bare account) = Some account
 account_of (Full account resource) = Some account
 
 -- the message is to the address that it was given, which names the account, or else to its sender's bare address
-pub record IsTo {A : Type 0} (h : Hall A) (t : Taken) : Type 0 where
+pub record IsTo {A : Type 0} (h : ServerState A) (t : Taken) : Type 0 where
   pub given : Option (List ℕ)
   pub to : t.entry.to ≡ unwrap_or given (bare_address t.sender h)
   pub addressee : account_of (destination_of h.domain h.accounts t.sender given) ≡ Some t.addressee
 
 -- it is from an address of its sender, and that is an account that exists
-pub record IsFromSender {A : Type 0} (h : Hall A) (t : Taken) : Type 0 where
+pub record IsFromSender {A : Type 0} (h : ServerState A) (t : Taken) : Type 0 where
   pub exists : Exists h.accounts t.sender
   pub resource : List ℕ
   pub from : t.entry.from ≡ full_address t.sender resource h
@@ -80,18 +80,18 @@ pub record IsFromSender {A : Type 0} (h : Hall A) (t : Taken) : Type 0 where
 
 pub record HasTaken {A : Type 0} (takes : List Taken) (old new : Step A) : Type 0 where
   -- these are told, in order, and no others
-  pub tells : takes_told new.outs ≡ takes_told old.outs ++ map told takes
+  pub tells : takes_reported new.outs ≡ takes_reported old.outs ++ map told takes
   -- each archive gets its entries of these, and is else as it was
-  pub archives : (account : ℕ) → archive_at account new.hall ≡ option_map (all_appended (entries_for account takes)) (archive_at account old.hall)
+  pub archives : (account : ℕ) → archive_at account new.server_state ≡ option_map (all_appended (entries_for account takes)) (archive_at account old.server_state)
   -- they have the moment as their stamp
-  pub stamps : AllByRecursion (λ (t : Taken). t.entry.stamp ≡ old.hall.moment) takes
-  pub addressees : AllByRecursion (IsTo old.hall) takes
+  pub stamps : AllByRecursion (λ (t : Taken). t.entry.stamp ≡ old.server_state.moment) takes
+  pub addressees : AllByRecursion (IsTo old.server_state) takes
   -- where sessions and logins are sound they stay so, and each message is from its sender
-  pub senders : IsSound old.hall → AllByRecursion (IsFromSender old.hall) takes
-  pub sound : IsSound old.hall → IsSound new.hall
-  pub domain : new.hall.domain ≡ old.hall.domain
-  pub accounts : new.hall.accounts ≡ old.hall.accounts
-  pub moment : new.hall.moment ≡ old.hall.moment
+  pub senders : IsSound old.server_state → AllByRecursion (IsFromSender old.server_state) takes
+  pub sound : IsSound old.server_state → IsSound new.server_state
+  pub domain : new.server_state.domain ≡ old.server_state.domain
+  pub accounts : new.server_state.accounts ≡ old.server_state.accounts
+  pub moment : new.server_state.moment ≡ old.server_state.moment
 
 -- ---- an item
 
@@ -102,7 +102,7 @@ Reads i m = ⊥
 
 -- The item is a message of the session on this connection, and the entry is what an archive keeps of it: from the session's
 -- address, and to the address that it was given or else to the session's bare address. Both archives have a number for it.
-pub record IsTakenFrom {A : Type 0} (k : ℕ) (i : Item) (h : Hall A) (t : Taken) : Type 0 where
+pub record IsTakenFrom {A : Type 0} (k : ℕ) (i : Item) (h : ServerState A) (t : Taken) : Type 0 where
   pub session : Session A
   pub is_on : session_at k h.sessions ≡ Some session
   pub message : MessageView

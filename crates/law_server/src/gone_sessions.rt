@@ -39,15 +39,15 @@ pub fn events_are_those_of_the_server<A>()
 /// connection, whatever names it (`elsewhere`). Of servers the numbers of sessions rise (`servers_stay_sound`), and the next
 /// one is below 2^64 (`keeps_rule` of `Server`).
 pub fn a_shut_session_is_gone<A>()
-    ensures shut { (k n : ℕ) (t : Session A) (s : Step A) → HaveNumbers s.hall → session_of n s.hall.sessions ≡ Some t → is_at k t ≡ true → IsGone n (shut k s).hall }
-    ensures elsewhere { (k account : ℕ) (previd : List ℕ) (s : Step A) → IfSome (session_resumed previd account (shut k s).hall.sessions) (λ found. is_at k found ≡ false) }
-    ensures items { (say : ItemOut → A) (k n : ℕ) (items : List Item) (s : Step A) → IsGone n s.hall → IsGone n (after_items say k items s).hall }
-    ensures events { (say : ItemOut → A) (n : ℕ) (events : List Event) (r : Run A) → IsGone n r.server.hall → IsGone n (after_events say events r).server.hall }
-    ensures rises { (say : ItemOut → A) (k : ℕ) (items : List Item) (s : Step A) → s.hall.next ≤ (after_items say k items s).hall.next }
-    ensures refused { (say : ItemOut → A) (k account n h : ℕ) (e : Elem) (s : Step A) → IsGone n s.hall → HaveNumbers s.hall → s.hall.next ≤ 2 ^ 64 → IsLoggedIn k account None s.hall → word_of e ≡ word.Resume (previd_of n) h
+    ensures shut { (k n : ℕ) (t : Session A) (s : Step A) → HaveNumbers s.server_state → session_of n s.server_state.sessions ≡ Some t → is_at k t ≡ true → IsGone n (shut k s).server_state }
+    ensures elsewhere { (k account : ℕ) (previd : List ℕ) (s : Step A) → IfSome (session_resumed previd account (shut k s).server_state.sessions) (λ found. is_at k found ≡ false) }
+    ensures items { (say : ItemOut → A) (k n : ℕ) (items : List Item) (s : Step A) → IsGone n s.server_state → IsGone n (after_items say k items s).server_state }
+    ensures events { (say : ItemOut → A) (n : ℕ) (events : List Event) (r : Run A) → IsGone n r.server.server_state → IsGone n (after_events say events r).server.server_state }
+    ensures rises { (say : ItemOut → A) (k : ℕ) (items : List Item) (s : Step A) → s.server_state.next ≤ (after_items say k items s).server_state.next }
+    ensures refused { (say : ItemOut → A) (k account n h : ℕ) (e : Elem) (s : Step A) → IsGone n s.server_state → HaveNumbers s.server_state → s.server_state.next ≤ 2 ^ 64 → IsLoggedIn k account None s.server_state → word_of e ≡ word.Resume (previd_of n) h
         → after_item say k (Element e) s ≡ put k (say (refused_item ItemNotFound)) s }
-    ensures never { (say : ItemOut → A) (k account n h : ℕ) (e : Elem) (events : List Event) (r : Run A) → IsGone n r.server.hall → HaveNumbers r.server.hall → (after_events say events r).server.hall.next ≤ 2 ^ 64
-        → IsLoggedIn k account None (after_events say events r).server.hall → word_of e ≡ word.Resume (previd_of n) h
+    ensures never { (say : ItemOut → A) (k account n h : ℕ) (e : Elem) (events : List Event) (r : Run A) → IsGone n r.server.server_state → HaveNumbers r.server.server_state → (after_events say events r).server.server_state.next ≤ 2 ^ 64
+        → IsLoggedIn k account None (after_events say events r).server.server_state → word_of e ≡ word.Resume (previd_of n) h
         → after_item say k (Element e) (stand_of (after_events say events r)) ≡ put k (say (refused_item ItemNotFound)) (stand_of (after_events say events r)) }
 {}
 
@@ -57,14 +57,14 @@ pub fn a_shut_session_is_gone<A>()
 /// connection that the session had, where it had one. Nothing else happens: the session isn't resumed, and nothing is sent
 /// again.
 pub fn a_count_that_is_too_high_ends_its_session<A>()
-    ensures ack { (say : ItemOut → A) (k account h : ℕ) (e : Elem) (t : Session A) (s : Step A) → HaveNumbers s.hall → IsLoggedIn k account (Some t) s.hall → t.shown.counted ≡ true → word_of e ≡ word.Ack h → is_too_high h t ≡ true
-        → (after_item say k (Element e) s ≡ part say k (say (too_high_item h (send_count t))) s) × IsGone t.shown.number (after_item say k (Element e) s).hall }
-    ensures resume { (say : ItemOut → A) (k account h : ℕ) (previd : List ℕ) (e : Elem) (t : Session A) (s : Step A) → HaveNumbers s.hall → IsLoggedIn k account None s.hall → session_resumed previd account s.hall.sessions ≡ Some t
+    ensures ack { (say : ItemOut → A) (k account h : ℕ) (e : Elem) (t : Session A) (s : Step A) → HaveNumbers s.server_state → IsLoggedIn k account (Some t) s.server_state → t.shown.counted ≡ true → word_of e ≡ word.Ack h → is_too_high h t ≡ true
+        → (after_item say k (Element e) s ≡ part say k (say (too_high_item h (send_count t))) s) × IsGone t.shown.number (after_item say k (Element e) s).server_state }
+    ensures resume { (say : ItemOut → A) (k account h : ℕ) (previd : List ℕ) (e : Elem) (t : Session A) (s : Step A) → HaveNumbers s.server_state → IsLoggedIn k account None s.server_state → session_resumed previd account s.server_state.sessions ≡ Some t
         → word_of e ≡ word.Resume previd h → is_too_high h t ≡ true
         → (after_item say k (Element e) s ≡ part_where say t.shown.conn (say (error_item Conflict)) (part say k (say (too_high_item h (send_count t))) (in_sessions (without t.shown.number) s)))
-        × IsGone t.shown.number (after_item say k (Element e) s).hall }
-    ensures ack_alone { (say : ItemOut → A) (k account h : ℕ) (e : Elem) (t : Session A) (s : Step A) → IsRule s.hall.sessions s.hall.next → IsLoggedIn k account (Some t) s.hall → t.shown.counted ≡ true → word_of e ≡ word.Ack h → is_too_high h t ≡ true
-        → EndsAlone t.shown.number s.hall (after_item say k (Element e) s).hall }
-    ensures resume_alone { (say : ItemOut → A) (k account h : ℕ) (previd : List ℕ) (e : Elem) (t : Session A) (s : Step A) → IsRule s.hall.sessions s.hall.next → IsLoggedIn k account None s.hall → session_resumed previd account s.hall.sessions ≡ Some t
-        → word_of e ≡ word.Resume previd h → is_too_high h t ≡ true → EndsAlone t.shown.number s.hall (after_item say k (Element e) s).hall }
+        × IsGone t.shown.number (after_item say k (Element e) s).server_state }
+    ensures ack_alone { (say : ItemOut → A) (k account h : ℕ) (e : Elem) (t : Session A) (s : Step A) → IsRule s.server_state.sessions s.server_state.next → IsLoggedIn k account (Some t) s.server_state → t.shown.counted ≡ true → word_of e ≡ word.Ack h → is_too_high h t ≡ true
+        → EndsAlone t.shown.number s.server_state (after_item say k (Element e) s).server_state }
+    ensures resume_alone { (say : ItemOut → A) (k account h : ℕ) (previd : List ℕ) (e : Elem) (t : Session A) (s : Step A) → IsRule s.server_state.sessions s.server_state.next → IsLoggedIn k account None s.server_state → session_resumed previd account s.server_state.sessions ≡ Some t
+        → word_of e ≡ word.Resume previd h → is_too_high h t ≡ true → EndsAlone t.shown.number s.server_state (after_item say k (Element e) s).server_state }
 {}

@@ -1,4 +1,4 @@
-//! Laws of a server's table, beside those of `srv_core`. A server of bytes is the image of a server of items at every event;
+//! Laws of a server's table, beside those of `srv_core`. A server of bytes encodes a server of items at every event;
 //! what it tells of messages that it took is what its archives get; a message goes out live to the sessions that it is for,
 //! and to no other account; and a session is only where its account's password was proved.
 #![tactic(auto)]
@@ -18,7 +18,7 @@ pub use live_messages::{
     connections_get_what_is_theirs, copies_have_the_message, messages_go_to_their_accounts,
     messages_reach_their_sessions, what_is_passed_on_is_the_message, what_is_sent_is_put,
 };
-pub use proved_logins::{servers_are_sound_behind_events, sessions_are_of_proved_accounts};
+pub use proved_logins::{servers_are_sound_after_events, sessions_are_of_proved_accounts};
 pub use server_maps::{
     bytes_are_the_items_written, events_are_the_same_however_written,
     moments_are_the_same_however_written, relations_are_the_same_however_written,

@@ -21,7 +21,7 @@ ghost use Rattle.sm_live.specs.Sessions.{Session, session_named, session_of};
 ghost use Rattle.srv_core.specs.Events.{at_fault};
 ghost use Rattle.srv_core.specs.Table.{after_item, at_open};
 ghost use Rattle.srv_route.specs.Destinations.{Bare, Full, destination_of};
-ghost use Rattle.srv_state.specs.State.{Hall, Out, Put, Step};
+ghost use Rattle.srv_state.specs.State.{Out, Put, ServerState, Step};
 ghost use Rattle.srv_state.specs.Steps.{Send, send};
 ghost use Rattle.srv_state.specs.Streams.{standing_at};
 ghost use Rattle.xml_framer.specs.declared.fault.Fault.{Fault};
@@ -38,15 +38,15 @@ ghost use Rattle.xml_writer.specs.Items.{ItemOut};
 /// section 8.1.2.1), with the number under which the account's archive gets it. A fault of the stream puts on its own
 /// connection alone. Sessions have numbers of their own, as `servers_stay_sound` says.
 pub fn messages_go_to_their_accounts<A>()
-    ensures item { (say : ItemOut → A) (k : ℕ) (i : Item) (h : Hall A) → HaveNumbers h → All (GoesWhereDue say k i h) (at_open say k i (standing_at k h) h) }
-    ensures fault { (say : ItemOut → A) (k : ℕ) (i : Item) (f : Fault) (h : Hall A) → All (GoesWhereDue say k i h) (at_fault say k f (standing_at k h) h) }
+    ensures item { (say : ItemOut → A) (k : ℕ) (i : Item) (h : ServerState A) → HaveNumbers h → All (GoesWhereDue say k i h) (at_open say k i (standing_at k h) h) }
+    ensures fault { (say : ItemOut → A) (k : ℕ) (i : Item) (f : Fault) (h : ServerState A) → All (GoesWhereDue say k i h) (at_fault say k f (standing_at k h) h) }
 {}
 
 /// A law: so each connection gets what is for its session. What an item puts goes to its own connection, ends a stream,
 /// asks for a count (XEP-0198, section 4), or is live of the message that the item is, for the session on the connection
 /// that gets it: a session of the account that the message is to, or, for a copy as sent, of the one that sent it.
 pub fn connections_get_what_is_theirs<A>()
-    ensures { (say : ItemOut → A) (k : ℕ) (i : Item) (s : Step A) → HaveNumbers s.hall → (more : List (Out A)) × ((after_item say k i s).outs ≡ s.outs ++ more) × All (ArrivesWhereDue say k i s.hall) more }
+    ensures { (say : ItemOut → A) (k : ℕ) (i : Item) (s : Step A) → HaveNumbers s.server_state → (more : List (Out A)) × ((after_item say k i s).outs ≡ s.outs ++ more) × All (ArrivesWhereDue say k i s.server_state) more }
 {}
 
 /// A law: what is passed on of a message is that message. It has its addresses, its id, its type and its language, and of
@@ -82,13 +82,13 @@ pub fn copies_have_the_message()
 /// one to a session's full address to that session, whatever its type (section 8.5.3.1); and a chat to a resource that no
 /// session has to those that it would be sent to at the bare address (section 8.5.3.2.1). Both archives can take an entry.
 pub fn messages_reach_their_sessions<A>()
-    ensures bare { (say : ItemOut → A) (k : ℕ) (i : Item) (h : Hall A) (sender t : Session A) (m : MessageView) (account : ℕ) → IsTaken k i h sender m account
+    ensures bare { (say : ItemOut → A) (k : ℕ) (i : Item) (h : ServerState A) (sender t : Session A) (m : MessageView) (account : ℕ) → IsTaken k i h sender m account
         → destination_of h.domain h.accounts sender.shown.account m.to ≡ Bare account → IsForUsers m.kind → IsReady h account t
         → Contains (at_open say k i (standing_at k h) h) (Send t.shown.number (say (delivery sender m account h))) }
-    ensures full { (say : ItemOut → A) (k : ℕ) (i : Item) (h : Hall A) (sender t : Session A) (m : MessageView) (account : ℕ) (resource : List ℕ) → IsTaken k i h sender m account
+    ensures full { (say : ItemOut → A) (k : ℕ) (i : Item) (h : ServerState A) (sender t : Session A) (m : MessageView) (account : ℕ) (resource : List ℕ) → IsTaken k i h sender m account
         → destination_of h.domain h.accounts sender.shown.account m.to ≡ Full account resource → session_named account resource h.sessions ≡ Some t → session_of t.shown.number h.sessions ≡ Some t
         → Contains (at_open say k i (standing_at k h) h) (Send t.shown.number (say (delivery sender m account h))) }
-    ensures absent { (say : ItemOut → A) (k : ℕ) (i : Item) (h : Hall A) (sender t : Session A) (m : MessageView) (account : ℕ) (resource : List ℕ) → IsTaken k i h sender m account
+    ensures absent { (say : ItemOut → A) (k : ℕ) (i : Item) (h : ServerState A) (sender t : Session A) (m : MessageView) (account : ℕ) (resource : List ℕ) → IsTaken k i h sender m account
         → destination_of h.domain h.accounts sender.shown.account m.to ≡ Full account resource → session_named account resource h.sessions ≡ None → m.kind ≡ Chat → IsReady h account t
         → Contains (at_open say k i (standing_at k h) h) (Send t.shown.number (say (delivery sender m account h))) }
 {}
@@ -97,12 +97,12 @@ pub fn messages_reach_their_sessions<A>()
 /// in the session, behind what waited there (XEP-0198, section 4), unless as many wait as may. Nothing that comes of it is
 /// put on another connection, and it waits in no other session.
 pub fn what_is_sent_is_put<A>()
-    ensures put { (say : ItemOut → A) (n j : ℕ) (a : A) (t : Session A) (s : Step A) → session_of n s.hall.sessions ≡ Some t → t.shown.conn ≡ Some j → (t.shown.counted ≡ false) ⊎ (length t.waiting ≢ MOST_UNACKNOWLEDGED)
+    ensures put { (say : ItemOut → A) (n j : ℕ) (a : A) (t : Session A) (s : Step A) → session_of n s.server_state.sessions ≡ Some t → t.shown.conn ≡ Some j → (t.shown.counted ≡ false) ⊎ (length t.waiting ≢ MOST_UNACKNOWLEDGED)
         → (more : List (Out A)) × ((send say n a s).outs ≡ s.outs ++ Put j a ∷ more) }
-    ensures waits { (say : ItemOut → A) (n : ℕ) (a : A) (t : Session A) (s : Step A) → session_of n s.hall.sessions ≡ Some t → t.shown.counted ≡ true → length t.waiting ≢ MOST_UNACKNOWLEDGED
-        → (u : Session A) × (session_of n (send say n a s).hall.sessions ≡ Some u) × (u.waiting ≡ t.waiting ++ a ∷ []) }
-    ensures only { (say : ItemOut → A) (n : ℕ) (a : A) (t : Session A) (s : Step A) → session_of n s.hall.sessions ≡ Some t
+    ensures waits { (say : ItemOut → A) (n : ℕ) (a : A) (t : Session A) (s : Step A) → session_of n s.server_state.sessions ≡ Some t → t.shown.counted ≡ true → length t.waiting ≢ MOST_UNACKNOWLEDGED
+        → (u : Session A) × (session_of n (send say n a s).server_state.sessions ≡ Some u) × (u.waiting ≡ t.waiting ++ a ∷ []) }
+    ensures only { (say : ItemOut → A) (n : ℕ) (a : A) (t : Session A) (s : Step A) → session_of n s.server_state.sessions ≡ Some t
         → (more : List (Out A)) × ((send say n a s).outs ≡ s.outs ++ more) × All (IsOn t.shown.conn) more }
-    ensures others { (say : ItemOut → A) (m n : ℕ) (a : A) (t : Session A) (s : Step A) → session_of n s.hall.sessions ≡ Some t → (m == n) ≡ false → (t.shown.counted ≡ false) ⊎ (length t.waiting ≢ MOST_UNACKNOWLEDGED)
-        → session_of m (send say n a s).hall.sessions ≡ session_of m s.hall.sessions }
+    ensures others { (say : ItemOut → A) (m n : ℕ) (a : A) (t : Session A) (s : Step A) → session_of n s.server_state.sessions ≡ Some t → (m == n) ≡ false → (t.shown.counted ≡ false) ⊎ (length t.waiting ≢ MOST_UNACKNOWLEDGED)
+        → session_of m (send say n a s).server_state.sessions ≡ session_of m s.server_state.sessions }
 {}

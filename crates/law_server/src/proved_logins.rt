@@ -18,16 +18,16 @@ ghost use Rattle.xml_writer.specs.Items.{ItemOut};
 /// one has, as `Server::connect` requires; of an event in which memory ran out some first items took effect.
 pub fn sessions_are_of_proved_accounts<A>()
     ensures session { (say : ItemOut → A) (domain : List ℕ) (accounts : List Account) (keep : ℕ) (events : List Event) (k : ℕ) (t : Session A) → MayFollow say events (at_first domain accounts keep)
-        → session_at k (after_events say events (at_first domain accounts keep)).server.hall.sessions ≡ Some t → HasProved say accounts (at_first domain accounts keep) events k t.shown.account }
+        → session_at k (after_events say events (at_first domain accounts keep)).server.server_state.sessions ≡ Some t → HasProved say accounts (at_first domain accounts keep) events k t.shown.account }
     ensures restart { (say : ItemOut → A) (domain : List ℕ) (accounts : List Account) (keep : ℕ) (events : List Event) (k account : ℕ) (c : Connection) → MayFollow say events (at_first domain accounts keep)
-        → conn_at k (after_events say events (at_first domain accounts keep)).server.hall ≡ Some c → c.phase ≡ Restart account → HasProved say accounts (at_first domain accounts keep) events k account }
+        → conn_at k (after_events say events (at_first domain accounts keep)).server.server_state ≡ Some c → c.phase ≡ Restart account → HasProved say accounts (at_first domain accounts keep) events k account }
     ensures ready { (say : ItemOut → A) (domain : List ℕ) (accounts : List Account) (keep : ℕ) (events : List Event) (k account : ℕ) (c : Connection) → MayFollow say events (at_first domain accounts keep)
-        → conn_at k (after_events say events (at_first domain accounts keep)).server.hall ≡ Some c → c.phase ≡ Ready account → HasProved say accounts (at_first domain accounts keep) events k account }
+        → conn_at k (after_events say events (at_first domain accounts keep)).server.server_state ≡ Some c → c.phase ≡ Ready account → HasProved say accounts (at_first domain accounts keep) events k account }
 {}
 
 /// A law: servers are sound over any events, as `servers_stay_sound` says of each: the numbers of sessions rise, sessions and
 /// logins are of accounts that exist, and no archive gave a number above the greatest. So what is said of a server whose
 /// sessions have numbers of their own is said of each server.
-pub fn servers_are_sound_behind_events<A>()
-    ensures { (say : ItemOut → A) (domain : List ℕ) (accounts : List Account) (keep : ℕ) (events : List Event) → MayFollow say events (at_first domain accounts keep) → IsSound (after_events say events (at_first domain accounts keep)).server.hall }
+pub fn servers_are_sound_after_events<A>()
+    ensures { (say : ItemOut → A) (domain : List ℕ) (accounts : List Account) (keep : ℕ) (events : List Event) → MayFollow say events (at_first domain accounts keep) → IsSound (after_events say events (at_first domain accounts keep)).server.server_state }
 {}

@@ -1,7 +1,7 @@
 //! The laws.
 ghost use Rattle.std.specs.Prelude.{◌≡◌, ℕ, List, Option, IfSome};
 ghost use Rattle.srv_state.specs.Moments.{at_moment};
-ghost use Rattle.srv_state.specs.State.{Hall, Out, Step};
+ghost use Rattle.srv_state.specs.State.{Out, ServerState, Step};
 ghost use Rattle.xml_framer.specs.declared.items.Item.{Item};
 ghost use Rattle.srv_login.specs.declared.account.Account.{Account};
 ghost use Rattle.srv_core.specs.Configs.{at_start};
@@ -19,20 +19,20 @@ ghost use Rattle.xml_writer.specs.Items.{ItemOut};
 /// An item takes one message or none: the message that it is, of the session on its connection. Items, and the bytes of an
 /// event, take messages one after another. No other event takes one.
 pub fn archives_get_what_is_told<A>()
-    ensures item { (say : ItemOut → A) (k : ℕ) (i : Item) (s : Step A) → (taken : Option Taken) × HasTaken (at_most_one taken) s (after_item say k i s) × IfSome taken (IsTakenFrom k i s.hall) }
+    ensures item { (say : ItemOut → A) (k : ℕ) (i : Item) (s : Step A) → (taken : Option Taken) × HasTaken (at_most_one taken) s (after_item say k i s) × IfSome taken (IsTakenFrom k i s.server_state) }
     ensures items { (say : ItemOut → A) (k : ℕ) (items : List Item) (s : Step A) → (takes : List Taken) × HasTaken takes s (after_items say k items s) }
-    ensures bytes { (say : ItemOut → A) (k : ℕ) (piece : List ℕ) (now : ℕ) (w : Whole A) (outs : List (Out A)) → (takes : List Taken) × HasTaken takes (begun now w.hall outs) (after_bytes say k piece now w outs) }
-    ensures connect { (k : ℕ) (entropy : List ℕ) (now : ℕ) (w : Whole A) → (after_connect k entropy now w).hall.archives ≡ w.hall.archives }
-    ensures gone { (k now : ℕ) (w : Whole A) → (after_gone k now w).hall.archives ≡ w.hall.archives }
-    ensures moment { (now : ℕ) (h : Hall A) → (at_moment now h).archives ≡ h.archives }
+    ensures bytes { (say : ItemOut → A) (k : ℕ) (piece : List ℕ) (now : ℕ) (w : Whole A) (outs : List (Out A)) → (takes : List Taken) × HasTaken takes (begun now w.server_state outs) (after_bytes say k piece now w outs) }
+    ensures connect { (k : ℕ) (entropy : List ℕ) (now : ℕ) (w : Whole A) → (after_connect k entropy now w).server_state.archives ≡ w.server_state.archives }
+    ensures gone { (k now : ℕ) (w : Whole A) → (after_gone k now w).server_state.archives ≡ w.server_state.archives }
+    ensures moment { (now : ℕ) (h : ServerState A) → (at_moment now h).archives ≡ h.archives }
 {}
 
 /// A law: servers are sound. The numbers of sessions rise and are below the next one, sessions and logins are of
 /// accounts that exist, and no archive gave a number above the greatest: so it is at the start, and stays so at each
 /// event (at items and bytes: `HasTaken`).
 pub fn servers_stay_sound<A>()
-    ensures start { (domain : List ℕ) (accounts : List Account) (keep : ℕ) → IsSound (at_start {A = A} domain accounts keep).hall }
-    ensures connect { (k : ℕ) (entropy : List ℕ) (now : ℕ) (w : Whole A) → IsSound w.hall → IsSound (after_connect k entropy now w).hall }
-    ensures gone { (k now : ℕ) (w : Whole A) → IsSound w.hall → IsSound (after_gone k now w).hall }
-    ensures moment { (now : ℕ) (h : Hall A) → IsSound h → IsSound (at_moment now h) }
+    ensures start { (domain : List ℕ) (accounts : List Account) (keep : ℕ) → IsSound (at_start {A = A} domain accounts keep).server_state }
+    ensures connect { (k : ℕ) (entropy : List ℕ) (now : ℕ) (w : Whole A) → IsSound w.server_state → IsSound (after_connect k entropy now w).server_state }
+    ensures gone { (k now : ℕ) (w : Whole A) → IsSound w.server_state → IsSound (after_gone k now w).server_state }
+    ensures moment { (now : ℕ) (h : ServerState A) → IsSound h → IsSound (at_moment now h) }
 {}

@@ -12,16 +12,16 @@ use Rattle.law_xml.proofs.OffsetRuns.{fault_at_token}
 use Rattle.law_xml.proofs.OneHand.{markup_held, reference_held}
 use Rattle.law_xml.proofs.OneOffset.{one_offset}
 use Rattle.law_xml.proofs.RowsDecide.{rows_of_bytes}
-use Rattle.law_xml.proofs.RunPlaces.{no_fault_before, taken_pending}
+use Rattle.law_xml.proofs.RunPositions.{no_fault_before, taken_pending}
 use Rattle.law_xml.specs.ByteRows.{BangByteRow, ByteRow, DeclarationByteRow, EndInMarkup, EndInReference, InDeclaration, IsNotTooLong, OpensDeclaration, OpensSection, QuestionByteRow, ReferenceByteRow, after_bang, after_declaration, after_question, after_reference, broken_character, departing_name, is_malformed, names_encoding, no_character, no_section, no_space, no_xml, unknown_name}
 use Rattle.law_xml.specs.Hands.{AreKept, IsHolding}
 use Rattle.law_xml.specs.Offsets.{IsAtToken, IsOpen, character_left, first_of, leads_tag, open_declaration, opening_declaration, opening_section}
 use Rattle.law_xml.specs.Rows.{BangRow, DeclarationRow, QuestionRow, ReferenceRow, Row, TokenRow, bad_declaration, bad_reference, departing_declaration, departing_reference, departing_section, in_text_row, in_token_row, no_utf8, other_encoding, section_outside, too_long, unknown_reference, unspaced_declaration}
-use Rattle.law_xml.specs.Streams.{place_of}
+use Rattle.law_xml.specs.Streams.{position_of}
 use Rattle.xml_framer.specs.Machine.{is_too_long, run, step}
 use Rattle.xml_framer.specs.MarkupSteps.{ends_in_question}
 use Rattle.xml_framer.specs.Readings.{fault_of, framed}
-use Rattle.xml_framer.specs.States.{State, Turn, counted, from_start, is_text, moved, token_place, turn}
+use Rattle.xml_framer.specs.States.{State, Turn, counted, from_start, is_text, moved, token_position, turn}
 use Rattle.xml_framer.specs.declared.fault.Why.{Why}
 use Rattle.xml_framer.specs.declared.fault.Why.TheVariants as why
 use Rattle.xml_framer.specs.declared.limits.Limits.{Limits}
@@ -87,10 +87,10 @@ reference_kind mode.Section no_text e = absurd (sixty e)
 bang_kind : (m : Mode) (s : State) (more : List ℕ) → OpensSection more → is_text m ≡ false → first_of m ≡ 60 → AreKept m s more → m ≡ mode.Bang
 bang_kind mode.Text s more o no_text e k = absurd (false≢true (sym no_text))
 bang_kind mode.Reference s more o no_text e k = absurd (thirty e)
-bang_kind mode.Opening s more o no_text e k = absurd (some_none 33 o.behind (sym o.more_is ∙ k.1))
+bang_kind mode.Opening s more o no_text e k = absurd (some_none 33 o.following (sym o.more_is ∙ k.1))
 bang_kind mode.Bang s more o no_text e k = refl
-bang_kind mode.Question s more o no_text e k = absurd (bang_question (o.behind ++ k.1) (codes "xml") (ap (λ l. l ++ k.1) (sym o.more_is) ∙ sym k.2))
-bang_kind mode.Declaration s more o no_text e k = absurd (bang_question o.behind (codes "xml" ++ k.1 ∷ k.2) (sym o.more_is ∙ k.3))
+bang_kind mode.Question s more o no_text e k = absurd (bang_question (o.following ++ k.1) (codes "xml") (ap (λ l. l ++ k.1) (sym o.more_is) ∙ sym k.2))
+bang_kind mode.Declaration s more o no_text e k = absurd (bang_question o.following (codes "xml" ++ k.1 ∷ k.2) (sym o.more_is ∙ k.3))
 bang_kind mode.Tag s more o no_text e k = absurd (false≢true (subst (λ l. leads_tag l ≡ true) o.more_is k.1))
 bang_kind mode.Footer s more o no_text e k = absurd (false≢true (subst (λ l. leads_tag l ≡ true) o.more_is k.0))
 bang_kind mode.Section s more o no_text e k = absurd (no_tail k.0 o.next o.rest (ap (drop 8) (o.due ∙ ap (λ l. l ++ o.next ∷ o.rest) k.1)))
@@ -98,13 +98,13 @@ bang_kind mode.Section s more o no_text e k = absurd (no_tail k.0 o.next o.rest 
 question_kind : (m : Mode) (s : State) (more : List ℕ) → OpensDeclaration more → is_text m ≡ false → first_of m ≡ 60 → AreKept m s more → m ≡ mode.Question
 question_kind mode.Text s more o no_text e k = absurd (false≢true (sym no_text))
 question_kind mode.Reference s more o no_text e k = absurd (thirty e)
-question_kind mode.Opening s more o no_text e k = absurd (some_none 63 o.behind (sym o.more_is ∙ k.1))
-question_kind mode.Bang s more o no_text e k = absurd (bang_question (codes "[CDATA[") (o.behind ++ k.1) (k.2 ∙ ap (λ l. l ++ k.1) o.more_is))
+question_kind mode.Opening s more o no_text e k = absurd (some_none 63 o.following (sym o.more_is ∙ k.1))
+question_kind mode.Bang s more o no_text e k = absurd (bang_question (codes "[CDATA[") (o.following ++ k.1) (k.2 ∙ ap (λ l. l ++ k.1) o.more_is))
 question_kind mode.Question s more o no_text e k = refl
 question_kind mode.Declaration s more o no_text e k = absurd (some_none k.1 (k.2 ++ o.rest) (sym (ap (drop 4) (o.due ∙ ap (λ l. l ++ o.rest) k.3))))
 question_kind mode.Tag s more o no_text e k = absurd (false≢true (subst (λ l. leads_tag l ≡ true) o.more_is k.1))
 question_kind mode.Footer s more o no_text e k = absurd (false≢true (subst (λ l. leads_tag l ≡ true) o.more_is k.0))
-question_kind mode.Section s more o no_text e k = absurd (bang_question (codes "[CDATA[" ++ k.0) o.behind (sym k.1 ∙ o.more_is))
+question_kind mode.Section s more o no_text e k = absurd (bang_question (codes "[CDATA[" ++ k.0) o.following (sym k.1 ∙ o.more_is))
 
 declaration_kind : (m : Mode) (s : State) (more : List ℕ) → InDeclaration more → is_text m ≡ false → first_of m ≡ 60 → AreKept m s more → m ≡ mode.Declaration
 declaration_kind mode.Text s more o no_text e k = absurd (false≢true (sym no_text))
@@ -121,7 +121,7 @@ declaration_kind mode.Section s more o no_text e k = absurd (bang_question (code
 pub record Held (s : State) (m : Mode) (before more : List ℕ) : Type 0 where
   is : s.lexical.mode ≡ m
   no_text : is_text m ≡ false
-  at_is : s.places.token_at ≡ place_of (length before)
+  at_is : s.positions.token_at ≡ position_of (length before)
   kept : AreKept m s more
 
 module _ (limits : Limits) (bytes before more : List ℕ) (none : fault_of limits bytes ≡ None) where
@@ -205,20 +205,20 @@ module _ (limits : Limits) (bytes : List ℕ) (b at : ℕ) (w : Why) (none : fau
   pub near : IsNotTooLong limits bytes b → is_too_long here b ≡ false
   near short =
       ⊎_elim
-      (λ (far : is_too_long here b ≡ true). absurd (short here.places.item_at ((rows_of_bytes limits bytes b here.places.item_at why.TooLong none).1 (too_long here b here.places.item_at why.TooLong none far refl refl))))
+      (λ (far : is_too_long here b ≡ true). absurd (short here.positions.item_at ((rows_of_bytes limits bytes b here.positions.item_at why.TooLong none).1 (too_long here b here.positions.item_at why.TooLong none far refl refl))))
       (λ (e : is_too_long here b ≡ false). e) (cases_Bool (is_too_long here b))
 
   pub unbroken : continues (character_left [] bytes) b ≡ true → continues here.pending b ≡ true
   unbroken good = ap (λ l. continues l b) (pending_is limits bytes none) ∙ good
 
-  decides : (m : Mode) (before more : List ℕ) → is_too_long here b ≡ false → continues (character_left [] bytes) b ≡ true → Held here m before more → at ≡ place_of (length before) → TokenRow m here b w → Decided
-  decides m before more short good h place row =
+  decides : (m : Mode) (before more : List ℕ) → is_too_long here b ≡ false → continues (character_left [] bytes) b ≡ true → Held here m before more → at ≡ position_of (length before) → TokenRow m here b w → Decided
+  decides m before more short good h position row =
       (rows_of_bytes limits bytes b at w none).1
-      (in_token_row here b at w m (record { no_fault = none; mode_is = h.is; short = short; is_text = unbroken good }) h.no_text (place ∙ sym h.at_is) row)
+      (in_token_row here b at w m (record { no_fault = none; mode_is = h.is; short = short; is_text = unbroken good }) h.no_text (position ∙ sym h.at_is) row)
 
   -- a fault of a token in hand: the byte breaks a character, or a row of the token's kind says so
   told : (m : Mode) (before more : List ℕ) (C : Type 0) → Held here m before more → Decided → w ≢ why.TooLong → (continues (character_left [] bytes) b ≡ false → w ≡ why.Encoding → C)
-      → (continues (character_left [] bytes) b ≡ true → at ≡ place_of (length before) → TokenRow m here b w → C) → C
+      → (continues (character_left [] bytes) b ≡ true → at ≡ position_of (length before) → TokenRow m here b w → C) → C
   told m before more C h is other broken taken = by_row ((rows_of_bytes limits bytes b at w none).0 is)
     where
       by_row : Row here b at w → C
@@ -229,24 +229,24 @@ module _ (limits : Limits) (bytes : List ℕ) (b at : ℕ) (w : Why) (none : fau
           taken (ap (λ l. continues l b) (sym (pending_is limits bytes none)) ∙ k.is_text) (at_is ∙ h.at_is) (subst (λ j. TokenRow j here b w) (sym k.mode_is ∙ h.is) row)
 
   broken_decides : is_too_long here b ≡ false → continues (character_left [] bytes) b ≡ false → IsAtToken bytes b at → w ≡ why.Encoding → Decided
-  broken_decides short bad place w_is =
-      let n = token_place here in
+  broken_decides short bad position w_is =
+      let n = token_position here in
       let breaks = ap (λ l. continues l b) (pending_is limits bytes none) ∙ bad in
       let there = (rows_of_bytes limits bytes b n why.Encoding none).1 (no_utf8 here b n why.Encoding none short breaks refl refl) in
-      let same = one_offset bytes b at n place (token_there limits bytes b n why.Encoding none there not_long) in
+      let same = one_offset bytes b at n position (token_there limits bytes b n why.Encoding none there not_long) in
       (rows_of_bytes limits bytes b at w none).1 (no_utf8 here b at w none short breaks same w_is)
 
   pub near_decides : is_too_long here b ≡ false → ByteRow bytes b at w → Decided
-  near_decides short (broken_character _ _ _ _ bad place w_is) = broken_decides short bad place w_is
-  near_decides short (after_reference _ _ _ _ before name good e place row) =
+  near_decides short (broken_character _ _ _ _ bad position w_is) = broken_decides short bad position w_is
+  near_decides short (after_reference _ _ _ _ before name good e position row) =
       let h = reference_in limits bytes before name none e in
-      decides mode.Reference before name short good h place (to_reference here name b w h.kept.0 row)
-  near_decides short (after_bang _ _ _ _ before more good e o place row) =
-      let h = bang_in limits bytes before more none e o in decides mode.Bang before more short good h place (to_bang here (60 ∷ more) b w h.kept.0 row)
-  near_decides short (after_question _ _ _ _ before more good e o place row) =
-      let h = question_in limits bytes before more none e o in decides mode.Question before more short good h place (to_question here (60 ∷ more) b w h.kept.0 row)
-  near_decides short (after_declaration _ _ _ _ before more good e o place row) =
-      let h = declaration_in limits bytes before more none e o in decides mode.Declaration before more short good h place (to_declaration here (60 ∷ more) b w h.kept.0 row)
+      decides mode.Reference before name short good h position (to_reference here name b w h.kept.0 row)
+  near_decides short (after_bang _ _ _ _ before more good e o position row) =
+      let h = bang_in limits bytes before more none e o in decides mode.Bang before more short good h position (to_bang here (60 ∷ more) b w h.kept.0 row)
+  near_decides short (after_question _ _ _ _ before more good e o position row) =
+      let h = question_in limits bytes before more none e o in decides mode.Question before more short good h position (to_question here (60 ∷ more) b w h.kept.0 row)
+  near_decides short (after_declaration _ _ _ _ before more good e o position row) =
+      let h = declaration_in limits bytes before more none e o in decides mode.Declaration before more short good h position (to_declaration here (60 ∷ more) b w h.kept.0 row)
 
   pub row_decides : IsNotTooLong limits bytes b → ByteRow bytes b at w → Decided
   row_decides brief row = near_decides (near brief) row
@@ -272,23 +272,23 @@ module _ (limits : Limits) (bytes : List ℕ) (b at : ℕ) (w : Why) (none : fau
     reference_told before name e =
         let h = reference_in limits bytes before name none e in
         told mode.Reference before name (ByteRow bytes b at w) h is other broken_row
-        (λ good place row. after_reference bytes b at w before name good e place (of_reference here name b w h.kept.0 row))
+        (λ good position row. after_reference bytes b at w before name good e position (of_reference here name b w h.kept.0 row))
 
     pub bang_told : (before more : List ℕ) → EndInMarkup bytes before more → OpensSection more → length more < 7 → ByteRow bytes b at w
     bang_told before more e o few =
         let h = bang_in limits bytes before more none e o in
         let short : length (60 ∷ more) < 8 = omega (arith, few) in
         told mode.Bang before more (ByteRow bytes b at w) h is other broken_row
-        (λ good place row. after_bang bytes b at w before more good e o place (of_bang here (60 ∷ more) b w h.kept.0 short row))
+        (λ good position row. after_bang bytes b at w before more good e o position (of_bang here (60 ∷ more) b w h.kept.0 short row))
 
     pub question_told : (before more : List ℕ) → EndInMarkup bytes before more → OpensDeclaration more → ByteRow bytes b at w
     question_told before more e o =
         let h = question_in limits bytes before more none e o in
         told mode.Question before more (ByteRow bytes b at w) h is other broken_row
-        (λ good place row. after_question bytes b at w before more good e o place (of_question here (60 ∷ more) b w h.kept.0 row))
+        (λ good position row. after_question bytes b at w before more good e o position (of_question here (60 ∷ more) b w h.kept.0 row))
 
     pub declaration_told : (before more : List ℕ) → EndInMarkup bytes before more → InDeclaration more → ByteRow bytes b at w
     declaration_told before more e o =
         let h = declaration_in limits bytes before more none e o in
         told mode.Declaration before more (ByteRow bytes b at w) h is other broken_row
-        (λ good place row. after_declaration bytes b at w before more good e o place (of_declaration here (60 ∷ more) b w h.kept.0 row))
+        (λ good position row. after_declaration bytes b at w before more good e o position (of_declaration here (60 ∷ more) b w h.kept.0 row))

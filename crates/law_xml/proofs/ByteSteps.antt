@@ -21,9 +21,9 @@ abbrev pub LeavesRoom : ℕ → ℕ → ℕ → Type 0
 LeavesRoom used most n = (used ≡ 0) ⊎ ((used + n ≤ most) ⊎ ((used < 2 ^ 64) × (2 ^ 64 ≤ most)))
 
 abbrev pub Room : State → ℕ → Type 0
-Room s n = LeavesRoom s.places.used s.limits.bytes n
+Room s n = LeavesRoom s.positions.used s.limits.bytes n
 
-pub room : (s : State) (bytes : List ℕ) → s.places.used < 2 ^ 64 → HasRoom s bytes → Room s (length bytes)
+pub room : (s : State) (bytes : List ℕ) → s.positions.used < 2 ^ 64 → HasRoom s bytes → Room s (length bytes)
 room s bytes low h = ⊎_elim (λ below. inr (inl below)) (λ large. inr (inr (low, large))) h
 
 -- the count behind a byte
@@ -45,8 +45,8 @@ above_false a b h = false_from_ne_true (leb a b) (λ e. let le = leb-true a b e 
 pub short : (s : State) (b n : ℕ) → Room s (suc n) → is_too_long s b ≡ false
 unfolding is_too_long
 short s b n h =
-    ⊎_elim (λ (none : s.places.used ≡ 0). rw none refl)
-    (λ more. and_right _ _ (and_left (leb s.limits.bytes s.places.used) _ (above_false s.limits.bytes s.places.used (⊎_elim (λ below. omega (arith, below)) (λ large. let low = large.0 in let high = large.1 in omega (arith, low, high)) more))))
+    ⊎_elim (λ (none : s.positions.used ≡ 0). rw none refl)
+    (λ more. and_right _ _ (and_left (leb s.limits.bytes s.positions.used) _ (above_false s.limits.bytes s.positions.used (⊎_elim (λ below. omega (arith, below)) (λ large. let low = large.0 in let high = large.1 in omega (arith, low, high)) more))))
     h
 
 -- ---- what stays the same
@@ -54,10 +54,10 @@ short s b n h =
 -- behind this many bytes
 pub record Kept (s t : State) (n : ℕ) : Type 0 where
   pub alike : AreAlike s t
-  pub item_at : t.places.item_at ≡ s.places.item_at
-  pub used : t.places.used ≤ s.places.used + n
-  pub counted : s.places.used < 2 ^ 64 → t.places.used < 2 ^ 64
-  pub uncounted : s.places.used ≡ 0 → t.places.used ≡ 0
+  pub item_at : t.positions.item_at ≡ s.positions.item_at
+  pub used : t.positions.used ≤ s.positions.used + n
+  pub counted : s.positions.used < 2 ^ 64 → t.positions.used < 2 ^ 64
+  pub uncounted : s.positions.used ≡ 0 → t.positions.used ≡ 0
 
 pub alike_same : (s : State) → AreAlike s s
 alike_same s = record { limits = refl; here = refl; below = refl; scopes = refl; name = refl; phase = refl; spent = refl }
@@ -76,12 +76,12 @@ alike_then s t u a b = record {
 pub kept_none : (s : State) → Kept s s 0
 kept_none s = record { alike = alike_same s; item_at = refl; used = omega arith; counted = λ h. h; uncounted = λ h. h }
 
-pub kept_one : (s t : State) → AreAlike s t → t.places.item_at ≡ s.places.item_at → t.places.used ≡ one_more s.places.used → Kept s t 1
+pub kept_one : (s t : State) → AreAlike s t → t.positions.item_at ≡ s.positions.item_at → t.positions.used ≡ one_more s.positions.used → Kept s t 1
 kept_one s t a at used = record {
   alike = a;
   item_at = at;
-  used = subst (λ n. n ≤ s.places.used + 1) (sym used) (one_more_up s.places.used);
-  counted = λ h. subst (λ n. n < 2 ^ 64) (sym used) (one_more_low s.places.used);
+  used = subst (λ n. n ≤ s.positions.used + 1) (sym used) (one_more_up s.positions.used);
+  counted = λ h. subst (λ n. n < 2 ^ 64) (sym used) (one_more_low s.positions.used);
   uncounted = λ none. used ∙ ap one_more none;
 }
 
@@ -153,7 +153,7 @@ pub record InToken (s : State) (m : Mode) (token held chars : List ℕ) : Type 0
   pub no_quote : s.lexical.quote ≡ None
   pub not_spoiled : s.lexical.spoiled ≡ false
   pub chars_are : s.chars ≡ chars
-  pub counted : s.places.used < 2 ^ 64
+  pub counted : s.positions.used < 2 ^ 64
 
 -- a byte more in the token
 pub in_token_more : (s : State) (m : Mode) (token held chars : List ℕ) (b : ℕ) (next : List ℕ) → InToken s m token held chars → utf8_next held b ≡ Some next
@@ -166,7 +166,7 @@ in_token_more s m token held chars b next h e = record {
   no_quote = h.no_quote;
   not_spoiled = h.not_spoiled;
   chars_are = h.chars_are;
-  counted = one_more_low s.places.used;
+  counted = one_more_low s.positions.used;
 }
 
 -- what stays the same where a byte is only added to the token

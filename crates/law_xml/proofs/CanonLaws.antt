@@ -26,7 +26,7 @@ use Rattle.law_xml.specs.Spells.{IsBegun, Spells, SpellsContent, SpellsTop, bind
 use Rattle.law_xml.specs.Texts.{IsText}
 use Rattle.xml_trees.specs.Tidied.{text_node}
 use Rattle.xml_trees.specs.Trees.{AreTidy, Elem, IsTree, Nodes, element, no_nodes, child, text, joined}
-use Rattle.law_xml.proofs.SpelledAttributes.{Above, Apart, ArePlain, Fine, all_fine, all_may, all_said, binds_one, default_first, expanded, here_bound, is_no_other, name_differs, names_apart, outer_bound}
+use Rattle.law_xml.proofs.SpelledAttributes.{Above, Apart, ArePlain, Bounded, all_bounded, all_may, all_said, binds_one, default_first, expanded, here_bound, is_no_other, name_differs, names_apart, outer_bound}
 use Rattle.law_xml.proofs.SpelledNames.{differ, name_no_colon, name_qualified, numbered_prefix, prefixed_qualified, stream_plain, xml_plain, xmlns_plain}
 use Rattle.law_xml.proofs.SpelledTexts.{no_text, text_spelled}
 
@@ -40,7 +40,7 @@ assigned : (name raw rest : List ℕ) → (32 ∷ (name ++ (61 ∷ 39 ∷ (raw +
 assigned name raw rest =
     ap (λ l. 32 ∷ l) (append_assoc name (61 ∷ 39 ∷ (raw ++ (39 ∷ []))) rest ∙ ap (λ l. name ++ (61 ∷ 39 ∷ l)) (append_assoc raw (39 ∷ []) rest))
 
-one_attribute : (a : tokens.Attribute) (rest : List ℕ) → Fine a → IsAttribute (assignment a ++ rest) a rest
+one_attribute : (a : tokens.Attribute) (rest : List ℕ) → Bounded a → IsAttribute (assignment a ++ rest) a rest
 unfolding assignment
 one_attribute a rest h = (
   spelled_value a.value,
@@ -61,7 +61,7 @@ one_attribute a rest h = (
   is_value (spelled_value a.value) a.value (value_is_read_back a.value h.value.utf8 h.value.characters),
 )
 
-pub attributes_spelled : (xs : List tokens.Attribute) (rest : List ℕ) → AllByRecursion Fine xs → AreAttributes (assignments xs ++ rest) xs rest
+pub attributes_spelled : (xs : List tokens.Attribute) (rest : List ℕ) → AllByRecursion Bounded xs → AreAttributes (assignments xs ++ rest) xs rest
 attributes_spelled [] rest h = refl
 attributes_spelled (a ∷ xs) rest h = (
   assignments xs ++ rest,
@@ -77,7 +77,7 @@ pub record InForce (scope : Scope) (d : List ℕ) : Type 0 where
   pub stream : bound scope (codes "stream") ≡ Some streams_namespace
 
 record Tagged (scope : Scope) (d ns : List ℕ) (attrs : List Attribute) (xs : List tokens.Attribute) : Type 0 where
-  fine : AllByRecursion Fine xs
+  bounded : AllByRecursion Bounded xs
   distinct : Apart (names_of xs)
   may : AllByRecursion MayDeclare (bindings_of xs)
   inside : InForce (bindings_of xs ++ scope) (default_inside d ns)
@@ -104,7 +104,7 @@ unfolding bound
 kept_default scope d ns name attrs f plain sorted same =
     let xs = spelled_attributes 0 attrs in
     record {
-      fine = all_fine 0 attrs plain;
+      bounded = all_bounded 0 attrs plain;
       distinct = names_apart 0 attrs plain sorted;
       may = all_may 0 attrs plain;
       inside = record {
@@ -137,7 +137,7 @@ new_default scope d ns name attrs f h plain sorted new other =
     let b : bind [] ns ∷ bindings_of xs ≡ bindings_of (x ∷ xs) = sym (default_is_declared ns xs) in
     let stream_is : first_bound (bind [] ns ∷ (bindings_of xs ++ scope)) (codes "stream") ≡ Some streams_namespace = outer_bound 0 attrs plain (codes "stream") scope stream_no_number ∙ f.stream in
     record {
-      fine = (record { name = xmlns_qualified; value = h.characters }, all_fine 0 attrs plain);
+      bounded = (record { name = xmlns_qualified; value = h.characters }, all_bounded 0 attrs plain);
       distinct = default_first 0 attrs plain sorted;
       may = subst (AllByRecursion MayDeclare) b (default_may ns name h other, all_may 0 attrs plain);
       inside = subst (λ bs. InForce (bs ++ scope) (default_inside d ns)) b (record { default = ap (λ o. unwrap_or o []) (here_bound [] ns (bindings_of xs ++ scope)) ∙ sym new; stream = stream_is });
@@ -251,7 +251,7 @@ started scope d ns name attrs f h plain sorted =
           space = [];
           bytes_are = ap (λ l. 60 ∷ l) (append_assoc (spelled_name ns name) (assignments xs) (tag_end ends));
           name_is = p.qualified;
-          inside_is = attributes_spelled xs (tag_end ends) t.fine;
+          inside_is = attributes_spelled xs (tag_end ends) t.bounded;
           space_white = refl;
           distinct = t.distinct;
         };

@@ -21,7 +21,7 @@ use Rattle.law_xml.proofs.ElementStates.{HasBegun, IsCovered, opened, room_front
 use Rattle.law_xml.proofs.ElementTags.{MayBegin}
 use Rattle.law_xml.proofs.ItemRuns.{quiet_there}
 use Rattle.law_xml.proofs.Quiet.{HasRoom, IsQuiet}
-use Rattle.law_xml.proofs.StreamRuns.{IsBehind, stream_reads}
+use Rattle.law_xml.proofs.StreamRuns.{IsAfter, stream_reads}
 use Rattle.law_xml.specs.Contexts.{AreOpen, Context, HasContext, OpensElement}
 use Rattle.law_xml.specs.Spells.{IsBegun, IsHeaderName}
 use Rattle.law_xml.specs.Standing.{StandsOutside}
@@ -70,7 +70,7 @@ record Reached (from : State) (items : List Item) (names : List (List ℕ)) (sco
   phase_is : there.lexical.phase ≡ from.lexical.phase
   name_is : there.name ≡ from.name
   may_cover : IsCovered there.here there.below
-  used : there.places.used ≤ from.places.used + length bytes
+  used : there.positions.used ≤ from.positions.used + length bytes
 
 -- a start tag may stand there
 may_stand : (s : State) (outer : List (List ℕ)) (ns name : List ℕ) → opens_of s.here s.below ≡ outer → IsCovered s.here s.below → s.lexical.phase ≡ phase.Between → (outer ≡ [] → ¬ (IsHeaderName ns name)) → MayBegin s ns name
@@ -84,7 +84,7 @@ element_of tag kids = element tag.ns tag.name (sorted_attributes (map attribute_
 is_begun : (tag : Tag) (kids : Nodes) → IsBegun tag kids (element_of tag kids)
 is_begun tag kids = record { attributes = sorted_attributes (map attribute_of tag.attributes); sorted = sorted_attributes_IsAttrsOf (map attribute_of tag.attributes); is = refl }
 
-module _ (limits : Limits) (from : State) (items : List Item) (same : from.limits ≡ limits) (unused : from.places.used ≡ 0) (between : from.lexical.phase ≡ phase.Between) where
+module _ (limits : Limits) (from : State) (items : List Item) (same : from.limits ≡ limits) (unused : from.positions.used ≡ 0) (between : from.lexical.phase ≡ phase.Between) where
   -- one element more
   module _ (outer : List (List ℕ)) (around scope : Scope) (name front level bytes : List ℕ) (r : Reached from items outer around front) (e : OpensElement limits outer around scope name level) (are : bytes ≡ front ++ level) where
     abbrev s : State
@@ -96,8 +96,8 @@ module _ (limits : Limits) (from : State) (items : List Item) (same : from.limit
     has_room : length bytes ≤ limits.bytes → HasRoom s (e.start ++ e.inside)
     has_room short =
         let used = r.used in
-        let fits : s.places.used + length level ≤ limits.bytes = omega (arith, used, unused, short, ap length are, length-append front level) in
-        subst (HasRoom s) e.bytes_are (inl (subst (λ (l : Limits). s.places.used + length level ≤ l.bytes) (sym there) fits))
+        let fits : s.positions.used + length level ≤ limits.bytes = omega (arith, used, unused, short, ap length are, length-append front level) in
+        subst (HasRoom s) e.bytes_are (inl (subst (λ (l : Limits). s.positions.used + length level ≤ l.bytes) (sym there) fits))
 
     is_shallow : open_count s + depth (element_of e.tag e.kids) ≤ s.limits.depth
     is_shallow =
@@ -109,9 +109,9 @@ module _ (limits : Limits) (from : State) (items : List Item) (same : from.limit
     scope_inside : (u : State) → HasBegun s u e.start e.tag → scope_in u.scopes ≡ e.tag.bindings ++ around
     scope_inside u has = ap scope_in has.scopes ∙ ap (λ c. e.tag.bindings ++ c) r.scope_is
 
-    behind_content : (u t : State) → HasBegun s u e.start e.tag → HasRead u t (opened e.tag) e.inside e.kids → run (turn s items) e.start ≡ turn u items → run (turn u items) e.inside ≡ turn t items
+    after_content : (u t : State) → HasBegun s u e.start e.tag → HasRead u t (opened e.tag) e.inside e.kids → run (turn s items) e.start ≡ turn u items → run (turn u items) e.inside ≡ turn t items
         → Reached from items (name ∷ outer) scope bytes
-    behind_content u t has read start_run inside_run =
+    after_content u t has read start_run inside_run =
         let name_there : read.inner.spelled ≡ name = ap (λ (o : OpenElement). o.spelled) read.holds ∙ e.name_is in
         let below_there : names_of t.below ≡ outer = ap names_of (read.below ∙ has.below) ∙ covered_names s.here s.chars s.below r.may_cover ∙ r.names_are in
         let used = r.used in
@@ -130,14 +130,14 @@ module _ (limits : Limits) (from : State) (items : List Item) (same : from.limit
           used = omega (arith, used, more, most, ap length are, length-append front level, ap length e.bytes_are, length-append e.start e.inside);
         }
 
-    behind_start : (u : State) → HasBegun s u e.start e.tag → run (turn s items) e.start ≡ turn u items → length bytes ≤ limits.bytes → Reached from items (name ∷ outer) scope bytes
-    behind_start u has start_run short =
+    after_start : (u : State) → HasBegun s u e.start e.tag → run (turn s items) e.start ≡ turn u items → length bytes ≤ limits.bytes → Reached from items (name ∷ outer) scope bytes
+    after_start u has start_run short =
         let left = room_rest s u e.start e.inside has.limits has.used (has_room short) in
         let tags : AreTagsWithinContent (tag_limits u.limits) (e.tag.bindings ++ around) e.inside e.kids e.content =
         subst (λ l. AreTagsWithinContent (tag_limits l) (e.tag.bindings ++ around) e.inside e.kids e.content) (sym (has.limits ∙ there)) e.tags_within in
         let deep = deeper_in s u e.start e.tag e.kids (element_of e.tag e.kids) r.may_cover (is_begun e.tag e.kids) has is_shallow in
         let more = content_read (e.tag.bindings ++ around) e.inside e.kids e.content u items (opened e.tag) has.fresh has.here has.no_chars (scope_inside u has) left tags deep in
-        behind_content u more.0 has more.2 start_run more.1
+        after_content u more.0 has more.2 start_run more.1
 
     level_reached : length bytes ≤ limits.bytes → Reached from items (name ∷ outer) scope bytes
     level_reached short =
@@ -146,7 +146,7 @@ module _ (limits : Limits) (from : State) (items : List Item) (same : from.limit
         let within : IsWithin (tag_limits s.limits) e.raw e.tag = subst (λ l. IsWithin (tag_limits l) e.raw e.tag) (sym there) e.tag_within in
         let may = may_stand s outer (namespace_of elem) (name_of elem) r.names_are r.may_cover (r.phase_is ∙ between) e.no_header in
         let first = level_read s items e.start e.raw e.tag e.kids elem start e.not_empty (is_begun e.tag e.kids) r.quiet (room_front s e.start e.inside (has_room short)) within is_shallow may in
-        behind_start first.0 first.2 first.1 short
+        after_start first.0 first.2 first.1 short
 
 first_reached : (from : State) (items : List Item) (base scope : Scope) (name bytes : List ℕ) → StandsOutside from phase.Between base name → scope ≡ base → bytes ≡ [] → Reached from items [] scope bytes
 first_reached from items base scope name bytes stands same none = record {
@@ -180,19 +180,19 @@ context_is limits c bytes h =
     let start = turn (from_start limits) [] in
     let r = stream_reads limits h.now h.done h.items h.stream h.within in
     let from = r.0 in
-    let there : IsBehind (from_start limits) from [] h.items h.done h.now.phase h.now.scope h.now.name = r.1 in
+    let there : IsAfter (from_start limits) from [] h.items h.done h.now.phase h.now.scope h.now.name = r.1 in
     ⊎_elim
     (λ (none : c.opens ≡ []).
     let open_none = subst (λ l. AreOpen limits h.now.scope l c.scope h.opened) none h.are_open in
     let whole : bytes ≡ h.done ++ [] = h.bytes_are ∙ ap (λ l. h.done ++ l) open_none.1 in
-    let behind : run start bytes ≡ turn from h.items = split_run start (turn from h.items) (turn from h.items) bytes h.done [] whole there.run_is refl in
-    ap (λ (u : Turn). context_of u.state) behind
+    let following : run start bytes ≡ turn from h.items = split_run start (turn from h.items) (turn from h.items) bytes h.done [] whole there.run_is refl in
+    ap (λ (u : Turn). context_of u.state) following
     ∙ one_context (context_of from) c (there.stands.phase_is ∙ h.phase_is) (there.stands.name_is ∙ h.name_is) (ap (λ o. opens_of o from.below) there.stands.outside ∙ sym none) (there.stands.scope_is ∙ sym open_none.0))
     (λ (between : c.phase ≡ phase.Between).
     let stands : StandsOutside from phase.Between h.now.scope h.now.name = subst (λ p. StandsOutside from p h.now.scope h.now.name) (h.phase_is ∙ between) there.stands in
     let q = levels_reached limits from h.items h.now.scope h.now.name there.limits stands c.opens c.scope h.opened h.are_open h.short in
-    let behind : run start bytes ≡ turn q.there h.items = split_run start (turn from h.items) (turn q.there h.items) bytes h.done h.opened h.bytes_are there.run_is q.run_is in
-    ap (λ (u : Turn). context_of u.state) behind
+    let following : run start bytes ≡ turn q.there h.items = split_run start (turn from h.items) (turn q.there h.items) bytes h.done h.opened h.bytes_are there.run_is q.run_is in
+    ap (λ (u : Turn). context_of u.state) following
     ∙ one_context (context_of q.there) c (q.phase_is ∙ stands.phase_is ∙ sym between) (q.name_is ∙ stands.name_is ∙ h.name_is) q.names_are q.scope_is)
     h.between
 
@@ -201,7 +201,7 @@ pub stands_there : (limits : Limits) (c : Context) (bytes : List ℕ) (h : HasCo
 stands_there limits c bytes h none =
     let start = turn (from_start limits) [] in
     let r = stream_reads limits h.now h.done h.items h.stream h.within in
-    let there : IsBehind (from_start limits) r.0 [] h.items h.done h.now.phase h.now.scope h.now.name = r.1 in
+    let there : IsAfter (from_start limits) r.0 [] h.items h.done h.now.phase h.now.scope h.now.name = r.1 in
     let open_none = subst (λ l. AreOpen limits h.now.scope l c.scope h.opened) none h.are_open in
     let whole : bytes ≡ h.done ++ [] = h.bytes_are ∙ ap (λ l. h.done ++ l) open_none.1 in (
       r.0,

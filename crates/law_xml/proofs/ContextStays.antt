@@ -10,7 +10,7 @@ use Rattle.xml_framer.specs.States.{Turn, from_start, is_text, turn}
 use Rattle.xml_framer.specs.declared.limits.Limits.{Limits}
 use Rattle.law_xml.proofs.ContextsTold.{context_of}
 use Rattle.law_xml.proofs.OneHand.{markup_held, text_read}
-use Rattle.law_xml.proofs.RunPlaces.{no_fault_before}
+use Rattle.law_xml.proofs.RunPositions.{no_fault_before}
 use Rattle.law_xml.proofs.TokenStays.{Same, text_keeps, token_keeps}
 use Rattle.law_xml.specs.Offsets.{AreBefore, AreTokens, IsOpen, IsRun, has_declaration_end, is_no_markup, is_open_tag, leads_tag, open_declaration, open_section, open_tag, opening_declaration, opening_section}
 use Rattle.law_xml.specs.Texts.{has_section_end}
@@ -142,7 +142,7 @@ module _ (limits : Limits) (before : List ℕ) where
       let start : NoFault limits before = none_before limits before (60 ∷ more) none in
       let is = at_more limits before 60 in
       let one = text_keeps (at limits before) 60 (ap (λ (u : Turn). u.state.fault) (sym is) ∙ first) (before_is_text start ahead) in
-      markup_along (λ p t. Same (at limits before).state t.state) (λ p b t h fine goes_on. token_keeps t b fine goes_on ∙ h) ahead [] more none opens (ap (λ (u : Turn). context_of u.state) is ∙ one)
+      markup_along (λ p t. Same (at limits before).state t.state) (λ p b t h bounded goes_on. token_keeps t b bounded goes_on ∙ h) ahead [] more none opens (ap (λ (u : Turn). context_of u.state) is ∙ one)
 
   pub text_same : (text : List ℕ) → NoFault limits (before ++ text) → AreTokens before → IsRun text → SameAt limits before (before ++ text)
   text_same text none tokens plain = text_along tokens [] text none plain ∙ ap (λ l. context_of (at limits l).state) (append-nil before)

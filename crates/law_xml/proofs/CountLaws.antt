@@ -20,7 +20,7 @@ use Rattle.law_xml.proofs.FaultLaws.{broken, goes, long}
 use Rattle.law_xml.specs.FaultRows.{Counts, Takes, has_limit, is_in_hand, is_limited, is_outer, may_stand}
 use Rattle.xml_framer.specs.Machine.{is_too_long, step, taken_in}
 use Rattle.xml_framer.specs.MarkupSteps.{declares, ends_in_question, in_bang, in_declaration, in_phase, in_question, section_opened}
-use Rattle.xml_framer.specs.States.{OpenElement, State, Turn, counted, gathered, gathered_in, gives, in_mode, in_run, item_ended, may_declare, moved, next_place, run_begun, token_begun, token_ended, token_fails}
+use Rattle.xml_framer.specs.States.{OpenElement, State, Turn, counted, gathered, gathered_in, gives, in_mode, in_run, item_ended, may_declare, moved, next_position, run_begun, token_begun, token_ended, token_fails}
 use Rattle.xml_framer.specs.TagSteps.{added_to, begun, closed, closed_open, element_from, ends, ends_stream, footer_closes, footer_gathered, header_tag, heads, in_footer, in_opening, in_tag, is_header, is_spelled, is_too_deep, joined_text, leaf, level, misplaced, shallower, starts, tag_anew, tag_closes, tag_gathered, tag_here, tag_in, tag_inside, tag_outside, unlimited}
 use Rattle.xml_framer.specs.TextSteps.{between, bracket_taken, character_taken, ends_section, in_reference, in_section, in_text, inside, is_forbidden, judged_section, judged_text, markup_begun, other_taken, refers, section_taken, text_inside}
 use Rattle.xml_trees.specs.Trees.{Elem}
@@ -34,7 +34,7 @@ use Rattle.xml_framer.specs.declared.states.Phase.TheVariants as phase
 
 -- the count and the first byte's place stay
 abbrev Same : State → State → Type 0
-Same s u = (u.places.used ≡ s.places.used) × (u.places.item_at ≡ s.places.item_at)
+Same s u = (u.positions.used ≡ s.positions.used) × (u.positions.item_at ≡ s.positions.item_at)
 
 -- they stay where something with a limit is still in hand
 abbrev Keeps : State → State → Type 0
@@ -43,7 +43,7 @@ Keeps s u = has_limit u ≡ true → Same s u
 abbrev KeepsTurn : State → Turn → Type 0
 KeepsTurn s t = Keeps s t.state
 
-kept : (s u : State) → u.places ≡ s.places → Keeps s u
+kept : (s u : State) → u.positions ≡ s.positions → Keeps s u
 kept s u e h = (ap (λ p. p.used) e, ap (λ p. p.item_at) e)
 
 either : (s u v : State) (b : Bool) → Keeps s u → Keeps s v → Keeps s (if b then u else v)
@@ -60,9 +60,9 @@ by_test s u v false x y = y refl
 
 -- ---- texts, sections and references
 
-run_places : (b : Bool) (s : State) → Same s (if b then s else run_begun s)
-run_places true s = (refl, refl)
-run_places false s = (refl, refl)
+run_positions : (b : Bool) (s : State) → Same s (if b then s else run_begun s)
+run_positions true s = (refl, refl)
+run_positions false s = (refl, refl)
 
 markup_keeps : (s : State) → is_some s.here ≡ true → Keeps s (markup_begun s)
 markup_keeps s inner h = (rw inner refl, rw inner refl)
@@ -71,7 +71,7 @@ text_keeps : (s : State) (b : ℕ) → Keeps s (text_inside s b)
 unfolding text_inside
 text_keeps s b =
     let begun = in_run s in
-    let same = run_places s.lexical.in_run s in
+    let same = run_positions s.lexical.in_run s in
     either s (judged_text begun b) begun (ends_character s.pending b)
     (either s (token_fails begun why.NotWellFormed) (character_taken begun b) (is_forbidden begun b || ends_section begun b)
     (λ h. same) (λ h. same))
@@ -241,7 +241,7 @@ in_footer_keeps t b outer =
 unlimited_keeps : (s : State) (m : Mode) (b : ℕ) → is_limited m ≡ false → Keeps s (gathered_in (unlimited s) m b)
 unlimited_keeps s m b other =
     ⊎_elim (λ (inner : is_some s.here ≡ true). rw inner (λ h. (refl, refl)))
-    (λ (outer : is_some s.here ≡ false). rw outer (over s (gathered_in (record s { places = record s.places { used = 0 } }) m b) outer other))
+    (λ (outer : is_some s.here ≡ false). rw outer (over s (gathered_in (record s { positions = record s.positions { used = 0 } }) m b) outer other))
     (cases_Bool (is_some s.here))
 
 opening_keeps : (t : Turn) (b : ℕ) → KeepsTurn t.state (in_opening t b)
@@ -301,19 +301,19 @@ takes t b none =
 positive : (n : ℕ) → 0 < n → (n == 0) ≡ false
 positive n h = grind (arith, nat_tests)
 
-pub more : (t : Turn) (b : ℕ) → is_in_hand t.state ≡ true → may_stand t.state ≡ true → 0 < t.state.places.used → (step t b).state.fault ≡ None → has_limit (step t b).state ≡ true → Counts t.state (step t b).state
+pub more : (t : Turn) (b : ℕ) → is_in_hand t.state ≡ true → may_stand t.state ≡ true → 0 < t.state.positions.used → (step t b).state.fault ≡ None → has_limit (step t b).state ≡ true → Counts t.state (step t b).state
 more t b hand stands some none limited =
     let goes_on = goes t t.state.lexical.mode b (takes t b none) in
     let same = mode_keeps t.state.lexical.mode (moved t (counted t.state)) b refl hand stands (subst (λ u. has_limit u.state ≡ true) goes_on limited) in
-    let one : (counted t.state).places.used ≡ next_place t.state.places.used = rw (positive t.state.places.used some) refl in
-    record { used = ap (λ u. u.state.places.used) goes_on ∙ same.0 ∙ one; item_at = ap (λ u. u.state.places.item_at) goes_on ∙ same.1 }
+    let one : (counted t.state).positions.used ≡ next_position t.state.positions.used = rw (positive t.state.positions.used some) refl in
+    record { used = ap (λ u. u.state.positions.used) goes_on ∙ same.0 ∙ one; item_at = ap (λ u. u.state.positions.item_at) goes_on ∙ same.1 }
 
-begins : (s : State) → is_some s.here ≡ false → ((in_text s 60).places.used ≡ 1) × ((in_text s 60).places.item_at ≡ s.places.at)
+begins : (s : State) → is_some s.here ≡ false → ((in_text s 60).positions.used ≡ 1) × ((in_text s 60).positions.item_at ≡ s.positions.at)
 unfolding in_text between
 begins s outer = (rw outer refl, rw outer refl)
 
-pub first : (t : Turn) → Takes t.state mode.Text 60 → is_some t.state.here ≡ false → ((step t 60).state.places.used ≡ 1) × ((step t 60).state.places.item_at ≡ t.state.places.at)
+pub first : (t : Turn) → Takes t.state mode.Text 60 → is_some t.state.here ≡ false → ((step t 60).state.positions.used ≡ 1) × ((step t 60).state.positions.item_at ≡ t.state.positions.at)
 first t h outer =
     let goes_on = goes t mode.Text 60 h in
     let same = begins (counted t.state) outer in
-    (ap (λ u. u.state.places.used) goes_on ∙ same.0, ap (λ u. u.state.places.item_at) goes_on ∙ same.1)
+    (ap (λ u. u.state.positions.used) goes_on ∙ same.0, ap (λ u. u.state.positions.item_at) goes_on ∙ same.1)

@@ -17,11 +17,11 @@ use Rattle.xml_tokens.specs.declared.references.Reference.{Reference}
 use Rattle.xml_tokens.specs.declared.references.Reference.TheVariants as reference
 use Rattle.law_xml.proofs.CountLaws.{first, inside_in, more, outside_in, takes}
 use Rattle.law_xml.proofs.FaultLaws.{goes}
-use Rattle.law_xml.proofs.RunPlaces.{no_fault_before, step_place}
+use Rattle.law_xml.proofs.RunPositions.{no_fault_before, step_position}
 use Rattle.law_xml.specs.FaultRows.{Takes, has_limit, is_in_hand, is_limited, is_outer, may_stand}
 use Rattle.xml_framer.specs.Machine.{run, step, taken_in}
 use Rattle.xml_framer.specs.MarkupSteps.{declares, ends_in_question, in_bang, in_declaration, in_phase, in_question, section_opened}
-use Rattle.xml_framer.specs.States.{OpenElement, State, Turn, admits_declaration, counted, fails, from_start, gathered, gathered_in, gives, in_mode, in_run, is_text, item_ended, may_declare, moved, next_place, run_begun, token_begun, token_ended, token_fails, turn}
+use Rattle.xml_framer.specs.States.{OpenElement, State, Turn, admits_declaration, counted, fails, from_start, gathered, gathered_in, gives, in_mode, in_run, is_text, item_ended, may_declare, moved, next_position, run_begun, token_begun, token_ended, token_fails, turn}
 use Rattle.xml_framer.specs.TagSteps.{added_to, begun, closed, closed_open, element_from, ends, ends_stream, footer_closes, footer_gathered, header_tag, heads, in_footer, in_opening, in_tag, is_header, is_spelled, is_too_deep, joined_text, leaf, level, misplaced, shallower, starts, tag_anew, tag_closes, tag_gathered, tag_here, tag_in, tag_inside, tag_outside, unlimited}
 use Rattle.xml_framer.specs.TextSteps.{between, bracket_taken, character_begun, character_taken, ends_section, in_reference, in_section, in_text, inside, is_forbidden, judged_outside, judged_section, judged_text, markup_begun, other_taken, refers, section_taken, text_inside, text_outside}
 use Rattle.xml_trees.specs.Trees.{Elem}
@@ -64,7 +64,7 @@ run_stands false s p = p
 markup_stands : (s : State) → Stands (markup_begun s)
 markup_stands s = each (is_some s.here)
   where
-    each : (b : Bool) → Stands (gathered (if b then token_begun s mode.Opening else record (token_begun s mode.Opening) { places = record (token_begun s mode.Opening).places { item_at = s.places.at; used = 1 } }) 60)
+    each : (b : Bool) → Stands (gathered (if b then token_begun s mode.Opening else record (token_begun s mode.Opening) { positions = record (token_begun s mode.Opening).positions { item_at = s.positions.at; used = 1 } }) 60)
     each true = free (is_some s.here)
     each false = free (is_some s.here)
 
@@ -83,12 +83,12 @@ unfolding between text_outside
 outer_stands s b p =
     let begun = in_run s in
     let same = run_stands s.lexical.in_run s p in
-    let other = (if b == 38 then fails s s.places.at why.NotWellFormed else text_outside s b) in
+    let other = (if b == 38 then fails s s.positions.at why.NotWellFormed else text_outside s b) in
     pick (markup_begun s) other (b == 60) (markup_stands s)
-    (pick (fails s s.places.at why.NotWellFormed) (text_outside s b) (b == 38) p
+    (pick (fails s s.positions.at why.NotWellFormed) (text_outside s b) (b == 38) p
     (pick (judged_outside begun b) (character_begun begun) (ends_character s.pending b)
     (pick begun (token_fails begun why.NotWellFormed) (is_white b) same same)
-    (pick (record begun { places = record begun.places { item_at = begun.places.at } }) begun (is_empty begun.pending) same same)))
+    (pick (record begun { positions = record begun.positions { item_at = begun.positions.at } }) begun (is_empty begun.pending) same same)))
 
 text_stands : (s : State) (b : ℕ) → Stands s → Stands (in_text s b)
 unfolding in_text
@@ -243,7 +243,7 @@ in_footer_stands t b p =
 unlimited_free : (s : State) (m : Mode) (b : ℕ) → is_outer m ≡ false → Stands (gathered_in (unlimited s) m b)
 unlimited_free s m b e = each (is_some s.here)
   where
-    each : (c : Bool) → Stands (gathered_in (if c then s else record s { places = record s.places { used = 0 } }) m b)
+    each : (c : Bool) → Stands (gathered_in (if c then s else record s { positions = record s.positions { used = 0 } }) m b)
     each true = rw e (free (is_some s.here))
     each false = rw e (free (is_some s.here))
 
@@ -392,12 +392,12 @@ text_gets s b other =
     let same = run_gets s.lexical.in_run s other in
     choose s (judged_outside begun b) (character_begun begun) (ends_character s.pending b)
     (choose s begun (token_fails begun why.NotWellFormed) (is_white b) same same)
-    (choose s (record begun { places = record begun.places { item_at = begun.places.at } }) begun (is_empty begun.pending) same same)
+    (choose s (record begun { positions = record begun.positions { item_at = begun.positions.at } }) begun (is_empty begun.pending) same same)
 
 between_gets : (s : State) (b : ℕ) → is_limited s.lexical.mode ≡ false → (b == 60) ≡ false → Gets s (between s b)
 unfolding between
 between_gets s b other no_markup =
-    rw no_markup (choose s (fails s s.places.at why.NotWellFormed) (text_outside s b) (b == 38) (before s other) (text_gets s b other))
+    rw no_markup (choose s (fails s s.positions.at why.NotWellFormed) (text_outside s b) (b == 38) (before s other) (text_gets s b other))
 
 text_mode : (m : Mode) → is_text m ≡ true → m ≡ mode.Text
 text_mode mode.Text h = refl
@@ -417,7 +417,7 @@ neither true b h = absurd (false≢true (sym h))
 
 -- one byte, and its place the first one's
 abbrev IsFirst : Turn → ℕ → Type 0
-IsFirst t b = ((step t b).state.places.used ≡ 1) × ((step t b).state.places.item_at ≡ t.state.places.at)
+IsFirst t b = ((step t b).state.positions.used ≡ 1) × ((step t b).state.positions.item_at ≡ t.state.positions.at)
 
 between_stays : (s : State) (b : ℕ) → is_some s.here ≡ false → in_text s b ≡ between s b
 unfolding in_text
@@ -443,34 +443,34 @@ begins t b h outer limited =
 -- a state behind so many bytes: those in hand are the last ones, if they have a limit
 record Sound (s : State) (n : ℕ) : Type 0 where
   stands : Stands s
-  at : s.places.at ≡ n
-  held : has_limit s ≡ true → (0 < s.places.used) × (s.places.item_at + s.places.used ≡ n)
+  at : s.positions.at ≡ n
+  held : has_limit s ≡ true → (0 < s.positions.used) × (s.positions.item_at + s.positions.used ≡ n)
 
-next_is : (n : ℕ) → n + 1 < 2 ^ 64 → next_place n ≡ n + 1
+next_is : (n : ℕ) → n + 1 < 2 ^ 64 → next_position n ≡ n + 1
 next_is n h = omega arith
 
-one_more : (i u n j v : ℕ) → n + 1 < 2 ^ 64 → i + u ≡ n → v ≡ next_place u → j ≡ i → (0 < v) × (j + v ≡ n + 1)
+one_more : (i u n j v : ℕ) → n + 1 < 2 ^ 64 → i + u ≡ n → v ≡ next_position u → j ≡ i → (0 < v) × (j + v ≡ n + 1)
 one_more i u n j v far sum next same = let is = next_is u (omega arith) in (omega arith, omega arith)
 
 first_one : (n at j v : ℕ) → at ≡ n → v ≡ 1 → j ≡ at → (0 < v) × (j + v ≡ n + 1)
 first_one n at j v is one same = (omega arith, omega arith)
 
 held_after : (t : Turn) (b n : ℕ) → Sound t.state n → n + 1 < 2 ^ 64 → (step t b).state.fault ≡ None → has_limit (step t b).state ≡ true
-    → (0 < (step t b).state.places.used) × ((step t b).state.places.item_at + (step t b).state.places.used ≡ n + 1)
+    → (0 < (step t b).state.positions.used) × ((step t b).state.positions.item_at + (step t b).state.positions.used ≡ n + 1)
 held_after t b n h far none limited =
     let taken = takes t b none in
-    let after = (step t b).state.places in
+    let after = (step t b).state.positions in
     ⊎_elim
     (λ (hand : is_in_hand t.state ≡ true).
     let there = subst (λ u. has_limit u.state ≡ true) (goes t t.state.lexical.mode b taken) limited in
     let before = h.held (mode_gets t.state.lexical.mode (moved t (counted t.state)) b refl hand there) in
     let counts = more t b hand h.stands before.0 none limited in
-    one_more t.state.places.item_at t.state.places.used n after.item_at after.used far before.1 counts.used counts.item_at)
+    one_more t.state.positions.item_at t.state.positions.used n after.item_at after.used far before.1 counts.used counts.item_at)
     (λ (nothing : is_in_hand t.state ≡ false).
     let known = neither (is_some t.state.here) (is_text t.state.lexical.mode) nothing in
     let text : t.state.lexical.mode ≡ mode.Text = text_mode t.state.lexical.mode known.1 in
     let begun = begins t b (subst (λ m. Takes t.state m b) text taken) known.0 limited in
-    first_one n t.state.places.at after.item_at after.used h.at begun.0 begun.1)
+    first_one n t.state.positions.at after.item_at after.used h.at begun.0 begun.1)
     (cases_Bool (is_in_hand t.state))
 
 byte_sound : (t : Turn) (b n : ℕ) → Sound t.state n → n + 1 < 2 ^ 64 → (step t b).state.fault ≡ None → Sound (step t b).state (n + 1)
@@ -478,7 +478,7 @@ byte_sound t b n h far none =
     let goes_on = goes t t.state.lexical.mode b (takes t b none) in
     record {
       stands = ap (λ u. may_stand u.state) goes_on ∙ mode_stands t.state.lexical.mode (moved t (counted t.state)) b refl h.stands;
-      at = step_place t b none ∙ ap next_place h.at ∙ next_is n far;
+      at = step_position t b none ∙ ap next_position h.at ∙ next_is n far;
       held = held_after t b n h far none;
     }
 
@@ -496,14 +496,14 @@ start_sound limits = record { stands = refl; at = refl; held = λ h. absurd (fal
 abbrev from_first : Limits → List ℕ → State
 from_first limits bytes = (run (turn (from_start limits) []) bytes).state
 
-behind : (limits : Limits) (bytes : List ℕ) → length bytes < 2 ^ 64 → (from_first limits bytes).fault ≡ None → Sound (from_first limits bytes) (length bytes)
-behind limits bytes few none =
+following : (limits : Limits) (bytes : List ℕ) → length bytes < 2 ^ 64 → (from_first limits bytes).fault ≡ None → Sound (from_first limits bytes) (length bytes)
+following limits bytes few none =
     let same : 0 + length bytes ≡ length bytes = omega arith in
     subst (Sound (from_first limits bytes)) same (run_sound bytes (turn (from_start limits) []) 0 (start_sound limits) (omega arith) none)
 
 pub counted_in_runs : (limits : Limits) (bytes : List ℕ) → length bytes < 2 ^ 64 → (from_first limits bytes).fault ≡ None → has_limit (from_first limits bytes) ≡ true
-    → (0 < (from_first limits bytes).places.used) × ((from_first limits bytes).places.item_at + (from_first limits bytes).places.used ≡ length bytes)
-counted_in_runs limits bytes few none = (behind limits bytes few none).held
+    → (0 < (from_first limits bytes).positions.used) × ((from_first limits bytes).positions.item_at + (from_first limits bytes).positions.used ≡ length bytes)
+counted_in_runs limits bytes few none = (following limits bytes few none).held
 
 pub stands_in_runs : (limits : Limits) (bytes : List ℕ) → length bytes < 2 ^ 64 → (from_first limits bytes).fault ≡ None → may_stand (from_first limits bytes) ≡ true
-stands_in_runs limits bytes few none = (behind limits bytes few none).stands
+stands_in_runs limits bytes few none = (following limits bytes few none).stands

@@ -4,20 +4,20 @@ use Rattle.std.proofs.lemmas.Bool.{and_parts, or_parts, or_from, not-true, true�
 use Rattle.std.proofs.lemmas.Bool.Decides.{nat_tests}
 use Rattle.std.specs.List.{list_all}
 use Rattle.std.specs.Option.{is_some}
-use Rattle.xml_tokens.specs.Characters.{are_characters_behind, is_white}
+use Rattle.xml_tokens.specs.Characters.{are_characters_after, is_white}
 use Rattle.xml_tokens.specs.Utf8.{ends_character, is_nothing, utf8_next, utf8_run}
 use Rattle.law_xml.proofs.ByteSteps.{Goes, Kept, Room, goes_first, goes_none, kept_one, kept_room, kept_then, one_more, one_more_low, takes}
 use Rattle.law_xml.proofs.FaultLaws.{goes}
 use Rattle.law_xml.proofs.HeldBytes.{Follows, ends_within, first_allowed, low_next, none_within}
 use Rattle.law_xml.proofs.Quiet.{IsFresh, IsQuiet}
 use Rattle.law_xml.proofs.SpelledTexts.{leads, one_some}
-use Rattle.law_xml.proofs.TextBytes.{Reads, character_kept, ending_says, ends_it, ends_none, fine, going_kept, going_says, no_end, reads_character, reads_going, says}
+use Rattle.law_xml.proofs.TextBytes.{Reads, bounded, character_kept, ending_says, ends_it, ends_none, going_kept, going_says, no_end, reads_character, reads_going, says}
 use Rattle.law_xml.specs.FaultRows.{Takes}
 use Rattle.xml_framer.specs.Machine.{passed, run, step}
 use Rattle.xml_framer.specs.States.{OpenElement, State, counted, in_run, run_begun, token_fails, turn}
 use Rattle.law_xml.specs.Texts.{IsCharacterData}
-use Rattle.xml_tokens.specs.Lines.{line_ends, line_ends_behind}
-use Rattle.xml_framer.specs.TextSteps.{between, brackets_behind, character_taken, ends_section, in_text, inside, is_forbidden, judged_text, text_inside, text_outside}
+use Rattle.xml_tokens.specs.Lines.{line_ends, line_ends_after}
+use Rattle.xml_framer.specs.TextSteps.{between, brackets_after, character_taken, ends_section, in_text, inside, is_forbidden, judged_text, text_inside, text_outside}
 use Rattle.xml_framer.specs.declared.items.Item.{Item}
 use Rattle.xml_framer.specs.declared.fault.Why.TheVariants.{NotWellFormed}
 use Rattle.xml_framer.specs.declared.states.Mode.TheVariants as mode
@@ -69,47 +69,47 @@ quiet_read s o a c n r h held = record {
 
 -- what is read behind a byte, and what was to be read
 abbrev DataGoes : State → List Item → ℕ → Bool → List ℕ → Type 0
-DataGoes s items n r bs = Goes s items bs (λ t. Said t ((s.chars ++ s.pending) ++ line_ends_behind r bs))
+DataGoes s items n r bs = Goes s items bs (λ t. Said t ((s.chars ++ s.pending) ++ line_ends_after r bs))
 
-abbrev DataBehind : List Item → OpenElement → ℕ → ℕ → ℕ → Bool → List ℕ → List ℕ → Type 0
-DataBehind items o a c n r bs held = (u : State) → Reads u mode.Text o a c n r → u.lexical.in_run ≡ true → Room u (length bs) → u.pending ≡ held → DataGoes u items n r bs
+abbrev DataAfter : List Item → OpenElement → ℕ → ℕ → ℕ → Bool → List ℕ → List ℕ → Type 0
+DataAfter items o a c n r bs held = (u : State) → Reads u mode.Text o a c n r → u.lexical.in_run ≡ true → Room u (length bs) → u.pending ≡ held → DataGoes u items n r bs
 
 module _ (s : State) (items : List Item) (o : OpenElement) (a c n b : ℕ) (r : Bool) (bs : List ℕ) (h : Reads s mode.Text o a c n r) (running : s.lexical.in_run ≡ true) (room : Room s (length (b ∷ bs)))
-    (plain : no_mark b ≡ true) (none : ends_within n (b ∷ bs) ≡ false) (all : are_characters_behind a c (b ∷ bs) ≡ true) where
-  data_ended : utf8_next s.pending b ≡ Some [] → DataBehind items o c b (brackets_behind n b) (eqb b 13) bs [] → DataGoes s items n r (b ∷ bs)
+    (plain : no_mark b ≡ true) (none : ends_within n (b ∷ bs) ≡ false) (all : are_characters_after a c (b ∷ bs) ≡ true) where
+  data_ended : utf8_next s.pending b ≡ Some [] → DataAfter items o c b (brackets_after n b) (eqb b 13) bs [] → DataGoes s items n r (b ∷ bs)
   data_ended is more =
       let u : State = passed (character_taken (counted s) b) b in
       let held : u.pending ≡ [] = ap (λ (l : Option (List ℕ)). unwrap_or l s.pending) is in
       let stepped : step (turn s items) b ≡ turn u items =
       text_step s items b o (takes s mode.Text b (length bs) [] h.no_fault h.mode_is room is) h.here plain
-      ∙ ap (λ v. turn (passed v b) items) (ended_inside (counted s) b running (ends_it s b is) (fine s mode.Text o a c n b r bs h all) (no_end s mode.Text o a c n b r bs [] h is none)) in
-      let same : (u.chars ++ u.pending) ++ line_ends_behind (eqb b 13) bs ≡ (s.chars ++ s.pending) ++ line_ends_behind r (b ∷ bs) =
-      in_front (u.chars ++ u.pending) s.chars s.pending (says s.lexical.returned s.pending b) (line_ends_behind (eqb b 13) bs) (line_ends_behind r (b ∷ bs))
+      ∙ ap (λ v. turn (passed v b) items) (ended_inside (counted s) b running (ends_it s b is) (bounded s mode.Text o a c n b r bs h all) (no_end s mode.Text o a c n b r bs [] h is none)) in
+      let same : (u.chars ++ u.pending) ++ line_ends_after (eqb b 13) bs ≡ (s.chars ++ s.pending) ++ line_ends_after r (b ∷ bs) =
+      in_front (u.chars ++ u.pending) s.chars s.pending (says s.lexical.returned s.pending b) (line_ends_after (eqb b 13) bs) (line_ends_after r (b ∷ bs))
       (ap (λ l. u.chars ++ l) held ∙ append-nil u.chars) (ending_says s.lexical.returned r s.pending b bs is h.returned) in
-      goes_first s u items b bs (λ t. Said t ((s.chars ++ s.pending) ++ line_ends_behind r (b ∷ bs))) stepped (character_kept s b)
+      goes_first s u items b bs (λ t. Said t ((s.chars ++ s.pending) ++ line_ends_after r (b ∷ bs))) stepped (character_kept s b)
       (subst (λ l. Goes u items bs (λ t. Said t l)) same
       (more u (reads_character s mode.Text o a c n b r h is) running (kept_room s u 1 (length bs) (length (b ∷ bs)) (omega arith) (character_kept s b) room) held))
 
-  data_going : (x : ℕ) (xs : List ℕ) → utf8_next s.pending b ≡ Some (x ∷ xs) → DataBehind items o c b (brackets_behind n b) (eqb b 13) bs (x ∷ xs) → DataGoes s items n r (b ∷ bs)
+  data_going : (x : ℕ) (xs : List ℕ) → utf8_next s.pending b ≡ Some (x ∷ xs) → DataAfter items o c b (brackets_after n b) (eqb b 13) bs (x ∷ xs) → DataGoes s items n r (b ∷ bs)
   data_going x xs is more =
       let u : State = passed (counted s) b in
       let held : u.pending ≡ x ∷ xs = ap (λ (l : Option (List ℕ)). unwrap_or l s.pending) is in
       let stepped : step (turn s items) b ≡ turn u items =
       text_step s items b o (takes s mode.Text b (length bs) (x ∷ xs) h.no_fault h.mode_is room is) h.here plain
       ∙ ap (λ v. turn (passed v b) items) (going_inside (counted s) b running (ends_none s b x xs is)) in
-      let same : (u.chars ++ u.pending) ++ line_ends_behind (eqb b 13) bs ≡ (s.chars ++ s.pending) ++ line_ends_behind r (b ∷ bs) =
-      in_front (u.chars ++ u.pending) s.chars s.pending (x ∷ xs) (line_ends_behind (eqb b 13) bs) (line_ends_behind r (b ∷ bs))
+      let same : (u.chars ++ u.pending) ++ line_ends_after (eqb b 13) bs ≡ (s.chars ++ s.pending) ++ line_ends_after r (b ∷ bs) =
+      in_front (u.chars ++ u.pending) s.chars s.pending (x ∷ xs) (line_ends_after (eqb b 13) bs) (line_ends_after r (b ∷ bs))
       (ap (λ l. u.chars ++ l) held) (going_says r s.pending b x xs bs is) in
-      goes_first s u items b bs (λ t. Said t ((s.chars ++ s.pending) ++ line_ends_behind r (b ∷ bs))) stepped (going_kept s b)
+      goes_first s u items b bs (λ t. Said t ((s.chars ++ s.pending) ++ line_ends_after r (b ∷ bs))) stepped (going_kept s b)
       (subst (λ l. Goes u items bs (λ t. Said t l)) same
       (more u (reads_going s mode.Text o a c n b x r xs h is) running (kept_room s u 1 (length bs) (length (b ∷ bs)) (omega arith) (going_kept s b) room) held))
 
-  data_next : (next : List ℕ) → utf8_next s.pending b ≡ Some next → DataBehind items o c b (brackets_behind n b) (eqb b 13) bs next → DataGoes s items n r (b ∷ bs)
+  data_next : (next : List ℕ) → utf8_next s.pending b ≡ Some next → DataAfter items o c b (brackets_after n b) (eqb b 13) bs next → DataGoes s items n r (b ∷ bs)
   data_next [] is more = data_ended is more
   data_next (x ∷ xs) is more = data_going x xs is more
 
 data_runs : (bs : List ℕ) (s : State) (items : List Item) (o : OpenElement) (a c n : ℕ) (r : Bool) → Reads s mode.Text o a c n r → s.lexical.in_run ≡ true → Room s (length bs) → list_all no_mark bs ≡ true
-    → ends_within n bs ≡ false → are_characters_behind a c bs ≡ true → utf8_run s.pending bs ≡ Some [] → DataGoes s items n r bs
+    → ends_within n bs ≡ false → are_characters_after a c bs ≡ true → utf8_run s.pending bs ≡ Some [] → DataGoes s items n r bs
 data_runs [] s items o a c n r h running room plain none all utf8 =
     let held : s.pending ≡ [] = one_some s.pending [] utf8 in
     goes_none s items (λ t. Said t ((s.chars ++ s.pending) ++ [])) (record {
@@ -119,9 +119,9 @@ data_runs [] s items o a c n r h running room plain none all utf8 =
 data_runs (b ∷ bs) s items o a c n r h running room plain none all utf8 =
     let l = leads (utf8_next s.pending b) (λ next. utf8_run next bs) utf8 in
     let p = and_parts (no_mark b) (list_all no_mark bs) plain in
-    let q = or_parts (eqb n 2 && eqb b 62) (ends_within (brackets_behind n b) bs) none in
+    let q = or_parts (eqb n 2 && eqb b 62) (ends_within (brackets_after n b) bs) none in
     data_next s items o a c n b r bs h running room p.0 none all l.next l.is
-    (λ u reads runs fits held. data_runs bs u items o c b (brackets_behind n b) (eqb b 13) reads runs fits p.1 q.1 (first_allowed a c b bs all).1 (ap (λ g. utf8_run g bs) held ∙ l.goes))
+    (λ u reads runs fits held. data_runs bs u items o c b (brackets_after n b) (eqb b 13) reads runs fits p.1 q.1 (first_allowed a c b bs all).1 (ap (λ g. utf8_run g bs) held ∙ l.goes))
 
 -- ---- where a run of text begins
 
@@ -154,7 +154,7 @@ module _ (s : State) (items : List Item) (o : OpenElement) (a c : ℕ) (h : IsFr
       ∙ ap (λ u. turn (passed u b) items) (begins_same s b h.no_run)
       ∙ sym (text_step (run_begun s) items b o (takes (run_begun s) mode.Text b n next q.no_fault q.text room is) here plain)
 
-  pub data_fresh : (bs : List ℕ) → Room s (length bs) → IsCharacterData bs → are_characters_behind a c bs ≡ true → utf8_run [] bs ≡ Some [] → Goes s items bs (λ t. Said t (s.chars ++ line_ends bs))
+  pub data_fresh : (bs : List ℕ) → Room s (length bs) → IsCharacterData bs → are_characters_after a c bs ≡ true → utf8_run [] bs ≡ Some [] → Goes s items bs (λ t. Said t (s.chars ++ line_ends bs))
   data_fresh [] room good all utf8 = goes_none s items (λ t. Said t (s.chars ++ [])) (record { quiet = h.quiet; chars = sym (append-nil s.chars) })
   data_fresh (b ∷ bs) room good all utf8 =
       let v = run_begun s in
@@ -196,8 +196,8 @@ white_said : (s : State) (b : ℕ) → IsQuiet s → is_some s.here ≡ false �
 white_said s b q outer e =
     let held : unwrap_or (utf8_next s.pending b) s.pending ≡ [] = ap (λ (l : Option (List ℕ)). unwrap_or l s.pending) e in
     chosen (λ u. Said (passed u b) s.chars) s.lexical.in_run (counted s) (run_begun (counted s))
-    (record { quiet = record { no_fault = q.no_fault; text = q.text; no_token = q.no_token; no_pending = held; no_quote = q.no_quote; not_spoiled = q.not_spoiled; counted = one_more_low s.places.used; uncounted = λ none. ap one_more (q.uncounted outer) }; chars = refl })
-    (record { quiet = record { no_fault = q.no_fault; text = q.text; no_token = q.no_token; no_pending = held; no_quote = q.no_quote; not_spoiled = q.not_spoiled; counted = one_more_low s.places.used; uncounted = λ none. ap one_more (q.uncounted outer) }; chars = refl })
+    (record { quiet = record { no_fault = q.no_fault; text = q.text; no_token = q.no_token; no_pending = held; no_quote = q.no_quote; not_spoiled = q.not_spoiled; counted = one_more_low s.positions.used; uncounted = λ none. ap one_more (q.uncounted outer) }; chars = refl })
+    (record { quiet = record { no_fault = q.no_fault; text = q.text; no_token = q.no_token; no_pending = held; no_quote = q.no_quote; not_spoiled = q.not_spoiled; counted = one_more_low s.positions.used; uncounted = λ none. ap one_more (q.uncounted outer) }; chars = refl })
 
 pub white_goes : (bs : List ℕ) (s : State) (items : List Item) → IsQuiet s → is_some s.here ≡ false → list_all is_white bs ≡ true → Goes s items bs (λ t. Said t s.chars)
 white_goes [] s items q outer white = goes_none s items (λ t. Said t s.chars) (record { quiet = q; chars = refl })

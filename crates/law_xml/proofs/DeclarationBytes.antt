@@ -104,11 +104,11 @@ shaped_by bytes items (x ∷ xs) w more bytes_are is unmarked begins white =
 
 pub shaped : (bytes : List ℕ) → IsGood bytes → Shaped bytes
 shaped bytes g =
-    let version = spelled_unmarked g.items (codes "version") (codes "1.0") g.behind_version g.version refl refl in
-    let encoding = may_unmarked g.behind_version (codes "encoding") is_utf8_label g.behind_encoding label_unmarked refl g.encoding in
-    let standalone = may_unmarked g.behind_encoding (codes "standalone") is_yes_or_no g.behind_standalone word_unmarked refl g.standalone in
-    let space : Unmarked g.behind_standalone (codes "?>") = record { front = g.space; is = g.end_is; unmarked = whites_unmarked g.space g.space_white } in
-    let all = unmarked_then g.items g.behind_version (codes "?>") version (unmarked_then g.behind_version g.behind_encoding (codes "?>") encoding (unmarked_then g.behind_encoding g.behind_standalone (codes "?>") standalone space)) in
+    let version = spelled_unmarked g.items (codes "version") (codes "1.0") g.after_version g.version refl refl in
+    let encoding = may_unmarked g.after_version (codes "encoding") is_utf8_label g.after_encoding label_unmarked refl g.encoding in
+    let standalone = may_unmarked g.after_encoding (codes "standalone") is_yes_or_no g.after_standalone word_unmarked refl g.standalone in
+    let space : Unmarked g.after_standalone (codes "?>") = record { front = g.space; is = g.end_is; unmarked = whites_unmarked g.space g.space_white } in
+    let all = unmarked_then g.items g.after_version (codes "?>") version (unmarked_then g.after_version g.after_encoding (codes "?>") encoding (unmarked_then g.after_encoding g.after_standalone (codes "?>") standalone space)) in
     let v = g.version in
-    let begins = begins_white v.space (codes "version" ++ (v.before ++ (61 ∷ (v.after ++ (v.quote ∷ (codes "1.0" ++ (v.quote ∷ g.behind_version))))))) v.some_space v.space_white in
+    let begins = begins_white v.space (codes "version" ++ (v.before ++ (61 ∷ (v.after ++ (v.quote ∷ (codes "1.0" ++ (v.quote ∷ g.after_version))))))) v.some_space v.space_white in
     shaped_by bytes g.items all.front begins.0 begins.1 g.bytes_are all.is all.unmarked (v.bytes_are ∙ begins.2) begins.3

@@ -41,7 +41,7 @@ pub record HasDeclared (s t : State) : Type 0 where
 -- ---- its first byte, from where the bytes are counted
 
 abbrev begun_outside : State → State
-begun_outside s = record s { places = record s.places { item_at = s.places.at; used = 1 } }
+begun_outside s = record s { positions = record s.positions { item_at = s.positions.at; used = 1 } }
 
 abbrev less_begun : State → State
 less_begun s = passed (gathered (begun_outside (token_begun (counted s) mode.Opening)) 60) 60
@@ -73,8 +73,8 @@ less_held s q = record {
 
 -- a byte that is added to the token, in another mode
 module _ (s : State) (items : List Item) (m k : Mode) (token text : List ℕ) (b : ℕ) (h : InToken s m token [] text) (low : b < 128) where
-  turned_held : InToken (passed (gathered (in_mode (counted s) k) b) b) k (token ++ b ∷ []) [] text
-  turned_held = record {
+  rendered_held : InToken (passed (gathered (in_mode (counted s) k) b) b) k (token ++ b ∷ []) [] text
+  rendered_held = record {
     no_fault = h.no_fault;
     mode_is = refl;
     token_is = ap (λ l. l ++ b ∷ []) h.token_is;
@@ -82,13 +82,13 @@ module _ (s : State) (items : List Item) (m k : Mode) (token text : List ℕ) (b
     no_quote = h.no_quote;
     not_spoiled = h.not_spoiled;
     chars_are = h.chars_are;
-    counted = one_more_low s.places.used;
+    counted = one_more_low s.positions.used;
   }
 
   turns : step (turn s items) b ≡ turn (passed (gathered (in_mode (counted s) k) b) b) items → Goes s items (b ∷ []) (λ t. InToken t k (token ++ b ∷ []) [] text)
   turns stepped =
       let u : State = passed (gathered (in_mode (counted s) k) b) b in
-      goes_one s u items b (λ t. InToken t k (token ++ b ∷ []) [] text) stepped (kept_one s u (record { limits = refl; here = refl; below = refl; scopes = refl; name = refl; phase = refl; spent = refl }) refl refl) turned_held
+      goes_one s u items b (λ t. InToken t k (token ++ b ∷ []) [] text) stepped (kept_one s u (record { limits = refl; here = refl; below = refl; scopes = refl; name = refl; phase = refl; spent = refl }) refl refl) rendered_held
 
 question_is : (s : State) (items : List Item) → may_declare s ≡ true → in_opening (turn s items) 63 ≡ turn (gathered_in s mode.Question 63) items
 unfolding in_opening
@@ -236,7 +236,7 @@ middle_goes s items text w inner h may white unmarked room =
     (λ v kept_v spaced. within_go (inner ++ 63 ∷ []) v items (codes "<?xml" ++ w ∷ []) text spaced (kept_room u v 1 n (1 + n) refl kept_v fits_u) last)))
 
 -- one byte is counted behind the `<`
-room_begun : (s : State) (bytes : List ℕ) (n : ℕ) → length bytes ≡ suc n → s.places.used ≡ 0 → HasRoom s bytes → Room (less_begun s) n
+room_begun : (s : State) (bytes : List ℕ) (n : ℕ) → length bytes ≡ suc n → s.positions.used ≡ 0 → HasRoom s bytes → Room (less_begun s) n
 room_begun s bytes n count none h = inr (⊎_elim (λ below. inl (omega (arith, count, none, below))) (λ large. inr (omega arith, large)) h)
 
 -- Where a declaration may stand, the bytes of a good one are read as a declaration (RFC 6120, section 11.5), and give nothing.

@@ -87,7 +87,7 @@ pub record HasRead (s t : State) (o : OpenElement) (bytes : List ℕ) (kids : No
   pub name : t.name ≡ s.name
   pub phase : t.lexical.phase ≡ s.lexical.phase
   pub spent : t.lexical.spent ≡ s.lexical.spent
-  pub used : t.places.used ≤ s.places.used + length bytes
+  pub used : t.positions.used ≤ s.positions.used + length bytes
 
 text_has_read : (s t : State) (o : OpenElement) (bytes says : List ℕ) (kids : Nodes) → s.here ≡ Some o → s.chars ≡ [] → kids ≡ text_node says → HasSaid s t bytes says → HasRead s t o bytes kids
 text_has_read s t o bytes says kids here none are said =

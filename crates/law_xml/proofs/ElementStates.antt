@@ -31,7 +31,7 @@ pub room_front : (s : State) (a b : List ℕ) → HasRoom s (a ++ b) → HasRoom
 room_front s a b (inl le) = inl (omega (arith, le, length-append a b))
 room_front s a b (inr le) = inr le
 
-pub room_rest : (s t : State) (a b : List ℕ) → t.limits ≡ s.limits → t.places.used ≤ s.places.used + length a → HasRoom s (a ++ b) → HasRoom t b
+pub room_rest : (s t : State) (a b : List ℕ) → t.limits ≡ s.limits → t.positions.used ≤ s.positions.used + length a → HasRoom s (a ++ b) → HasRoom t b
 room_rest s t a b same used (inl le) = rw same (inl (omega (arith, le, used, length-append a b)))
 room_rest s t a b same used (inr le) = rw same (inr le)
 
@@ -138,7 +138,7 @@ pub record HasBegun (s t : State) (bytes : List ℕ) (tag : Tag) : Type 0 where
   pub name : t.name ≡ s.name
   pub phase : t.lexical.phase ≡ s.lexical.phase
   pub spent : t.lexical.spent ≡ s.lexical.spent
-  pub used : t.places.used ≤ s.places.used + length bytes
+  pub used : t.positions.used ≤ s.positions.used + length bytes
 
 pub level_has_begun : (s h : State) (bytes : List ℕ) (tag : Tag) → HasInHand s h bytes → HasBegun s (passed (level h tag) 62) bytes tag
 unfolding level
@@ -173,7 +173,7 @@ begun_count s t bytes tag may h = some_count t (opened tag) h.here ∙ ap (λ n.
 -- A whole element is in hand that stands where s stood: the text in front of it has joined what is around it.
 pub record IsWhole (s h : State) (bytes : List ℕ) : Type 0 where
   pub no_fault : h.fault ≡ None
-  pub counted : h.places.used < 2 ^ 64
+  pub counted : h.positions.used < 2 ^ 64
   pub no_pending : h.pending ≡ []
   pub here : h.here ≡ text_joined s.here s.chars
   pub no_chars : h.chars ≡ []
@@ -183,7 +183,7 @@ pub record IsWhole (s h : State) (bytes : List ℕ) : Type 0 where
   pub name : h.name ≡ s.name
   pub phase : h.lexical.phase ≡ s.lexical.phase
   pub spent : h.lexical.spent ≡ s.lexical.spent
-  pub used : h.places.used ≤ s.places.used + length bytes
+  pub used : h.positions.used ≤ s.positions.used + length bytes
 
 pub leaf_is_whole : (s h : State) (bytes : List ℕ) → HasInHand s h bytes → IsWhole s (joined_text h) bytes
 leaf_is_whole s h bytes hand =
@@ -213,7 +213,7 @@ pub record HasNodes (s t : State) (o : OpenElement) (bytes : List ℕ) (kids : N
   pub name : t.name ≡ s.name
   pub phase : t.lexical.phase ≡ s.lexical.phase
   pub spent : t.lexical.spent ≡ s.lexical.spent
-  pub used : t.places.used ≤ s.places.used + length bytes
+  pub used : t.positions.used ≤ s.positions.used + length bytes
 
 -- a text stands in front of them
 pub text_and_nodes : (s t u : State) (o : OpenElement) (front says middle : List ℕ) (kids : Nodes) → s.chars ≡ [] → HasSaid s t front says → HasNodes t u (with_text o t.chars) middle kids

@@ -86,9 +86,9 @@ slash_byte t outer alone =
     hand : (u : State) → u.token ≡ 60 ∷ 47 ∷ [] → u.lexical.mode ≡ mode.Footer → IsFooter u (60 ∷ 47 ∷ [])
     hand u e is = (is, λ f. record { white = []; hand_is = sym e ∙ sym (append-nil u.token); is_white = refl; whole = inl refl })
 
-    begun : (o : Bool) → o ≡ false → IsFooter (gathered_in (if o then t.state else record t.state { places = record t.state.places { used = 0 } }) mode.Footer 47) (60 ∷ 47 ∷ [])
+    begun : (o : Bool) → o ≡ false → IsFooter (gathered_in (if o then t.state else record t.state { positions = record t.state.positions { used = 0 } }) mode.Footer 47) (60 ∷ 47 ∷ [])
     begun true e = absurd (true≢false e)
-    begun false e = hand (gathered_in (record t.state { places = record t.state.places { used = 0 } }) mode.Footer 47) token_is refl
+    begun false e = hand (gathered_in (record t.state { positions = record t.state.positions { used = 0 } }) mode.Footer 47) token_is refl
 
 pub footer_begins : (t : Turn) → t.state.lexical.mode ≡ mode.Opening → is_some t.state.here ≡ false → t.state.token ≡ 60 ∷ [] → (step t 47).state.fault ≡ None → IsFooter (step t 47).state (60 ∷ 47 ∷ [])
 footer_begins t opening outer alone none =

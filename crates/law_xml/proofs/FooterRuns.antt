@@ -14,7 +14,7 @@ use Rattle.law_xml.proofs.FaultLaws.{goes}
 use Rattle.xml_framer.proofs.Pieces.{run_append}
 use Rattle.law_xml.proofs.Quiet.{AreAlike, IsFresh, IsQuiet}
 use Rattle.law_xml.proofs.TagParts.{is_inner, name_part, white_inner, white_part, name_is_inner}
-use Rattle.law_xml.proofs.TagRuns.{DecidesLast, InMarkup, after, alike_behind, begins, held_behind, opened, opened_is, takes}
+use Rattle.law_xml.proofs.TagRuns.{DecidesLast, InMarkup, after, alike_after, begins, held_behind, opened, opened_is, takes}
 use Rattle.xml_tokens.proofs.ValueTexts.{leads}
 use Rattle.law_xml.specs.FaultRows.{Takes}
 use Rattle.xml_framer.specs.Machine.{behind_byte, is_too_long, passed, run, step}
@@ -28,14 +28,14 @@ use Rattle.xml_framer.specs.declared.states.Phase.TheVariants as phase
 
 -- ---- nothing is counted
 
-uncounted_is_short : (t : State) (b : ℕ) → t.places.used ≡ 0 → is_too_long t b ≡ false
+uncounted_is_short : (t : State) (b : ℕ) → t.positions.used ≡ 0 → is_too_long t b ≡ false
 unfolding is_too_long
-uncounted_is_short t b none = and_left (ltb 0 t.places.used) _ (ap (ltb 0) none)
+uncounted_is_short t b none = and_left (ltb 0 t.positions.used) _ (ap (ltb 0) none)
 
 -- the `/` behind `<` shows that there is no limit
 slash_is_short : (t : State) → t.lexical.mode ≡ mode.Opening → is_some t.here ≡ false → is_too_long t 47 ≡ false
 unfolding is_too_long
-slash_is_short t m outer = rw (m, outer) (never (ltb 0 t.places.used) (leb t.limits.bytes t.places.used))
+slash_is_short t m outer = rw (m, outer) (never (ltb 0 t.positions.used) (leb t.limits.bytes t.positions.used))
   where
     never : (x y : Bool) → (x && (y && false)) ≡ false
     never true true = refl
@@ -52,7 +52,7 @@ same_besides t u a b c d e f g = record { limits = a; here = b; below = c; scope
 -- ---- `/` behind `<`
 
 abbrev slashed : State → State
-slashed t = passed (gathered_in (record (counted t) { places = record (counted t).places { used = 0 } }) mode.Footer 47) 47
+slashed t = passed (gathered_in (record (counted t) { positions = record (counted t).positions { used = 0 } }) mode.Footer 47) 47
 
 slash_step : (t : State) (items : List Item) → Takes t mode.Opening 47 → is_some t.here ≡ false → step (turn t items) 47 ≡ turn (slashed t) items
 unfolding in_opening
@@ -61,7 +61,7 @@ slash_step t items h outer = goes (turn t items) mode.Opening 47 h ∙ rw outer 
 slashed_is : (s t : State) (token : List ℕ) → InMarkup s t mode.Opening token None [] → InMarkup s (slashed t) mode.Footer (token ++ 47 ∷ []) None []
 unfolding utf8_next
 slashed_is s t token h = record {
-  alike = alike_behind s t (slashed t) h.alike (same_besides t (slashed t) refl refl refl refl refl refl refl);
+  alike = alike_after s t (slashed t) h.alike (same_besides t (slashed t) refl refl refl refl refl refl refl);
   no_fault = h.no_fault;
   chars = h.chars;
   mode_is = refl;
@@ -101,7 +101,7 @@ module _ (t : State) (items : List Item) (b : ℕ) (h : Takes t mode.Footer b) (
 
 kept_is : (s t : State) (token held next : List ℕ) (b : ℕ) → InMarkup s t mode.Footer token None held → utf8_next held b ≡ Some next → InMarkup s (kept t b) mode.Footer (token ++ b ∷ []) None next
 kept_is s t token held next b h e = record {
-  alike = alike_behind s t (kept t b) h.alike (same_besides t (kept t b) refl refl refl refl refl refl refl);
+  alike = alike_after s t (kept t b) h.alike (same_besides t (kept t b) refl refl refl refl refl refl refl);
   no_fault = h.no_fault;
   chars = h.chars;
   mode_is = h.mode_is;
@@ -115,7 +115,7 @@ kept_is s t token held next b h e = record {
 
 skipped_is : (s t : State) (token held next : List ℕ) (b : ℕ) → InMarkup s t mode.Footer token None held → utf8_next held b ≡ Some next → InMarkup s (skipped t b) mode.Footer token None next
 skipped_is s t token held next b h e = record {
-  alike = alike_behind s t (skipped t b) h.alike (same_besides t (skipped t b) refl refl refl refl refl refl refl);
+  alike = alike_after s t (skipped t b) h.alike (same_besides t (skipped t b) refl refl refl refl refl refl refl);
   no_fault = h.no_fault;
   chars = h.chars;
   mode_is = h.mode_is;
@@ -129,14 +129,14 @@ skipped_is s t token held next b h e = record {
 
 -- behind bytes, of which these are kept
 record Keeps (s t : State) (items : List Item) (bytes token : List ℕ) : Type 0 where
-  behind : State
-  goes_on : run (turn t items) bytes ≡ turn behind items
-  markup : InMarkup s behind mode.Footer token None []
-  uncounted : behind.places.used ≡ 0
+  following : State
+  goes_on : run (turn t items) bytes ≡ turn following items
+  markup : InMarkup s following mode.Footer token None []
+  uncounted : following.positions.used ≡ 0
 
-nothing_more : (s t : State) (items : List Item) (token held : List ℕ) → InMarkup s t mode.Footer token None held → t.places.used ≡ 0 → utf8_run held [] ≡ Some [] → Keeps s t items [] token
+nothing_more : (s t : State) (items : List Item) (token held : List ℕ) → InMarkup s t mode.Footer token None held → t.positions.used ≡ 0 → utf8_run held [] ≡ Some [] → Keeps s t items [] token
 nothing_more s t items token held h none r =
-    record { behind = t; goes_on = refl; markup = subst (InMarkup s t mode.Footer token None) (same_Some held [] r) h; uncounted = none }
+    record { following = t; goes_on = refl; markup = subst (InMarkup s t mode.Footer token None) (same_Some held [] r) h; uncounted = none }
 
 few_kept : (s t : State) (token held : List ℕ) → InMarkup s t mode.Footer token None held → length token < length s.name + 2 → ltb (length t.token) (length t.name + 2) ≡ true
 few_kept s t token held h less =
@@ -150,7 +150,7 @@ all_kept s t token held h most =
     let name = ap length h.alike.name in
     le-ltb (length t.token) (length t.name + 2) (omega (arith, kept, name, most))
 
-keeps : (s t : State) (items : List Item) (bs token held : List ℕ) → InMarkup s t mode.Footer token None held → t.places.used ≡ 0 → length token + length bs ≤ length s.name + 2 → list_all is_inner bs ≡ true → utf8_run held bs ≡ Some []
+keeps : (s t : State) (items : List Item) (bs token held : List ℕ) → InMarkup s t mode.Footer token None held → t.positions.used ≡ 0 → length token + length bs ≤ length s.name + 2 → list_all is_inner bs ≡ true → utf8_run held bs ≡ Some []
     → Keeps s t items bs (token ++ bs)
 keeps s t items [] token held h none less inner r = subst (Keeps s t items []) (sym (append-nil token)) (nothing_more s t items token held h none r)
 keeps s t items (b ∷ bs) token held h none less inner r =
@@ -159,20 +159,20 @@ keeps s t items (b ∷ bs) token held h none less inner r =
     let shown = takes s t mode.Footer token held l.next None b h l.is (uncounted_is_short t b none) in
     let one = keep_step t items b shown h.quote_is p.0 (few_kept s t token held h (omega (arith, less))) in
     let len = length-append token (b ∷ []) in
-    let rest = keeps s (kept t b) items bs (token ++ b ∷ []) l.next (kept_is s t token held l.next b h l.is) (still_uncounted t.places.used none) (omega (arith, less, len)) p.1 l.goes in
+    let rest = keeps s (kept t b) items bs (token ++ b ∷ []) l.next (kept_is s t token held l.next b h l.is) (still_uncounted t.positions.used none) (omega (arith, less, len)) p.1 l.goes in
     let whole : Keeps s t items (b ∷ bs) ((token ++ b ∷ []) ++ bs) =
-    record { behind = rest.behind; goes_on = ap (λ u. run u bs) one ∙ rest.goes_on; markup = rest.markup; uncounted = rest.uncounted } in
+    record { following = rest.following; goes_on = ap (λ u. run u bs) one ∙ rest.goes_on; markup = rest.markup; uncounted = rest.uncounted } in
     subst (Keeps s t items (b ∷ bs)) (append_assoc token (b ∷ []) bs) whole
 
-skips : (s t : State) (items : List Item) (bs token held : List ℕ) → InMarkup s t mode.Footer token None held → t.places.used ≡ 0 → length s.name + 2 ≤ length token → are_white bs ≡ true → utf8_run held bs ≡ Some [] → Keeps s t items bs token
+skips : (s t : State) (items : List Item) (bs token held : List ℕ) → InMarkup s t mode.Footer token None held → t.positions.used ≡ 0 → length s.name + 2 ≤ length token → are_white bs ≡ true → utf8_run held bs ≡ Some [] → Keeps s t items bs token
 skips s t items [] token held h none most white r = nothing_more s t items token held h none r
 skips s t items (b ∷ bs) token held h none most white r =
     let p = and_parts (is_white b) (are_white bs) white in
     let l = leads held b bs r in
     let shown = takes s t mode.Footer token held l.next None b h l.is (uncounted_is_short t b none) in
     let one = skip_step t items b shown h.quote_is (white_inner b p.0) (all_kept s t token held h most) p.0 in
-    let rest = skips s (skipped t b) items bs token l.next (skipped_is s t token held l.next b h l.is) (still_uncounted t.places.used none) most p.1 l.goes in
-    record { behind = rest.behind; goes_on = ap (λ u. run u bs) one ∙ rest.goes_on; markup = rest.markup; uncounted = rest.uncounted }
+    let rest = skips s (skipped t b) items bs token l.next (skipped_is s t token held l.next b h l.is) (still_uncounted t.positions.used none) most p.1 l.goes in
+    record { following = rest.following; goes_on = ap (λ u. run u bs) one ∙ rest.goes_on; markup = rest.markup; uncounted = rest.uncounted }
 
 -- ---- `>`
 
@@ -202,7 +202,7 @@ pub record HasEnded (s t : State) : Type 0 where
   pub phase_is : t.lexical.phase ≡ phase.Ended
   pub chars : t.chars ≡ s.chars
   pub fresh : IsFresh t
-  pub uncounted : t.places.used ≡ 0
+  pub uncounted : t.positions.used ≡ 0
 
 ended_is : (s t : State) (token : List ℕ) → InMarkup s t mode.Footer token None [] → HasEnded s (ended t)
 unfolding utf8_next
@@ -254,8 +254,8 @@ module _ (s : State) (items : List Item) (bytes : List ℕ) (quiet : IsQuiet s) 
       let token = 60 ∷ 47 ∷ s.name in
       let begun = slashed (opened false s) in
       let named = keeps s begun items s.name (60 ∷ 47 ∷ []) [] slash.1 refl (omega arith) (name_is_inner s.name is.name_is) (name_part s.name is.name_is).runs in
-      let spaced = skips s named.behind items is.space token [] named.markup named.uncounted (omega arith) is.space_white (white_part is.space is.space_white).runs in
-      let u = spaced.behind in
+      let spaced = skips s named.following items is.space token [] named.markup named.uncounted (omega arith) is.space_white (white_part is.space is.space_white).runs in
+      let u = spaced.following in
       let shown = takes s u mode.Footer token [] [] None 62 spaced.markup refl (uncounted_is_short u 62 spaced.uncounted) in
       let last = end_step u items shown spaced.markup.quote_is (ends s u bytes spaced.markup between is) in
       let front = 60 ∷ 47 ∷ (s.name ++ is.space) in

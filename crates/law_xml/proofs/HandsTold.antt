@@ -8,15 +8,15 @@ use Rattle.law_xml.proofs.TextFronts.{counted_behind}
 use Rattle.law_xml.specs.Hands.{AreKept, IsNoneHeld, IsRunHeld, IsTokenHeld, brackets_last}
 use Rattle.xml_framer.specs.Machine.{run}
 use Rattle.xml_framer.specs.Readings.{fault_of, framed}
-use Rattle.xml_framer.specs.States.{State, from_start, is_text, token_place, turn}
-use Rattle.xml_framer.specs.TextSteps.{brackets_behind}
+use Rattle.xml_framer.specs.States.{State, from_start, is_text, token_position, turn}
+use Rattle.xml_framer.specs.TextSteps.{brackets_after}
 use Rattle.xml_framer.specs.declared.limits.Limits.{Limits}
 use Rattle.xml_framer.specs.declared.states.Mode.{Mode}
 use Rattle.xml_framer.specs.declared.states.Mode.TheVariants as mode
 
 counted_is : (n : ℕ) (bs : List ℕ) → counted_behind n bs ≡ brackets_last n bs
 counted_is n [] = refl
-counted_is n (b ∷ bs) = counted_is (brackets_behind n b) bs
+counted_is n (b ∷ bs) = counted_is (brackets_after n b) bs
 
 pub are_kept : (m : Mode) (s : State) (more : List ℕ) → is_text m ≡ false → Spot m s.lexical.quote more → Mark m s more → AreKept m s more
 are_kept mode.Text s more e spot h = absurd (false≢true (sym e))
@@ -30,9 +30,9 @@ are_kept mode.Tag s more e spot h = (h, spot.1, spot.2, spot.3, spot.0)
 are_kept mode.Footer s more e spot h = (spot.1, spot.2, spot.3, spot.4)
 are_kept mode.Section s more e spot h = (h.inside, h.is, h.no_end, λ none. h.counts none ∙ counted_is 0 h.inside)
 
-place : (s : State) (run : Bool) → is_text s.lexical.mode ≡ true → s.lexical.in_run ≡ run → token_place s ≡ (if run then s.places.token_at else s.places.at)
-place s true text is = rw (text, is) refl
-place s false text is = rw (text, is) refl
+position : (s : State) (run : Bool) → is_text s.lexical.mode ≡ true → s.lexical.in_run ≡ run → token_position s ≡ (if run then s.positions.token_at else s.positions.at)
+position s true text is = rw (text, is) refl
+position s false text is = rw (text, is) refl
 
 module _ (s : State) (bytes : List ℕ) (h : Known s bytes) where
   pub token_held : is_text s.lexical.mode ≡ false → IsTokenHeld s bytes
@@ -43,10 +43,10 @@ module _ (s : State) (bytes : List ℕ) (h : Known s bytes) where
   pub run_held : is_text s.lexical.mode ≡ true → s.lexical.in_run ≡ true → IsRunHeld s bytes
   run_held text is =
       let k = h.running text is in
-      record { before = k.before; text = k.token; bytes_are = k.bytes_are; at_is = place s true text is ∙ k.at_is; ahead = k.after; is_run = k.plain; held = k.left; counts = λ inner none. k.counts inner none ∙ counted_is 0 k.token }
+      record { before = k.before; text = k.token; bytes_are = k.bytes_are; at_is = position s true text is ∙ k.at_is; ahead = k.after; is_run = k.plain; held = k.left; counts = λ inner none. k.counts inner none ∙ counted_is 0 k.token }
 
   pub none_held : is_text s.lexical.mode ≡ true → s.lexical.in_run ≡ false → IsNoneHeld s bytes
-  none_held text is = let k = h.between text is in record { tokens = k.0; at_is = place s false text is ∙ h.at; none_held = k.1 }
+  none_held text is = let k = h.between text is in record { tokens = k.0; at_is = position s false text is ∙ h.at; none_held = k.1 }
 
 pub token_told : (limits : Limits) (bytes : List ℕ) → fault_of limits bytes ≡ None → is_text (framed limits bytes).state.lexical.mode ≡ false → IsTokenHeld (framed limits bytes).state bytes
 unfolding framed

@@ -25,7 +25,7 @@ use Rattle.law_xml.specs.Plain.{IsPlainHeader}
 use Rattle.law_xml.specs.Spells.{SpellsFooter, SpellsHeader, as_written, bind, written_scope}
 use Rattle.xml_tokens.specs.Lines.{IsCharacters}
 use Rattle.law_xml.proofs.CanonLaws.{attributes_spelled}
-use Rattle.law_xml.proofs.SpelledAttributes.{Apart, Fine, each, nothing_apart}
+use Rattle.law_xml.proofs.SpelledAttributes.{Apart, Bounded, each, nothing_apart}
 use Rattle.law_xml.proofs.SpelledNames.{differ}
 
 -- ---- an attribute that may be there
@@ -66,16 +66,16 @@ apart_from x y (m ∷ ms) h (inr o) e = apart_from x y ms h.1 o e
 
 -- attributes can be read, and their names are some of these
 record Sound (names : List (List ℕ)) (xs : List tokens.Attribute) : Type 0 where
-  fine : AllByRecursion Fine xs
+  bounded : AllByRecursion Bounded xs
   within : AllByRecursion (λ x. In x names) (names_of xs)
   apart : Apart (names_of xs)
 
 given_sound : (x : List ℕ) (o : Option (List ℕ)) (names : List (List ℕ)) (rest : List tokens.Attribute) → is_qualified x ≡ true → IfSome o IsCharacters → AllByRecursion (λ m. x ≢ m) names → Sound names rest
     → Sound (x ∷ names) (given x o ++ rest)
-given_sound x None names rest q v h s = record { fine = s.fine; within = each (λ y. In y names) (λ y. In y (x ∷ names)) (λ y o. inr o) (names_of rest) s.within; apart = s.apart }
+given_sound x None names rest q v h s = record { bounded = s.bounded; within = each (λ y. In y names) (λ y. In y (x ∷ names)) (λ y o. inr o) (names_of rest) s.within; apart = s.apart }
 given_sound x (Some value) names rest q v h s =
     record {
-      fine = (record { name = q; value = v }, s.fine);
+      bounded = (record { name = q; value = v }, s.bounded);
       within = (inl refl, each (λ y. In y names) (λ y. In y (x ∷ names)) (λ y o. inr o) (names_of rest) s.within);
       apart = AllPairs-cons (λ a b. a ≢ b) x (names_of rest) (All-from_recursion (λ y. x ≢ y) (names_of rest) (each (λ y. In y names) (λ y. x ≢ y) (λ y o. apart_from x y names h o) (names_of rest) s.within)) s.apart;
     }
@@ -204,7 +204,7 @@ declared_names = codes "xmlns" ∷ codes "xmlns:stream" ∷ []
 
 declared_sound : Sound declared_names declarations
 declared_sound = record {
-  fine = (record { name = xmlns_qualified; value = client_plain }, (record { name = declaration_qualified; value = streams_plain }, tt));
+  bounded = (record { name = xmlns_qualified; value = client_plain }, (record { name = declaration_qualified; value = streams_plain }, tt));
   within = (inl refl, (inr (inl refl), tt));
   apart = AllPairs-cons (λ a b. a ≢ b) (codes "xmlns") (codes "xmlns:stream" ∷ [])
       (All-from_recursion (λ y. codes "xmlns" ≢ y) (codes "xmlns:stream" ∷ []) (differ (codes "xmlns") (codes "xmlns:stream") refl, tt))
@@ -343,7 +343,7 @@ header_start scope h p =
         space = [];
         bytes_are = header_bytes h;
         name_is = stream_qualified;
-        inside_is = attributes_spelled (all h) (tag_end false) s.fine;
+        inside_is = attributes_spelled (all h) (tag_end false) s.bounded;
         space_white = refl;
         distinct = s.apart;
       };

@@ -72,9 +72,9 @@ heads_between : (h : State) (items : List Item) → is_some h.here ≡ false →
 unfolding tag_closes tag_outside is_header
 heads_between h items outside p e = rw (outside, p, e) refl
 
-heads_behind : (h : State) (items : List Item) → is_some h.here ≡ false → h.lexical.phase ≡ phase.Declared → is_header h ≡ true → tag_closes (turn h items) ≡ header_tag (turn h items)
+heads_after : (h : State) (items : List Item) → is_some h.here ≡ false → h.lexical.phase ≡ phase.Declared → is_header h ≡ true → tag_closes (turn h items) ≡ header_tag (turn h items)
 unfolding tag_closes tag_outside is_header
-heads_behind h items outside p e = rw (outside, p, e) refl
+heads_after h items outside p e = rw (outside, p, e) refl
 
 header_here : (s h : State) (bytes : List ℕ) → HasInHand s h bytes → says_stream (start_of largest_limits (scope_in s.scopes) bytes) ≡ true → is_header h ≡ true
 unfolding is_header
@@ -84,9 +84,9 @@ heads_there : (s h : State) (items : List Item) (bytes : List ℕ) → HasInHand
 heads_there s h items bytes hand outside (inl p) = heads_first h items outside (hand.alike.phase ∙ p)
 heads_there s h items bytes hand outside (inr (inl p)) = heads_declared h items outside (hand.alike.phase ∙ p)
 heads_there s h items bytes hand outside (inr (inr (inl p, e))) = heads_between h items outside (hand.alike.phase ∙ p) (header_here s h bytes hand e)
-heads_there s h items bytes hand outside (inr (inr (inr p, e))) = heads_behind h items outside (hand.alike.phase ∙ p) (header_here s h bytes hand e)
+heads_there s h items bytes hand outside (inr (inr (inr p, e))) = heads_after h items outside (hand.alike.phase ∙ p) (header_here s h bytes hand e)
 
-header_closes : (h : State) (items : List Item) (tag : Tag) → tag_anew h ≡ Ok tag → header_tag (turn h items) ≡ turn (headed h tag) (items ++ header_items h.places.token_at (header_of tag) tag.empty)
+header_closes : (h : State) (items : List Item) (tag : Tag) → tag_anew h ≡ Ok tag → header_tag (turn h items) ≡ turn (headed h tag) (items ++ header_items h.positions.token_at (header_of tag) tag.empty)
 unfolding header_tag
 header_closes h items tag e = rw e refl
 
@@ -96,7 +96,7 @@ pub record HasHead (s t : State) (ends : Bool) (scope : Scope) (name : List ℕ)
   pub phase_is : t.lexical.phase ≡ phase_behind ends
   pub scopes : t.scopes ≡ scope ∷ []
   pub name_is : t.name ≡ name
-  pub unused : t.places.used ≡ 0
+  pub unused : t.positions.used ≡ 0
   pub limits : t.limits ≡ s.limits
   pub here : t.here ≡ s.here
   pub below : t.below ≡ s.below
@@ -123,14 +123,14 @@ has_head s h bytes name scope ends tag hand is_empty named binds =
 -- a header's tag, of an empty element or not
 pub head_run : (s : State) (items : List Item) (bytes name : List ℕ) (scope : Scope) (h : Header) (ends : Bool) (raw : List tokens.Attribute) (tag : Tag) → IsStart [] bytes raw tag → tag.empty ≡ ends
     → tag.spelled ≡ name → tag.bindings ≡ scope → h ≡ header_of tag → IsQuiet s → is_some s.here ≡ false → HasRoom s bytes → IsWithin (tag_limits s.limits) raw tag → MayHead s bytes
-    → (t : State) × (run (turn s items) bytes ≡ turn t (items ++ header_items s.places.at h ends)) × HasHead s t ends scope name × HasFront s items bytes
+    → (t : State) × (run (turn s items) bytes ≡ turn t (items ++ header_items s.positions.at h ends)) × HasHead s t ends scope name × HasFront s items bytes
 head_run s items bytes name scope h ends raw tag start is_empty named binds says quiet outside room within may =
     let r = start_run s items [] bytes raw tag quiet room start in
     let u = r.0 in
     let hand : HasInHand s u bytes = r.2 in
     let read : tag_anew u ≡ Ok tag = rw (hand.alike.limits, hand.token) ((laws.read (tag_limits s.limits) [] bytes tag).1 (raw, start, within)) in
     let closed = heads_there s u items bytes hand (ap is_some hand.alike.here ∙ outside) may ∙ header_closes u items tag read in
-    let is : items ++ header_items u.places.token_at (header_of tag) tag.empty ≡ items ++ header_items s.places.at h ends = λ i. items ++ header_items (hand.token_at i) (sym says i) (is_empty i) in (
+    let is : items ++ header_items u.positions.token_at (header_of tag) tag.empty ≡ items ++ header_items s.positions.at h ends = λ i. items ++ header_items (hand.token_at i) (sym says i) (is_empty i) in (
       passed (headed u tag) 62,
       r.1 ∙ ap (λ w. behind_byte w 62) closed ∙ ap (turn (passed (headed u tag) 62)) is,
       has_head s u bytes name scope ends tag hand is_empty named binds,

@@ -2,10 +2,10 @@
 -- characters (XML 1.0, section 2.2), and `]]>` (2.4).
 use Rattle.std.proofs.Common.{◌≡◌, ◌≢◌, ℕ, ◌<◌, ◌≤◌, Bool, true, false, eqb, ltb, ◌&&◌, ◌||◌, List, [], ◌∷◌, ◌++◌, Some, None, refl, sym, ap, subst, ◌∙◌, ⊎_elim}
 use Rattle.std.proofs.lemmas.Bool.{cases_Bool, cases_lt, lt-ltb, eqb-true, and_parts, or_parts, or_from, not-true}
-use Rattle.xml_tokens.specs.Characters.{is_control, ends_forbidden, are_characters_behind}
+use Rattle.xml_tokens.specs.Characters.{is_control, ends_forbidden, are_characters_after}
 use Rattle.xml_tokens.specs.Utf8.{is_lead, is_second, is_tail, utf8_next, utf8_run, ends_forbidden_character}
 use Rattle.law_xml.proofs.SpelledTexts.{alone, leads, none_some, one_some}
-use Rattle.xml_framer.specs.TextSteps.{brackets_behind}
+use Rattle.xml_framer.specs.TextSteps.{brackets_after}
 use Rattle.law_xml.specs.Texts.{begins_section_end, has_section_end}
 
 -- ---- the character in hand
@@ -83,17 +83,17 @@ allowed a c (x ∷ []) b h e = no_control a c b e
 allowed a c (x ∷ y ∷ []) b h e = ap (λ u. ends_forbidden u y b) (sym h.0) ∙ ap (λ u. ends_forbidden a u b) (sym h.1) ∙ e
 allowed a c (x ∷ y ∷ z ∷ more) b h e = no_control a c b e
 
-pub first_allowed : (a c b : ℕ) (bs : List ℕ) → are_characters_behind a c (b ∷ bs) ≡ true → (ends_forbidden a c b ≡ false) × (are_characters_behind c b bs ≡ true)
-first_allowed a c b bs e = let p = and_parts _ (are_characters_behind c b bs) e in (not-true (ends_forbidden a c b) p.0, p.1)
+pub first_allowed : (a c b : ℕ) (bs : List ℕ) → are_characters_after a c (b ∷ bs) ≡ true → (ends_forbidden a c b ≡ false) × (are_characters_after c b bs ≡ true)
+first_allowed a c b bs e = let p = and_parts _ (are_characters_after c b bs) e in (not-true (ends_forbidden a c b) p.0, p.1)
 
 -- characters in two parts
 pub record Parted (a c : ℕ) (xs ys : List ℕ) : Type 0 where
-  pub first : are_characters_behind a c xs ≡ true
+  pub first : are_characters_after a c xs ≡ true
   pub before : ℕ
   pub last : ℕ
-  pub second : are_characters_behind before last ys ≡ true
+  pub second : are_characters_after before last ys ≡ true
 
-pub parted : (a c : ℕ) (xs ys : List ℕ) → are_characters_behind a c (xs ++ ys) ≡ true → Parted a c xs ys
+pub parted : (a c : ℕ) (xs ys : List ℕ) → are_characters_after a c (xs ++ ys) ≡ true → Parted a c xs ys
 parted a c [] ys e = record { first = refl; before = a; last = c; second = e }
 parted a c (x ∷ xs) ys e =
     let f = first_allowed a c x (xs ++ ys) e in
@@ -105,33 +105,33 @@ parted a c (x ∷ xs) ys e =
 -- behind a number of `]`, `]]>` ends somewhere
 abbrev pub ends_within : ℕ → List ℕ → Bool
 ends_within n [] = false
-ends_within n (b ∷ bs) = (eqb n 2 && eqb b 62) || ends_within (brackets_behind n b) bs
+ends_within n (b ∷ bs) = (eqb n 2 && eqb b 62) || ends_within (brackets_after n b) bs
 
 record NoneWithin (bs : List ℕ) : Type 0 where
   none : has_section_end bs ≡ false → ends_within 0 bs ≡ false
-  behind_one : has_section_end (93 ∷ bs) ≡ false → ends_within 1 bs ≡ false
-  behind_two : has_section_end (93 ∷ 93 ∷ bs) ≡ false → ends_within 2 bs ≡ false
+  after_one : has_section_end (93 ∷ bs) ≡ false → ends_within 1 bs ≡ false
+  after_two : has_section_end (93 ∷ 93 ∷ bs) ≡ false → ends_within 2 bs ≡ false
 
 later : (b : ℕ) (bs : List ℕ) → has_section_end (b ∷ bs) ≡ false → has_section_end bs ≡ false
 later b bs h = (or_parts (begins_section_end (b ∷ bs)) (has_section_end bs) h).1
 
 none_anywhere : (bs : List ℕ) → NoneWithin bs
-none_anywhere [] = record { none = λ h. refl; behind_one = λ h. refl; behind_two = λ h. refl }
+none_anywhere [] = record { none = λ h. refl; after_one = λ h. refl; after_two = λ h. refl }
 none_anywhere (b ∷ bs) =
     let ih = none_anywhere bs in
     record {
       none = λ h. ⊎_elim
-          (λ (bracket : eqb b 93 ≡ true). rw bracket (ih.behind_one (subst (λ x. has_section_end (x ∷ bs) ≡ false) (eqb-true b 93 bracket) h)))
+          (λ (bracket : eqb b 93 ≡ true). rw bracket (ih.after_one (subst (λ x. has_section_end (x ∷ bs) ≡ false) (eqb-true b 93 bracket) h)))
           (λ (other : eqb b 93 ≡ false). rw other (ih.none (later b bs h)))
           (cases_Bool (eqb b 93));
-      behind_one = λ h. ⊎_elim
-          (λ (bracket : eqb b 93 ≡ true). rw bracket (ih.behind_two (subst (λ x. has_section_end (93 ∷ x ∷ bs) ≡ false) (eqb-true b 93 bracket) h)))
+      after_one = λ h. ⊎_elim
+          (λ (bracket : eqb b 93 ≡ true). rw bracket (ih.after_two (subst (λ x. has_section_end (93 ∷ x ∷ bs) ≡ false) (eqb-true b 93 bracket) h)))
           (λ (other : eqb b 93 ≡ false). rw other (ih.none (later b bs (later 93 (b ∷ bs) h))))
           (cases_Bool (eqb b 93));
-      behind_two = λ h.
+      after_two = λ h.
           let p = or_parts (eqb b 62) (has_section_end (93 ∷ b ∷ bs)) h in
           ⊎_elim
-          (λ (bracket : eqb b 93 ≡ true). rw (p.0, bracket) (ih.behind_two (subst (λ x. has_section_end (93 ∷ x ∷ bs) ≡ false) (eqb-true b 93 bracket) p.1)))
+          (λ (bracket : eqb b 93 ≡ true). rw (p.0, bracket) (ih.after_two (subst (λ x. has_section_end (93 ∷ x ∷ bs) ≡ false) (eqb-true b 93 bracket) p.1)))
           (λ (other : eqb b 93 ≡ false). rw (p.0, other) (ih.none (later b bs (later 93 (b ∷ bs) p.1))))
           (cases_Bool (eqb b 93));
     }

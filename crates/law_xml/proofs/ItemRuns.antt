@@ -31,7 +31,7 @@ use Rattle.xml_framer.specs.declared.states.Phase.TheVariants as phase
 pub quiet_there : (s : State) (p : Phase) (scope : Scope) (name : List ℕ) → StandsOutside s p scope name → IsQuiet s
 quiet_there s p scope name at = record { no_fault = at.no_fault; text = at.text; no_token = at.no_token; no_pending = at.no_pending; no_quote = at.no_quote; not_spoiled = at.not_spoiled; counted = rw at.none_used (omega arith); uncounted = λ e. at.none_used }
 
-pub room_there : (s : State) (bytes : List ℕ) → s.places.used ≡ 0 → length bytes ≤ s.limits.bytes → HasRoom s bytes
+pub room_there : (s : State) (bytes : List ℕ) → s.positions.used ≡ 0 → length bytes ≤ s.limits.bytes → HasRoom s bytes
 room_there s bytes unused short = inl (omega (arith, unused, short))
 
 -- ---- headers
@@ -56,11 +56,11 @@ stands_headed s t p scope inner name next ends stands has =
 
 -- behind a header's tag, of an empty element or not
 pub record HasHeaded (s : State) (items : List Item) (bytes : List ℕ) (h : Header) (ends : Bool) (inner : Scope) (next : List ℕ) : Type 0 where
-  pub behind : State
-  pub run_is : run (turn s items) bytes ≡ turn behind (items ++ header_items s.places.at h ends)
+  pub following : State
+  pub run_is : run (turn s items) bytes ≡ turn following (items ++ header_items s.positions.at h ends)
   pub front : HasFront s items bytes
-  pub stands : StandsOutside behind (phase_behind ends) inner next
-  pub same_limits : behind.limits ≡ s.limits
+  pub stands : StandsOutside following (phase_behind ends) inner next
+  pub same_limits : following.limits ≡ s.limits
 
 pub head_read : (s : State) (items : List Item) (p : Phase) (scope inner : Scope) (name next bytes : List ℕ) (h : Header) (ends : Bool) (raw : List tokens.Attribute) (tag : Tag) → IsStart [] bytes raw tag → tag.empty ≡ ends
     → tag.spelled ≡ next → tag.bindings ≡ inner → h ≡ header_of tag → StandsOutside s p scope name → IsHeadWithin s.limits bytes raw tag → MayHead s bytes → HasHeaded s items bytes h ends inner next
@@ -68,7 +68,7 @@ head_read s items p scope inner name next bytes h ends raw tag start is_empty na
     let r =
     head_run s items bytes next inner h ends raw tag start is_empty named binds says (quiet_there s p scope name stands) (ap is_some stands.outside) (room_there s bytes stands.none_used within.short) within.tag
     may in
-    record { behind = r.0; run_is = r.1; front = r.3; stands = stands_headed s r.0 p scope inner name next ends stands r.2; same_limits = r.2.limits }
+    record { following = r.0; run_is = r.1; front = r.3; stands = stands_headed s r.0 p scope inner name next ends stands r.2; same_limits = r.2.limits }
 
 -- the tag of a later header may be one
 pub may_head_next : (s : State) (p : Phase) (scope : Scope) (name bytes : List ℕ) (xs ys : List tokens.Attribute) (t u : Tag) → StandsOutside s p scope name
@@ -81,8 +81,8 @@ head_gives : (s : State) (items : List Item) (p : Phase) (scope inner : Scope) (
 head_gives s items p scope inner name next bytes at h i spelled stands within may is =
     let r = head_read s items p scope inner name next bytes h false spelled.raw spelled.tag spelled.start spelled.not_empty spelled.name_is spelled.scope_is spelled.says stands within may in
     record {
-      behind = r.behind;
-      run_is = r.run_is ∙ ap (λ j. turn r.behind (items ++ placed s.places.at j ∷ [])) (sym is);
+      following = r.following;
+      run_is = r.run_is ∙ ap (λ j. turn r.following (items ++ placed s.positions.at j ∷ [])) (sym is);
       none_before = none_before s items bytes r.front;
       stands = r.stands;
       same_limits = r.same_limits;
@@ -111,11 +111,11 @@ element_gives s items scope name bytes e i spelled stands within is =
     let h = r.0 in
     let whole : IsWhole s h bytes = r.2 in
     record {
-      behind = passed (item_ended h) 62;
+      following = passed (item_ended h) 62;
       run_is =
           r.1 ∙ top_given s h items bytes e stands.outside whole
           ∙ ap (λ f. turn (passed (item_ended h) 62) (items ++ item.Element f ∷ [])) (spelled_stays scope bytes e spelled.spelled)
-          ∙ ap (λ j. turn (passed (item_ended h) 62) (items ++ placed s.places.at j ∷ [])) (sym is);
+          ∙ ap (λ j. turn (passed (item_ended h) 62) (items ++ placed s.positions.at j ∷ [])) (sym is);
       stands = record {
         no_fault = whole.no_fault;
         outside = whole.here ∙ ap (λ o. text_joined o s.chars) stands.outside;
@@ -145,8 +145,8 @@ footer_gives s items scope name bytes i spelled stands is =
     let has : HasEnded s r.0 = r.2 in
     let quiet = has.fresh.quiet in
     record {
-      behind = r.0;
-      run_is = r.1 ∙ ap (λ j. turn r.0 (items ++ placed s.places.at j ∷ [])) (sym is);
+      following = r.0;
+      run_is = r.1 ∙ ap (λ j. turn r.0 (items ++ placed s.positions.at j ∷ [])) (sym is);
       stands = record {
         no_fault = quiet.no_fault;
         outside = has.here ∙ stands.outside;
@@ -177,16 +177,16 @@ item_gives s items scope name bytes i (a_footer _ _ _ _ spelled is) stands withi
 -- ---- headers elsewhere
 
 pub first_gives : (s : State) (items : List Item) (scope inner : Scope) (name next bytes : List ℕ) (h : Header) (spelled : SpellsHeader bytes next inner h) → StandsOutside s phase.First scope name
-    → IsHeaderWithin s.limits bytes next inner h spelled → Gives s items bytes (item.Header s.places.at h) phase.Between inner next
+    → IsHeaderWithin s.limits bytes next inner h spelled → Gives s items bytes (item.Header s.positions.at h) phase.Between inner next
 first_gives s items scope inner name next bytes h spelled stands within =
-    head_gives s items phase.First scope inner name next bytes s.places.at h (item.Header s.places.at h) spelled stands within (inl stands.phase_is) refl
+    head_gives s items phase.First scope inner name next bytes s.positions.at h (item.Header s.positions.at h) spelled stands within (inl stands.phase_is) refl
 
 pub first_declared_gives : (s : State) (items : List Item) (scope inner : Scope) (name next bytes : List ℕ) (h : Header) (spelled : SpellsHeader bytes next inner h) → StandsOutside s phase.FirstDeclared scope name
-    → IsHeaderWithin s.limits bytes next inner h spelled → Gives s items bytes (item.Header s.places.at h) phase.Between inner next
+    → IsHeaderWithin s.limits bytes next inner h spelled → Gives s items bytes (item.Header s.positions.at h) phase.Between inner next
 first_declared_gives s items scope inner name next bytes h spelled stands within =
-    head_gives s items phase.FirstDeclared scope inner name next bytes s.places.at h (item.Header s.places.at h) spelled stands within (inr (inl stands.phase_is)) refl
+    head_gives s items phase.FirstDeclared scope inner name next bytes s.positions.at h (item.Header s.positions.at h) spelled stands within (inr (inl stands.phase_is)) refl
 
 pub declared_gives : (s : State) (items : List Item) (scope inner : Scope) (name next bytes : List ℕ) (h : Header) (spelled : SpellsNextHeader scope bytes next inner h) → StandsOutside s phase.Declared scope name
-    → IsNextHeaderWithin s.limits scope bytes next inner h spelled → Gives s items bytes (item.Header s.places.at h) phase.Between inner next
+    → IsNextHeaderWithin s.limits scope bytes next inner h spelled → Gives s items bytes (item.Header s.positions.at h) phase.Between inner next
 declared_gives s items scope inner name next bytes h spelled stands within =
-    next_header_gives s items phase.Declared scope inner name next bytes s.places.at h (item.Header s.places.at h) spelled stands (inr stands.phase_is) within refl
+    next_header_gives s items phase.Declared scope inner name next bytes s.positions.at h (item.Header s.positions.at h) spelled stands (inr stands.phase_is) within refl

@@ -12,7 +12,7 @@ pub mod HeaderLaws
 pub mod FaultLaws
 pub mod CountLaws
 pub mod CountedRuns
-pub mod RunPlaces
+pub mod RunPositions
 -- what is spelled is read: runs of bytes
 pub mod Quiet
 pub mod HeldBytes

@@ -43,7 +43,7 @@ use Rattle.law_xml.specs.Offsets.{IsOpen, IsRun, first_of, is_no_markup, leads_t
 use Rattle.law_xml.specs.OpenRows.{EndInText}
 use Rattle.law_xml.specs.Prefixes.{IsPrefix}
 use Rattle.law_xml.specs.StreamLimits.{IsStreamWithin}
-use Rattle.law_xml.specs.Streams.{InForce, StreamTo, place_of}
+use Rattle.law_xml.specs.Streams.{InForce, StreamTo, position_of}
 
 heads : (x y : ℕ) (xs ys : List ℕ) → x ∷ xs ≡ y ∷ ys → x ≡ y
 heads x y xs ys e = cc
@@ -113,14 +113,14 @@ start_limited p hand b h = record {
 
 -- the unfinished bytes are counted
 record IsCountedHand (s : State) (b : ℕ) (p : Phase) (hand : List ℕ) : Type 0 where
-  used_is : s.places.used ≡ length hand
+  used_is : s.positions.used ≡ length hand
   some : 0 < length hand
   shows : shows_unlimited s b ≡ false → HasLimit p (hand ++ b ∷ [])
   limited : HasLimit p (hand ++ b ∷ []) → shows_unlimited s b ≡ false
 
 -- they aren't
 record IsFreeHand (s : State) (b : ℕ) (p : Phase) (hand : List ℕ) : Type 0 where
-  unused : s.places.used ≡ 0
+  unused : s.positions.used ≡ 0
   no_limit : HasLimit p (hand ++ b ∷ []) → ⊥
 
 -- a byte in an element shows nothing without a limit
@@ -128,19 +128,19 @@ none_shown : (opens : Bool) → (opens && false) ≡ false
 none_shown true = refl
 none_shown false = refl
 
-far_parts : (s : State) (b : ℕ) → is_too_long s b ≡ true → (0 < s.places.used) × (s.limits.bytes ≤ s.places.used) × (shows_unlimited s b ≡ false)
+far_parts : (s : State) (b : ℕ) → is_too_long s b ≡ true → (0 < s.positions.used) × (s.limits.bytes ≤ s.positions.used) × (shows_unlimited s b ≡ false)
 unfolding is_too_long
 far_parts s b e =
     let p = and_parts _ _ e in
-    let q = and_parts (nat_le s.limits.bytes s.places.used) (not (shows_unlimited s b)) p.1 in
-    (ltb-true 0 s.places.used p.0, most s.limits.bytes s.places.used q.0, not-true (shows_unlimited s b) q.1)
+    let q = and_parts (nat_le s.limits.bytes s.positions.used) (not (shows_unlimited s b)) p.1 in
+    (ltb-true 0 s.positions.used p.0, most s.limits.bytes s.positions.used q.0, not-true (shows_unlimited s b) q.1)
   where
     most : (m n : ℕ) → nat_le m n ≡ true → m ≤ n
     most m n h = grind (arith, nat_tests)
 
-far_from : (s : State) (b : ℕ) → 0 < s.places.used → s.limits.bytes ≤ s.places.used → shows_unlimited s b ≡ false → is_too_long s b ≡ true
+far_from : (s : State) (b : ℕ) → 0 < s.positions.used → s.limits.bytes ≤ s.positions.used → shows_unlimited s b ≡ false → is_too_long s b ≡ true
 unfolding is_too_long
-far_from s b some most shows = and_from _ _ (less s.places.used some) (and_from _ _ (least s.limits.bytes s.places.used most) (ap not shows))
+far_from s b some most shows = and_from _ _ (less s.positions.used some) (and_from _ _ (least s.limits.bytes s.positions.used most) (ap not shows))
   where
     less : (n : ℕ) → 0 < n → nat_lt 0 n ≡ true
     less n h = grind (arith, nat_tests)
@@ -234,8 +234,8 @@ module _ (limits : Limits) (few_bytes : limits.bytes < 2 ^ 64) (few : limits.att
       sym r.stands.phase_is ∙ ap (λ (u : Turn). u.state.lexical.phase) (sym r.run_is ∙ q.run_is) ∙ q.stands.phase_is
 
   -- after a stream no token is in hand
-  text_behind : (now : InForce) (done : List ℕ) (given : List Item) (x : StreamTo now done given) → IsStreamWithin limits now done given x → (is_text (at limits done).state.lexical.mode ≡ true) × ((at limits done).state.fault ≡ None)
-  text_behind now done given x within =
+  text_after : (now : InForce) (done : List ℕ) (given : List Item) (x : StreamTo now done given) → IsStreamWithin limits now done given x → (is_text (at limits done).state.lexical.mode ≡ true) × ((at limits done).state.fault ≡ None)
+  text_after now done given x within =
       let r = stream_read limits now done given x within in
       (ap (λ (u : Turn). is_text u.state.lexical.mode) r.run_is ∙ ap is_text r.stands.text, ap (λ (u : Turn). u.state.fault) r.run_is ∙ r.stands.no_fault)
 
@@ -278,7 +278,7 @@ module _ (limits : Limits) (few_bytes : limits.bytes < 2 ^ 64) (few : limits.att
         no_more (x ∷ xs) front rest =
             let first = heads 60 x more (xs ++ p.hand) rest in
             let there : p.done ≡ before ++ 60 ∷ xs = front ∙ ap (λ d. before ++ d ∷ xs) (sym first) in
-            let t = text_behind p.now p.done items p.stream within in
+            let t = text_after p.now p.done items p.stream within in
             let part = open_front xs p.hand (subst IsOpen (tails 60 x more (xs ++ p.hand) rest) opens) in
             let held = held_at limits before xs (ap (λ l. (at limits l).state.fault) (sym there) ∙ t.1) e.ahead part in
             absurd (true≢false (sym t.0 ∙ ap (λ l. is_text (at limits l).state.lexical.mode) there ∙ held))
@@ -298,18 +298,18 @@ module _ (limits : Limits) (few_bytes : limits.bytes < 2 ^ 64) (few : limits.att
         (cases_Bool s.lexical.in_run)
 
     -- an open element
-    module _ (b : ℕ) (o : OpenElement) (hand : List ℕ) (a : Around s.limits s.places.used s.lexical.phase s.scopes s.name s.below o items bytes hand) (inner : is_some s.here ≡ true) where
+    module _ (b : ℕ) (o : OpenElement) (hand : List ℕ) (a : Around s.limits s.positions.used s.lexical.phase s.scopes s.name s.below o items bytes hand) (inner : is_some s.here ≡ true) where
       abbrev whole : List ℕ
       whole = a.outer ++ (a.level ++ hand)
 
-      used_most : s.places.used ≤ length p.hand
+      used_most : s.positions.used ≤ length p.hand
       unfolding framed
       used_most =
           let r = stream_read limits p.now p.done items p.stream within in
-          let behind : run (turn r.behind items) p.hand ≡ at limits bytes =
+          let following : run (turn r.following items) p.hand ≡ at limits bytes =
           ap (λ (u : Turn). run u p.hand) (sym r.run_is) ∙ sym (run_append (turn (from_start limits) []) p.done p.hand) ∙ ap (at limits) (sym p.bytes_are) in
-          let n = run_used p.hand (turn r.behind items) (ap (λ (u : Turn). u.state.fault) behind ∙ none) in
-          let same = ap (λ (u : Turn). u.state.places.used) behind in
+          let n = run_used p.hand (turn r.following items) (ap (λ (u : Turn). u.state.fault) following ∙ none) in
+          let same = ap (λ (u : Turn). u.state.positions.used) following in
           let zero_used = r.stands.none_used in omega (arith, n, same, zero_used)
 
       element_hand : IsCountedHand s b p.now.phase p.hand
@@ -323,7 +323,7 @@ module _ (limits : Limits) (few_bytes : limits.bytes < 2 ^ 64) (few : limits.att
           let le = p.longest (in_force phase.Between a.base s.name) a.done whole items stream.0 a.bytes_are inside in
           let most = used_most in
           let n = ap length p.bytes_are ∙ length-append p.done p.hand in
-          let used : s.places.used ≡ length p.hand = omega (arith, sum, le, most, n) in
+          let used : s.positions.used ≡ length p.hand = omega (arith, sum, le, most, n) in
           let fronts = same_front a.done whole p.done p.hand (sym a.bytes_are ∙ p.bytes_are) (omega (arith, sum, used, n)) in
           let level = begins_more a.level hand (level_begins s.limits (IsContent s.limits) (scope_in a.rest) a.own o a.level a.open_level) in
           let begins = subst BeginsStart fronts.1 (levels_begin s.limits a.base a.rest s.below a.outer (a.level ++ hand) a.covered level) in
@@ -335,8 +335,8 @@ module _ (limits : Limits) (few_bytes : limits.bytes < 2 ^ 64) (few : limits.att
       abbrev Kind : Type 0
       Kind = IsCountedHand s b p.now.phase p.hand ⊎ IsFreeHand s b p.now.phase p.hand
 
-      token_used : (now : InForce) (place : ℕ) (more : List ℕ) → TokenIn s.limits s.places.used now items bytes s.token place → s.token ≡ 60 ∷ more → 60 ∷ more ≡ p.hand → (s.places.used ≡ length p.hand) × (0 < length p.hand)
-      token_used now place more h token hand =
+      token_used : (now : InForce) (position : ℕ) (more : List ℕ) → TokenIn s.limits s.positions.used now items bytes s.token position → s.token ≡ 60 ∷ more → 60 ∷ more ≡ p.hand → (s.positions.used ≡ length p.hand) × (0 < length p.hand)
+      token_used now position more h token hand =
           let few_there = subst (λ (l : Limits). l.bytes < 2 ^ 64) (sym same_limits) few_bytes in
           let count = h.count few_there in
           let some = count.0 in
@@ -344,14 +344,14 @@ module _ (limits : Limits) (few_bytes : limits.bytes < 2 ^ 64) (few : limits.att
           let n = ap length h.bytes_are ∙ length-append h.done s.token in
           let m = ap length (token ∙ hand) in (omega (arith, sum, n, m), omega (arith, some, sum, n, m))
 
-      free : (c : ℕ) (more : List ℕ) → s.places.used ≡ 0 → 60 ∷ c ∷ more ≡ p.hand → (c ≡ 33) ⊎ (c ≡ 47) → IsFreeHand s b p.now.phase p.hand
+      free : (c : ℕ) (more : List ℕ) → s.positions.used ≡ 0 → 60 ∷ c ∷ more ≡ p.hand → (c ≡ 33) ⊎ (c ≡ 47) → IsFreeHand s b p.now.phase p.hand
       free c more unused hand is = record { unused = unused; no_limit = λ h. refuse is (subst (λ l. HasLimit p.now.phase (l ++ b ∷ [])) (sym hand) h) }
         where
           refuse : (c ≡ 33) ⊎ (c ≡ 47) → HasLimit p.now.phase (60 ∷ (c ∷ more) ++ b ∷ []) → ⊥
           refuse (inl e) h = h.no_exclamation (second_is p.now.phase c more b h ∙ e)
           refuse (inr e) h = h.no_end (second_is p.now.phase c more b h ∙ e)
 
-      limited_hand : (c : ℕ) (more : List ℕ) → 60 ∷ c ∷ more ≡ p.hand → (s.places.used ≡ length p.hand) × (0 < length p.hand) → is_opening s.lexical.mode ≡ false → c ≢ 47 → c ≢ 33 → (c ≡ 63 → admits_declaration p.now.phase ≡ true)
+      limited_hand : (c : ℕ) (more : List ℕ) → 60 ∷ c ∷ more ≡ p.hand → (s.positions.used ≡ length p.hand) × (0 < length p.hand) → is_opening s.lexical.mode ≡ false → c ≢ 47 → c ≢ 33 → (c ≡ 63 → admits_declaration p.now.phase ≡ true)
           → IsCountedHand s b p.now.phase p.hand
       limited_hand c more hand used later no_end no_exclamation declares = record {
         used_is = used.0;
@@ -364,7 +364,7 @@ module _ (limits : Limits) (few_bytes : limits.bytes < 2 ^ 64) (few : limits.att
       markup_of : (k : IsTokenHeld s bytes) → first_of s.lexical.mode ≡ 60 → EndInMarkup bytes k.before k.more
       markup_of k first = record { ahead = k.ahead; bytes_are = k.bytes_are ∙ ap (λ d. k.before ++ d ∷ k.more) first }
 
-      none_kind : (m : Mode) → s.lexical.mode ≡ m → Hand None m s s.places.used items bytes → Kind
+      none_kind : (m : Mode) → s.lexical.mode ≡ m → Hand None m s s.positions.used items bytes → Kind
       none_kind mode.Text is h = inr (record { unused = h.1.1; no_limit = text_case b (ap is_text is) outer })
       none_kind mode.Reference is h = absurd h.1
       none_kind mode.Section is h = absurd h.1
@@ -373,7 +373,7 @@ module _ (limits : Limits) (few_bytes : limits.bytes < 2 ^ 64) (few : limits.att
           let kept = subst (λ n. AreKept n s k.more) is k.kept in
           let t = token_is k.before k.more (markup_of k (ap first_of is)) (subst IsOpen (sym kept.1) (open_tag [] refl refl)) outer in
           let hand : 60 ∷ [] ≡ p.hand = ap (λ l. 60 ∷ l) (sym kept.1) ∙ t.hand_is in
-          let used = token_used (in_force s.lexical.phase s.scopes s.name) s.places.token_at [] h.1.1 h.1.0 hand in
+          let used = token_used (in_force s.lexical.phase s.scopes s.name) s.positions.token_at [] h.1.1 h.1.0 hand in
           inl
           (record {
             used_is = used.0;
@@ -387,7 +387,7 @@ module _ (limits : Limits) (few_bytes : limits.bytes < 2 ^ 64) (few : limits.att
           let t = token_is k.before k.more (markup_of k (ap first_of is)) (opening_section k.more kept.1 kept.2) outer in
           inr (bang k.more kept.1 kept.2 kept.3 h.1 t.hand_is)
         where
-          bang : (more rest : List ℕ) → codes "![CDATA[" ≡ more ++ rest → leads_tag more ≡ false → s.places.used ≡ 0 → 60 ∷ more ≡ p.hand → IsFreeHand s b p.now.phase p.hand
+          bang : (more rest : List ℕ) → codes "![CDATA[" ≡ more ++ rest → leads_tag more ≡ false → s.positions.used ≡ 0 → 60 ∷ more ≡ p.hand → IsFreeHand s b p.now.phase p.hand
           bang [] rest due lead unused hand = absurd (true≢false lead)
           bang (x ∷ xs) rest due lead unused hand = free x xs unused hand (inl (sym (heads 33 x (codes "[CDATA[") (xs ++ rest) due)))
       none_kind mode.Footer is h =
@@ -396,16 +396,16 @@ module _ (limits : Limits) (few_bytes : limits.bytes < 2 ^ 64) (few : limits.att
           let t = token_is k.before k.more (markup_of k (ap first_of is)) (open_tag k.more kept.0 kept.1) outer in
           inr (end k.more kept.3 h.1.0 t.hand_is)
         where
-          end : (more : List ℕ) → is_end (60 ∷ more) ≡ true → s.places.used ≡ 0 → 60 ∷ more ≡ p.hand → IsFreeHand s b p.now.phase p.hand
+          end : (more : List ℕ) → is_end (60 ∷ more) ≡ true → s.positions.used ≡ 0 → 60 ∷ more ≡ p.hand → IsFreeHand s b p.now.phase p.hand
           end [] e unused hand = absurd (false≢true e)
           end (x ∷ xs) e unused hand = free x xs unused hand (inr (eqb-true x 47 (and_parts (60 == 60) (x == 47) e).1))
       none_kind mode.Question is h =
           let k = token_told limits bytes none (ap is_text is) in
           let kept = subst (λ n. AreKept n s k.more) is k.kept in
           let t = token_is k.before k.more (markup_of k (ap first_of is)) (opening_declaration k.more kept.1 kept.2) outer in
-          inl (question k.more kept.1 kept.2 kept.3 t.hand_is (token_used (in_force s.lexical.phase s.scopes s.name) s.places.token_at k.more h.1.1 kept.0 t.hand_is) (ap admits_declaration (sym t.phase_is) ∙ h.1.0))
+          inl (question k.more kept.1 kept.2 kept.3 t.hand_is (token_used (in_force s.lexical.phase s.scopes s.name) s.positions.token_at k.more h.1.1 kept.0 t.hand_is) (ap admits_declaration (sym t.phase_is) ∙ h.1.0))
         where
-          question : (more rest : List ℕ) → codes "?xml" ≡ more ++ rest → leads_tag more ≡ false → 60 ∷ more ≡ p.hand → (s.places.used ≡ length p.hand) × (0 < length p.hand) → admits_declaration p.now.phase ≡ true
+          question : (more rest : List ℕ) → codes "?xml" ≡ more ++ rest → leads_tag more ≡ false → 60 ∷ more ≡ p.hand → (s.positions.used ≡ length p.hand) × (0 < length p.hand) → admits_declaration p.now.phase ≡ true
               → IsCountedHand s b p.now.phase p.hand
           question [] rest due lead hand used may = absurd (true≢false lead)
           question (x ∷ xs) rest due lead hand used may =
@@ -417,19 +417,19 @@ module _ (limits : Limits) (few_bytes : limits.bytes < 2 ^ 64) (few : limits.att
           let t = token_is k.before k.more (markup_of k (ap first_of is)) (open_declaration k.more kept.2 kept.1 kept.3 kept.4 kept.5) outer in
           let hand : 60 ∷ 63 ∷ (codes "xml" ++ kept.1 ∷ kept.2) ≡ p.hand = ap (λ l. 60 ∷ l) (sym kept.3) ∙ t.hand_is in
           inl
-          (limited_hand 63 (codes "xml" ++ kept.1 ∷ kept.2) hand (token_used (in_force s.lexical.phase s.scopes s.name) s.places.token_at k.more h.1.1 kept.0 t.hand_is) (ap is_opening is) (λ e. omega (arith, e)) (λ e. omega (arith, e))
+          (limited_hand 63 (codes "xml" ++ kept.1 ∷ kept.2) hand (token_used (in_force s.lexical.phase s.scopes s.name) s.positions.token_at k.more h.1.1 kept.0 t.hand_is) (ap is_opening is) (λ e. omega (arith, e)) (λ e. omega (arith, e))
           (λ e. ap admits_declaration (sym t.phase_is) ∙ h.1.0))
       none_kind mode.Tag is h =
           let k = token_told limits bytes none (ap is_text is) in
           let kept = subst (λ n. AreKept n s k.more) is k.kept in
           let t = token_is k.before k.more (markup_of k (ap first_of is)) (open_tag k.more kept.1 kept.2) outer in
-          inl (tag k.more kept.0 kept.1 kept.4 h.1.0.1 t.hand_is (token_used (in_force s.lexical.phase s.scopes s.name) s.places.token_at k.more h.1.1 kept.0 t.hand_is))
+          inl (tag k.more kept.0 kept.1 kept.4 h.1.0.1 t.hand_is (token_used (in_force s.lexical.phase s.scopes s.name) s.positions.token_at k.more h.1.1 kept.0 t.hand_is))
         where
           slash : (y : Bool) → (60 == 60 && y) ≡ false → y ≡ false
           slash true h = absurd (true≢false h)
           slash false h = refl
 
-          tag : (more : List ℕ) → s.token ≡ 60 ∷ more → leads_tag more ≡ true → is_empty more ≡ false → is_end s.token ≡ false → 60 ∷ more ≡ p.hand → (s.places.used ≡ length p.hand) × (0 < length p.hand)
+          tag : (more : List ℕ) → s.token ≡ 60 ∷ more → leads_tag more ≡ true → is_empty more ≡ false → is_end s.token ≡ false → 60 ∷ more ≡ p.hand → (s.positions.used ≡ length p.hand) × (0 < length p.hand)
               → IsCountedHand s b p.now.phase p.hand
           tag [] token leads some no_end hand used = absurd (true≢false some)
           tag (x ∷ xs) token leads some no_end hand used =
@@ -437,7 +437,7 @@ module _ (limits : Limits) (few_bytes : limits.bytes < 2 ^ 64) (few : limits.att
               let other : (60 == 60 && x == 47) ≡ false = ap is_end (sym token) ∙ no_end in
               limited_hand x xs hand used (ap is_opening is) (not_equal x 47 (slash (x == 47) other)) (not_equal x 33 q.0) (λ e. absurd (not_equal x 63 q.1 e))
 
-    kind : (b : ℕ) (o : Option OpenElement) → s.here ≡ o → Hand o s.lexical.mode s s.places.used items bytes → IsCountedHand s b p.now.phase p.hand ⊎ IsFreeHand s b p.now.phase p.hand
+    kind : (b : ℕ) (o : Option OpenElement) → s.here ≡ o → Hand o s.lexical.mode s s.positions.used items bytes → IsCountedHand s b p.now.phase p.hand ⊎ IsFreeHand s b p.now.phase p.hand
     kind b None is h = none_kind b (ap is_some is) s.lexical.mode refl h
     kind b (Some o) is h = inl (element_hand b o h.0 h.1 (ap is_some is))
 
@@ -461,10 +461,10 @@ module _ (limits : Limits) (few_bytes : limits.bytes < 2 ^ 64) (few : limits.att
 
   -- ---- both ways
 
-  part_place : (n : ℕ) → part_of s ≡ Some n → 0 < length known.hand → n ≡ place_of (length known.done)
-  part_place n is some = there known.hand some (sym is ∙ known.part_is)
+  part_position : (n : ℕ) → part_of s ≡ Some n → 0 < length known.hand → n ≡ position_of (length known.done)
+  part_position n is some = there known.hand some (sym is ∙ known.part_is)
     where
-      there : (hand : List ℕ) → 0 < length hand → Some n ≡ (if is_empty hand then None else Some (place_of (length known.done))) → n ≡ place_of (length known.done)
+      there : (hand : List ℕ) → 0 < length hand → Some n ≡ (if is_empty hand then None else Some (position_of (length known.done))) → n ≡ position_of (length known.done)
       there [] h e = absurd (omega (arith, h))
       there (x ∷ xs) h e = cc
 
@@ -479,10 +479,10 @@ module _ (limits : Limits) (few_bytes : limits.bytes < 2 ^ 64) (few : limits.att
           let most = f.1 in
           let used = h.used_is in
           let told = long_told limits bytes b few short none far in
-          let place = part_place told.0 told.1 h.some in
+          let position = part_position told.0 told.1 h.some in
           let both : ◌≡◌ {A = Option Fault} (Some (record { at = at_offset; why = why.TooLong })) (Some (record { at = told.0; why = why.TooLong })) = sym is ∙ ap (λ (u : Turn). u.state.fault) (run_append (turn (from_start limits) []) bytes (b ∷ [])) ∙ told.2 in
           let offset : at_offset ≡ told.0 = same_offset at_offset told.0 both in
-          record { items = items; part = part_of s; prefix = known; full = subst (λ (l : Limits). l.bytes ≤ length known.hand) same_limits (omega (arith, most, used)); limited = h.shows f.2; at_is = offset ∙ place }
+          record { items = items; part = part_of s; prefix = known; full = subst (λ (l : Limits). l.bytes ≤ length known.hand) same_limits (omega (arith, most, used)); limited = h.shows f.2; at_is = offset ∙ position }
 
   pub long_far : (b at_offset : ℕ) → IsLong limits bytes b at_offset → is_too_long s b ≡ true
   long_far b at_offset l = by_kind (kind_there known b)
@@ -500,7 +500,7 @@ module _ (limits : Limits) (few_bytes : limits.bytes < 2 ^ 64) (few : limits.att
           let n = ap length one.1 in
           let used = h.used_is in
           let some = h.some in
-          far_from s b (omega (arith, some, used)) (subst (λ (x : Limits). x.bytes ≤ s.places.used) (sym same_limits) (omega (arith, full, n, used))) (h.limited limited)
+          far_from s b (omega (arith, some, used)) (subst (λ (x : Limits). x.bytes ≤ s.positions.used) (sym same_limits) (omega (arith, full, n, used))) (h.limited limited)
 
   pub long_decides : (b at_offset : ℕ) → IsLong limits bytes b at_offset → fault_of limits (bytes ++ b ∷ []) ≡ Some (record { at = at_offset; why = why.TooLong })
   unfolding framed
@@ -510,10 +510,10 @@ module _ (limits : Limits) (few_bytes : limits.bytes < 2 ^ 64) (few : limits.att
       let n = ap length one.1 in
       let used = far_parts s b (long_far b at_offset l) in
       let some : 0 < length known.hand = hand_some (kind_there known b) used.0 in
-      let place = part_place told.0 told.1 some in
-      let offset : at_offset ≡ told.0 = l.at_is ∙ ap (λ d. place_of (length d)) one.0 ∙ sym place in
+      let position = part_position told.0 told.1 some in
+      let offset : at_offset ≡ told.0 = l.at_is ∙ ap (λ d. position_of (length d)) one.0 ∙ sym position in
       ap (λ (u : Turn). u.state.fault) (run_append (turn (from_start limits) []) bytes (b ∷ [])) ∙ told.2 ∙ ap (λ m. Some (record { at = m; why = why.TooLong })) (sym offset)
     where
-      hand_some : IsCountedHand s b known.now.phase known.hand ⊎ IsFreeHand s b known.now.phase known.hand → 0 < s.places.used → 0 < length known.hand
+      hand_some : IsCountedHand s b known.now.phase known.hand ⊎ IsFreeHand s b known.now.phase known.hand → 0 < s.positions.used → 0 < length known.hand
       hand_some (inl h) used = h.some
       hand_some (inr h) used = let no = h.unused in absurd (omega (arith, no, used))

@@ -20,7 +20,7 @@ use Rattle.xml_tokens.specs.declared.references.Reference.TheVariants as referen
 use Rattle.law_xml.proofs.OffsetTags.{Spot, closes_close, footer_close, state_by, turn_by}
 use Rattle.law_xml.proofs.ReadCharacters.{ascii_alone, ascii_ends, grown_after}
 use Rattle.law_xml.proofs.ReadSoFar.{OpensSection}
-use Rattle.law_xml.proofs.TextFronts.{counted-append, counted_behind, ends-append, ends_behind, ends_parted, section_end_0}
+use Rattle.law_xml.proofs.TextFronts.{counted-append, counted_behind, ends-append, ends_after, ends_parted, section_end_0}
 use Rattle.law_xml.proofs.TextHands.{opens_more}
 use Rattle.law_xml.specs.Offsets.{IsOpen, IsWhole, first_of, has_declaration_end, is_no_end, is_open_tag, is_reference, leads_tag, open_declaration, open_section, open_tag, opening_declaration, opening_section, whole_declaration, whole_reference, whole_section, whole_tag}
 use Rattle.law_xml.specs.Texts.{has_section_end}
@@ -29,7 +29,7 @@ use Rattle.xml_framer.specs.ManyBytes.{quote_after}
 use Rattle.xml_framer.specs.MarkupSteps.{declares, ends_in_question, in_bang, in_declaration, in_question, section_opened}
 use Rattle.xml_framer.specs.States.{State, Turn, fails, gathered, gathered_in, in_mode, in_run, is_text, may_declare, moved, run_begun, token_begun, token_ended, token_fails}
 use Rattle.xml_framer.specs.TagSteps.{footer_closes, footer_gathered, in_footer, in_opening, in_tag, tag_closes, tag_gathered, unlimited}
-use Rattle.xml_framer.specs.TextSteps.{between, bracket_taken, brackets_behind, character_begun, character_taken, ends_section, in_reference, in_section, in_text, inside, is_forbidden, judged_outside, judged_section, judged_text, markup_begun, other_taken, refers, section_taken, text_inside, text_outside}
+use Rattle.xml_framer.specs.TextSteps.{between, bracket_taken, brackets_after, character_begun, character_taken, ends_section, in_reference, in_section, in_text, inside, is_forbidden, judged_outside, judged_section, judged_text, markup_begun, other_taken, refers, section_taken, text_inside, text_outside}
 use Rattle.xml_framer.specs.declared.fault.Fault.{Fault}
 use Rattle.xml_framer.specs.declared.fault.Why.TheVariants as why
 use Rattle.xml_framer.specs.declared.states.Mode.{Mode}
@@ -180,7 +180,7 @@ opening_marks : (t : Turn) (b : ℕ) → t.state.lexical.quote ≡ None → t.st
 unfolding in_opening
 opening_marks t b quote h none =
     let s = t.state in
-    let free = record s { places = record s.places { used = 0 } } in
+    let free = record s { positions = record s.positions { used = 0 } } in
     let bang = moved t (gathered_in (unlimited s) mode.Bang b) in
     let question = gathered_in s mode.Question b in
     let fault = token_fails s why.Restricted in
@@ -347,39 +347,39 @@ mutual
   two_last (b ∷ bs) e =
       ⊎_elim
       (λ (f : (b == 93) ≡ true).
-      let n : brackets_behind 0 b ≡ 1 = rw f refl in
-      let r = two_behind_one bs (sym (ap (λ k. counted_behind k bs) n) ∙ e) in
+      let n : brackets_after 0 b ≡ 1 = rw f refl in
+      let r = two_after_one bs (sym (ap (λ k. counted_behind k bs) n) ∙ e) in
       (r.0, ap (λ d. d ∷ bs) (eqb-true b 93 f) ∙ r.1))
       (λ (f : (b == 93) ≡ false).
-      let n : brackets_behind 0 b ≡ 0 = rw f refl in
+      let n : brackets_after 0 b ≡ 0 = rw f refl in
       let r = two_last bs (sym (ap (λ k. counted_behind k bs) n) ∙ e) in
       (b ∷ r.0, ap (λ l. b ∷ l) r.1))
       (cases_Bool (b == 93))
 
-  two_behind_one : (xs : List ℕ) → counted_behind 1 xs ≡ 2 → (front : List ℕ) × (93 ∷ xs ≡ front ++ 93 ∷ 93 ∷ [])
-  two_behind_one [] e = absurd (one_two e)
-  two_behind_one (b ∷ bs) e =
+  two_after_one : (xs : List ℕ) → counted_behind 1 xs ≡ 2 → (front : List ℕ) × (93 ∷ xs ≡ front ++ 93 ∷ 93 ∷ [])
+  two_after_one [] e = absurd (one_two e)
+  two_after_one (b ∷ bs) e =
       ⊎_elim
       (λ (f : (b == 93) ≡ true).
-      let n : brackets_behind 1 b ≡ 2 = rw f refl in
-      let r = two_behind_two bs (sym (ap (λ k. counted_behind k bs) n) ∙ e) in
+      let n : brackets_after 1 b ≡ 2 = rw f refl in
+      let r = two_after_two bs (sym (ap (λ k. counted_behind k bs) n) ∙ e) in
       (r.0, ap (λ d. 93 ∷ d ∷ bs) (eqb-true b 93 f) ∙ r.1))
       (λ (f : (b == 93) ≡ false).
-      let n : brackets_behind 1 b ≡ 0 = rw f refl in
+      let n : brackets_after 1 b ≡ 0 = rw f refl in
       let r = two_last bs (sym (ap (λ k. counted_behind k bs) n) ∙ e) in
       (93 ∷ b ∷ r.0, ap (λ l. 93 ∷ b ∷ l) r.1))
       (cases_Bool (b == 93))
 
-  two_behind_two : (xs : List ℕ) → counted_behind 2 xs ≡ 2 → (front : List ℕ) × (93 ∷ 93 ∷ xs ≡ front ++ 93 ∷ 93 ∷ [])
-  two_behind_two [] e = ([], refl)
-  two_behind_two (b ∷ bs) e =
+  two_after_two : (xs : List ℕ) → counted_behind 2 xs ≡ 2 → (front : List ℕ) × (93 ∷ 93 ∷ xs ≡ front ++ 93 ∷ 93 ∷ [])
+  two_after_two [] e = ([], refl)
+  two_after_two (b ∷ bs) e =
       ⊎_elim
       (λ (f : (b == 93) ≡ true).
-      let n : brackets_behind 2 b ≡ 2 = rw f refl in
-      let r = two_behind_two bs (sym (ap (λ k. counted_behind k bs) n) ∙ e) in
+      let n : brackets_after 2 b ≡ 2 = rw f refl in
+      let r = two_after_two bs (sym (ap (λ k. counted_behind k bs) n) ∙ e) in
       (93 ∷ r.0, ap (λ d. 93 ∷ 93 ∷ d ∷ bs) (eqb-true b 93 f) ∙ ap (λ l. 93 ∷ l) r.1))
       (λ (f : (b == 93) ≡ false).
-      let n : brackets_behind 2 b ≡ 0 = rw f refl in
+      let n : brackets_after 2 b ≡ 0 = rw f refl in
       let r = two_last bs (sym (ap (λ k. counted_behind k bs) n) ∙ e) in
       (93 ∷ 93 ∷ b ∷ r.0, ap (λ l. 93 ∷ 93 ∷ b ∷ l) r.1))
       (cases_Bool (b == 93))
@@ -389,8 +389,8 @@ no_ascii : (x : ℕ) (xs : List ℕ) (b n : ℕ) → n < 128 → continues (x �
 no_ascii x xs b n low c =
     ⊎_elim (λ (e : (b == n) ≡ true). let is = eqb-true b n e in absurd (some_none x xs (ascii_alone (x ∷ xs) b (omega (arith, is, low)) c).0)) (λ (e : (b == n) ≡ false). e) (cases_Bool (b == n))
 
-pub same_count : (held : List ℕ) (n m b : ℕ) → continues held b ≡ true → (held ≡ [] → n ≡ m) → brackets_behind n b ≡ brackets_behind m b
-same_count [] n m b c h = ap (λ k. brackets_behind k b) (h refl)
+pub same_count : (held : List ℕ) (n m b : ℕ) → continues held b ≡ true → (held ≡ [] → n ≡ m) → brackets_after n b ≡ brackets_after m b
+same_count [] n m b c h = ap (λ k. brackets_after k b) (h refl)
 same_count (x ∷ xs) n m b c h = let other = no_ascii x xs b 93 (omega arith) c in rw other refl
 
 same_end : (held : List ℕ) (n m b : ℕ) → continues held b ≡ true → (held ≡ [] → n ≡ m) → (n == 2 && b == 62) ≡ false → (m == 2 && b == 62) ≡ false
@@ -399,8 +399,8 @@ same_end (x ∷ xs) n m b c h e = and_right (m == 2) (b == 62) (no_ascii x xs b 
 
 section_more : (inside : List ℕ) (b : ℕ) → has_section_end inside ≡ false → (counted_behind 0 inside == 2 && b == 62) ≡ false → has_section_end (inside ++ b ∷ []) ≡ false
 section_more inside b h last =
-    let front : ends_behind 0 inside ≡ false = sym (section_end_0 inside) ∙ h in
-    section_end_0 (inside ++ b ∷ []) ∙ ends-append 0 inside (b ∷ []) ∙ both (ends_behind 0 inside) (counted_behind 0 inside == 2 && b == 62) front last
+    let front : ends_after 0 inside ≡ false = sym (section_end_0 inside) ∙ h in
+    section_end_0 (inside ++ b ∷ []) ∙ ends-append 0 inside (b ∷ []) ∙ both (ends_after 0 inside) (counted_behind 0 inside == 2 && b == 62) front last
   where
     both : (x y : Bool) → x ≡ false → y ≡ false → (x || (y || false)) ≡ false
     both true y e f = absurd (true≢false e)
@@ -408,7 +408,7 @@ section_more inside b h last =
     both false false e f = refl
 
 module _ (s : State) (b : ℕ) (more : List ℕ) (is : s.lexical.mode ≡ mode.Section) (d : SectionIn s.pending s.lexical.brackets more) (c : continues s.pending b ≡ true) where
-  section_on : (u : State) → u.lexical.mode ≡ s.lexical.mode → u.pending ≡ s.pending → u.lexical.brackets ≡ brackets_behind s.lexical.brackets b → ends_section s b ≡ false → Marks 60 b more u
+  section_on : (u : State) → u.lexical.mode ≡ s.lexical.mode → u.pending ≡ s.pending → u.lexical.brackets ≡ brackets_after s.lexical.brackets b → ends_section s b ≡ false → Marks 60 b more u
   section_on u same held counts other =
       on 60 b more u mode.Section (same ∙ is) refl
       (record {
@@ -465,11 +465,11 @@ module _ (s : State) (b : ℕ) (more : List ℕ) (is : s.lexical.mode ≡ mode.S
       (λ g. state_by P (bracket_taken s) (other_taken s b) (b == 93)
       (λ i. state_by P third _ (s.lexical.brackets == 2)
       (λ j. section_on third refl refl (let n = eqb-true s.lexical.brackets 2 j in ap (λ k. k) n ∙ sym (rw (i, n) refl)) g)
-      (λ j. section_on _ refl refl (ap (brackets_behind s.lexical.brackets) (sym (eqb-true b 93 i))) g))
+      (λ j. section_on _ refl refl (ap (brackets_after s.lexical.brackets) (sym (eqb-true b 93 i))) g))
       (λ i. section_on (other_taken s b) refl refl (sym (none_counted s.lexical.brackets i)) g))))
       section_waits
     where
-      none_counted : (n : ℕ) → (b == 93) ≡ false → brackets_behind n b ≡ 0
+      none_counted : (n : ℕ) → (b == 93) ≡ false → brackets_after n b ≡ 0
       none_counted n e = rw e refl
 
 -- ---- a byte of a token
@@ -510,7 +510,7 @@ module _ (s : State) (b : ℕ) (is : s.lexical.mode ≡ mode.Text) (no_token : s
   markup_begins : Begins b (markup_begun s)
   markup_begins =
       let t = token_begun s mode.Opening in
-      let placed = record t { places = record t.places { item_at = t.places.at; used = 1 } } in
+      let placed = record t { positions = record t.positions { item_at = t.positions.at; used = 1 } } in
       cond_both (is_some t.here) t placed (λ v. Begins b (gathered v 60))
       (λ e. record { none = λ f. absurd (false≢true f); mark = λ f. (ap (λ l. l ++ 60 ∷ []) no_token, refl) })
       (λ e. record { none = λ f. absurd (false≢true f); mark = λ f. (ap (λ l. l ++ 60 ∷ []) no_token, refl) })
@@ -521,11 +521,11 @@ module _ (s : State) (b : ℕ) (is : s.lexical.mode ≡ mode.Text) (no_token : s
       let P = Begins b in
       let r = in_run s in
       let same = run_alike s in
-      let fault = fails s s.places.at why.NotWellFormed in
+      let fault = fails s s.positions.at why.NotWellFormed in
       let reference = token_begun s mode.Reference in
       let judged = alike s (token_fails r why.NotWellFormed) (character_taken r b) (is_forbidden r b || ends_section r b) same same in
       let said = alike s r (token_fails r why.NotWellFormed) (is_white b) same same in
-      let begun = alike s (record r { places = record r.places { item_at = r.places.at } }) r (is_empty r.pending) same same in
+      let begun = alike s (record r { positions = record r.positions { item_at = r.positions.at } }) r (is_empty r.pending) same same in
       state_by P (inside s b) (between s b) (is_some s.here)
       (λ i. state_by P (markup_begun s) (if b == 38 then reference else text_inside s b) (b == 60) (λ e. markup_begins)
       (λ e. state_by P reference (text_inside s b) (b == 38) (λ f. record { none = λ g. absurd (false≢true g); mark = λ g. no_token })
@@ -540,7 +540,7 @@ module _ (s : State) (b : ℕ) (is : s.lexical.mode ≡ mode.Text) (no_token : s
 abbrev pub Counted : State → ℕ → State → Type 0
 Counted s b u =
     u.fault ≡ None → is_text u.lexical.mode ≡ true → is_some u.here ≡ true
-    → (is_some s.here ≡ true) × (held_after s.pending b ≡ [] → u.lexical.brackets ≡ brackets_behind (if s.lexical.in_run then s.lexical.brackets else 0) b)
+    → (is_some s.here ≡ true) × (held_after s.pending b ≡ [] → u.lexical.brackets ≡ brackets_after (if s.lexical.in_run then s.lexical.brackets else 0) b)
 
 held_on : (held : List ℕ) (b : ℕ) → held ++ b ∷ [] ≡ [] → ⊥
 held_on [] b h = some_none b [] h
@@ -562,12 +562,12 @@ module _ (s : State) (b : ℕ) (c : continues s.pending b ≡ true) where
       let same = run_here s.lexical.in_run s in
       let P = λ (v : State). v.here ≡ s.here in
       state_by P (judged_outside r b) (character_begun r) (ends_character s.pending b) (λ e. state_by P r (token_fails r why.NotWellFormed) (is_white b) (λ f. same) (λ f. same))
-      (λ e. state_by P (record r { places = record r.places { item_at = r.places.at } }) r (is_empty r.pending) (λ f. same) (λ f. same))
+      (λ e. state_by P (record r { positions = record r.positions { item_at = r.positions.at } }) r (is_empty r.pending) (λ f. same) (λ f. same))
 
   markup_counted : Counted s b (markup_begun s)
   markup_counted =
       let t = token_begun s mode.Opening in
-      cond_both (is_some t.here) t (record t { places = record t.places { item_at = t.places.at; used = 1 } }) (λ v. Counted s b (gathered v 60)) (λ e n t h. absurd (false≢true t))
+      cond_both (is_some t.here) t (record t { positions = record t.positions { item_at = t.positions.at; used = 1 } }) (λ v. Counted s b (gathered v 60)) (λ e n t h. absurd (false≢true t))
       (λ e n t h. absurd (false≢true t))
 
   text_counted : Counted s b (in_text s b)
@@ -575,14 +575,14 @@ module _ (s : State) (b : ℕ) (c : continues s.pending b ≡ true) where
   text_counted =
       let P = Counted s b in
       let r = in_run s in
-      let fault = fails s s.places.at why.NotWellFormed in
+      let fault = fails s s.positions.at why.NotWellFormed in
       let reference = token_begun s mode.Reference in
       state_by P (inside s b) (between s b) (is_some s.here)
       (λ i. state_by P (markup_begun s) (if b == 38 then reference else text_inside s b) (b == 60) (λ e. markup_counted)
       (λ e. state_by P reference (text_inside s b) (b == 38) (λ f n t h. absurd (false≢true t))
       (λ f. state_by P (judged_text r b) r (ends_character s.pending b)
       (λ g. state_by P (token_fails r why.NotWellFormed) (character_taken r b) (is_forbidden r b || ends_section r b) (λ j n t h. absurd (none_some _ n))
-      (λ j n t h. (i, λ none. ap (λ k. brackets_behind k b) (run_brackets s.lexical.in_run s))))
+      (λ j n t h. (i, λ none. ap (λ k. brackets_after k b) (run_brackets s.lexical.in_run s))))
       (λ g n t h. (i, λ none. absurd (held_on s.pending b (sym (grown_after s.pending b c g) ∙ none)))))))
       (λ i. state_by P (markup_begun s) (if b == 38 then fault else text_outside s b) (b == 60) (λ e. markup_counted)
       (λ e. state_by P fault (text_outside s b) (b == 38) (λ f n t h. absurd (none_some _ n)) (λ f n t h. absurd (false≢true (sym i ∙ (sym (ap is_some outside_here) ∙ h))))))

@@ -11,13 +11,13 @@ use Rattle.law_xml.proofs.OffsetSteps.{text_goes, token_goes}
 use Rattle.law_xml.proofs.OffsetTags.{Spot, first_spot, named_there, quote_after_text, spot_after}
 use Rattle.law_xml.proofs.ReadCharacters.{ascii_alone, ascii_continues}
 use Rattle.law_xml.proofs.TextFronts.{counted-append, counted_behind}
-use Rattle.law_xml.proofs.RunPlaces.{no_fault_before, taken_at, taken_pending}
+use Rattle.law_xml.proofs.RunPositions.{no_fault_before, taken_at, taken_pending}
 use Rattle.xml_framer.specs.Machine.{is_too_long, passed, run, step, taken_in}
-use Rattle.xml_framer.specs.States.{State, Turn, counted, from_start, in_run, is_text, moved, next_place, run_begun, token_place, turn}
-use Rattle.xml_framer.specs.TextSteps.{brackets_behind}
+use Rattle.xml_framer.specs.States.{State, Turn, counted, from_start, in_run, is_text, moved, next_position, run_begun, token_position, turn}
+use Rattle.xml_framer.specs.TextSteps.{brackets_after}
 use Rattle.law_xml.specs.FaultRows as rows
 use Rattle.law_xml.specs.Offsets.{AreBefore, AreTokens, IsAtToken, IsRun, IsWhole, a_markup, a_reference, a_text, character_left, first_of, is_no_markup, is_reference, no_token, one_more}
-use Rattle.law_xml.specs.Streams.{place_of}
+use Rattle.law_xml.specs.Streams.{position_of}
 use Rattle.xml_framer.specs.declared.fault.Fault.{Fault}
 use Rattle.xml_framer.specs.declared.fault.Why.TheVariants as why
 use Rattle.xml_framer.specs.declared.limits.Limits.{Limits}
@@ -29,7 +29,7 @@ pub record InText (at : ℕ) (held : List ℕ) (inner : Bool) (brackets : ℕ) (
   pub before : List ℕ
   pub token : List ℕ
   pub bytes_are : bytes ≡ before ++ token
-  pub at_is : at ≡ place_of (length before)
+  pub at_is : at ≡ position_of (length before)
   pub after : AreTokens before
   pub plain : IsRun token
   pub left : held ≡ character_left [] token
@@ -40,26 +40,26 @@ pub record InToken (s : State) (bytes : List ℕ) : Type 0 where
   pub before : List ℕ
   pub more : List ℕ
   pub bytes_are : bytes ≡ before ++ first_of s.lexical.mode ∷ more
-  pub at_is : s.places.token_at ≡ place_of (length before)
+  pub at_is : s.positions.token_at ≡ position_of (length before)
   pub ahead : AreBefore before
   pub spot : Spot s.lexical.mode s.lexical.quote more
   pub mark : Mark s.lexical.mode s more
 
 pub record Known (s : State) (bytes : List ℕ) : Type 0 where
-  pub at : s.places.at ≡ place_of (length bytes)
+  pub at : s.positions.at ≡ position_of (length bytes)
   pub between : is_text s.lexical.mode ≡ true → s.lexical.in_run ≡ false → AreTokens bytes × (s.pending ≡ [])
-  pub running : is_text s.lexical.mode ≡ true → s.lexical.in_run ≡ true → InText s.places.token_at s.pending (is_some s.here) s.lexical.brackets bytes
+  pub running : is_text s.lexical.mode ≡ true → s.lexical.in_run ≡ true → InText s.positions.token_at s.pending (is_some s.here) s.lexical.brackets bytes
   pub token : is_text s.lexical.mode ≡ false → InToken s bytes
   pub quiet : is_text s.lexical.mode ≡ true → (s.lexical.quote ≡ None) × (s.token ≡ [])
 
-next_offset : (at : ℕ) (bytes : List ℕ) (b : ℕ) → at ≡ place_of (length bytes) → next_place at ≡ place_of (length (bytes ++ b ∷ []))
+next_offset : (at : ℕ) (bytes : List ℕ) (b : ℕ) → at ≡ position_of (length bytes) → next_position at ≡ position_of (length (bytes ++ b ∷ []))
 next_offset at bytes b h = let n = length-append bytes (b ∷ []) in rw n (omega (arith, h))
 
 left_more : (held xs : List ℕ) (b : ℕ) → character_left held (xs ++ b ∷ []) ≡ held_after (character_left held xs) b
 left_more held [] b = refl
 left_more held (x ∷ xs) b = left_more (held_after held x) xs b
 
-text_more : (at : ℕ) (held bytes : List ℕ) (inner more : Bool) (n m b : ℕ) → continues held b ≡ true → (more ≡ true → (inner ≡ true) × (held_after held b ≡ [] → m ≡ brackets_behind n b)) → is_no_markup b ≡ true → InText at held inner n bytes
+text_more : (at : ℕ) (held bytes : List ℕ) (inner more : Bool) (n m b : ℕ) → continues held b ≡ true → (more ≡ true → (inner ≡ true) × (held_after held b ≡ [] → m ≡ brackets_after n b)) → is_no_markup b ≡ true → InText at held inner n bytes
     → InText at (held_after held b) more m (bytes ++ b ∷ [])
 text_more at held bytes inner more n m b c grows plain h = record {
   before = h.before;
@@ -103,19 +103,19 @@ module _ (t : Turn) (b : ℕ) (bytes : List ℕ) (h : Known t.state bytes) where
   u = (taken_in s.lexical.mode (moved t (counted s)) b).state
 
   abbrev run_at : ℕ
-  run_at = (in_run (counted s)).places.token_at
+  run_at = (in_run (counted s)).positions.token_at
 
-  offset : next_place u.places.at ≡ place_of (length (bytes ++ b ∷ []))
-  offset = next_offset u.places.at bytes b (taken_at s.lexical.mode (moved t (counted s)) b ∙ h.at)
+  offset : next_position u.positions.at ≡ position_of (length (bytes ++ b ∷ []))
+  offset = next_offset u.positions.at bytes b (taken_at s.lexical.mode (moved t (counted s)) b ∙ h.at)
 
   held : u.pending ≡ s.pending
   held = taken_pending s.lexical.mode (moved t (counted s)) b
 
   -- the text that the byte belongs to
   in_text_now : (x : Bool) → s.lexical.in_run ≡ x → is_text s.lexical.mode ≡ true → is_no_markup b ≡ true → continues s.pending b ≡ true
-      → (is_some u.here ≡ true → (is_some s.here ≡ true) × (held_after s.pending b ≡ [] → u.lexical.brackets ≡ brackets_behind (if x then s.lexical.brackets else 0) b))
-      → InText (if x then counted s else run_begun (counted s)).places.token_at (held_after s.pending b) (is_some u.here) u.lexical.brackets (bytes ++ b ∷ [])
-  in_text_now true is text plain c grows = text_more s.places.token_at s.pending bytes (is_some s.here) (is_some u.here) s.lexical.brackets u.lexical.brackets b c grows plain (h.running text is)
+      → (is_some u.here ≡ true → (is_some s.here ≡ true) × (held_after s.pending b ≡ [] → u.lexical.brackets ≡ brackets_after (if x then s.lexical.brackets else 0) b))
+      → InText (if x then counted s else run_begun (counted s)).positions.token_at (held_after s.pending b) (is_some u.here) u.lexical.brackets (bytes ++ b ∷ [])
+  in_text_now true is text plain c grows = text_more s.positions.token_at s.pending bytes (is_some s.here) (is_some u.here) s.lexical.brackets u.lexical.brackets b c grows plain (h.running text is)
   in_text_now false is text plain c grows =
       let k = h.between text is in
       record {
@@ -221,7 +221,7 @@ module _ (t : Turn) (b : ℕ) (bytes : List ℕ) (h : Known t.state bytes) where
 
   -- ---- a fault
 
-  at_run : (c : Bool) → s.lexical.in_run ≡ c → is_text s.lexical.mode ≡ true → (is_no_markup b ≡ true) ⊎ (s.pending ≢ []) → IsAtToken bytes b (if c then counted s else run_begun (counted s)).places.token_at
+  at_run : (c : Bool) → s.lexical.in_run ≡ c → is_text s.lexical.mode ≡ true → (is_no_markup b ≡ true) ⊎ (s.pending ≢ []) → IsAtToken bytes b (if c then counted s else run_begun (counted s)).positions.token_at
   at_run true is text other =
       let k = h.running text is in
       let belongs = ⊎_elim (λ (e : is_no_markup b ≡ true). inl e) (λ (some : s.pending ≢ []). inr (λ e. some (k.left ∙ e))) other in
@@ -231,7 +231,7 @@ module _ (t : Turn) (b : ℕ) (bytes : List ℕ) (h : Known t.state bytes) where
       let belongs = ⊎_elim (λ (e : is_no_markup b ≡ true). inl e) (λ (some : s.pending ≢ []). absurd (some k.1)) other in
       record { before = bytes; token = []; bytes_are = sym (append-nil bytes); at_is = h.at; is_token = a_text bytes [] b k.0 refl belongs }
 
-  at_first : (r : Bool) → is_reference s.lexical.mode ≡ r → is_text s.lexical.mode ≡ false → InToken s bytes → IsAtToken bytes b s.places.token_at
+  at_first : (r : Bool) → is_reference s.lexical.mode ≡ r → is_text s.lexical.mode ≡ false → InToken s bytes → IsAtToken bytes b s.positions.token_at
   at_first true e no_text k =
       let first = ap (λ (x : Bool). k.before ++ (if x then 38 else 60) ∷ k.more) e in
       record {
@@ -251,10 +251,10 @@ module _ (t : Turn) (b : ℕ) (bytes : List ℕ) (h : Known t.state bytes) where
         is_token = a_markup k.before (60 ∷ k.more) b k.more k.ahead refl (is_open s.lexical.mode s k.more no_text e k.spot k.mark);
       }
 
-  at_token : is_text s.lexical.mode ≡ false → IsAtToken bytes b s.places.token_at
+  at_token : is_text s.lexical.mode ≡ false → IsAtToken bytes b s.positions.token_at
   at_token no_text = at_first (is_reference s.lexical.mode) refl no_text (h.token no_text)
 
-  at_reference : is_text s.lexical.mode ≡ true → continues s.pending b ≡ true → b ≡ 38 → IsAtToken bytes b s.places.at
+  at_reference : is_text s.lexical.mode ≡ true → continues s.pending b ≡ true → b ≡ 38 → IsAtToken bytes b s.positions.at
   at_reference text c is =
       let none = (ascii_alone s.pending b (omega (arith, is)) c).0 in
       record {
@@ -272,10 +272,10 @@ module _ (t : Turn) (b : ℕ) (bytes : List ℕ) (h : Known t.state bytes) where
       (λ (e : is_no_markup b ≡ false). inr (λ none. true≢false (sym (ascii_continues b (markup_low b e)) ∙ (ap (λ l. continues l b) (sym none) ∙ bad)))) (cases_Bool (is_no_markup b))
 
   -- the place of a byte that breaks a character
-  at_place : (text run : Bool) → is_text s.lexical.mode ≡ text → s.lexical.in_run ≡ run → continues s.pending b ≡ false → IsAtToken bytes b (if text && not run then s.places.at else s.places.token_at)
-  at_place true true e i bad = at_run true i e (breaks bad)
-  at_place true false e i bad = at_run false i e (breaks bad)
-  at_place false run e i bad = at_token e
+  at_position : (text run : Bool) → is_text s.lexical.mode ≡ text → s.lexical.in_run ≡ run → continues s.pending b ≡ false → IsAtToken bytes b (if text && not run then s.positions.at else s.positions.token_at)
+  at_position true true e i bad = at_run true i e (breaks bad)
+  at_position true false e i bad = at_run false i e (breaks bad)
+  at_position false run e i bad = at_token e
 
   here : (f : Fault) (n : ℕ) → f.at ≡ n → IsAtToken bytes b n → IsAtToken bytes b f.at
   here f n e k = subst (IsAtToken bytes b) (sym e) k
@@ -287,10 +287,10 @@ module _ (t : Turn) (b : ℕ) (bytes : List ℕ) (h : Known t.state bytes) where
       (λ (text : is_text s.lexical.mode ≡ true).
       let taken = text_goes s.lexical.mode (moved t (counted s)) b refl takes_it.no_fault text in
       ⊎_elim (λ (p : (f.at ≡ run_at) × (is_no_markup b ≡ true)). here f run_at p.0 (at_run s.lexical.in_run refl text (inl p.1)))
-      (λ (p : (f.at ≡ s.places.at) × (b ≡ 38)). here f s.places.at p.0 (at_reference text takes_it.is_text p.1)) (taken.fault f there))
+      (λ (p : (f.at ≡ s.positions.at) × (b ≡ 38)). here f s.positions.at p.0 (at_reference text takes_it.is_text p.1)) (taken.fault f there))
       (λ (no_text : is_text s.lexical.mode ≡ false).
       let taken = token_goes s.lexical.mode (moved t (counted s)) b refl takes_it.no_fault no_text in
-      here f s.places.token_at (taken.fault f there) (at_token no_text))
+      here f s.positions.token_at (taken.fault f there) (at_token no_text))
       (cases_Bool (is_text s.lexical.mode))
 
   fault_there : (f : Fault) → s.fault ≡ None → (step t b).state.fault ≡ Some f → f.why ≢ why.TooLong → IsAtToken bytes b f.at
@@ -300,7 +300,7 @@ module _ (t : Turn) (b : ℕ) (bytes : List ℕ) (h : Known t.state bytes) where
       (λ (near : is_too_long s b ≡ false).
       ⊎_elim (λ (good : continues s.pending b ≡ true). taken_fault f (record { no_fault = before; mode_is = refl; short = near; is_text = good }) is)
       (λ (bad : continues s.pending b ≡ false).
-      here f (token_place s) (ap (λ (g : Fault). g.at) (sym (one_some _ f (sym (broken t b before near bad) ∙ is)))) (at_place (is_text s.lexical.mode) s.lexical.in_run refl refl bad))
+      here f (token_position s) (ap (λ (g : Fault). g.at) (sym (one_some _ f (sym (broken t b before near bad) ∙ is)))) (at_position (is_text s.lexical.mode) s.lexical.in_run refl refl bad))
       (cases_Bool (continues s.pending b)))
       (cases_Bool (is_too_long s b))
     where
@@ -324,40 +324,40 @@ pub fault_at_token : (limits : Limits) (bytes : List ℕ) (b : ℕ) (f : Fault) 
 fault_at_token limits bytes b f none is other =
     let start = turn (from_start limits) [] in fault_there (run start bytes) b bytes (known_run bytes start [] (known_first limits) none) f none is other
 
-pub place_behind_bytes : (limits : Limits) (bytes : List ℕ) → (run (turn (from_start limits) []) bytes).state.fault ≡ None → (run (turn (from_start limits) []) bytes).state.places.at ≡ place_of (length bytes)
-place_behind_bytes limits bytes none = (known_run bytes (turn (from_start limits) []) [] (known_first limits) none).at
+pub position_after_bytes : (limits : Limits) (bytes : List ℕ) → (run (turn (from_start limits) []) bytes).state.fault ≡ None → (run (turn (from_start limits) []) bytes).state.positions.at ≡ position_of (length bytes)
+position_after_bytes limits bytes none = (known_run bytes (turn (from_start limits) []) [] (known_first limits) none).at
 
 -- ---- a byte and the offset of its token
 
 pub begins : (t : Turn) (b : ℕ) → rows.Takes t.state mode.Text b → is_text (step t b).state.lexical.mode ≡ false
-    → ((step t b).state.places.token_at ≡ t.state.places.at) × (b ≡ first_of (step t b).state.lexical.mode)
+    → ((step t b).state.positions.token_at ≡ t.state.positions.at) × (b ≡ first_of (step t b).state.lexical.mode)
 begins t b h e =
     let is = goes t mode.Text b h in
     let all = (text_goes mode.Text (moved t (counted t.state)) b h.mode_is h.no_fault refl).begins (subst (λ (v : Turn). is_text v.state.lexical.mode ≡ false) is e) in
-    subst (λ (v : Turn). (v.state.places.token_at ≡ t.state.places.at) × (b ≡ first_of v.state.lexical.mode)) (sym is) (all.0, all.1)
+    subst (λ (v : Turn). (v.state.positions.token_at ≡ t.state.positions.at) × (b ≡ first_of v.state.lexical.mode)) (sym is) (all.0, all.1)
 
-pub goes_on : (t : Turn) (m : Mode) (b : ℕ) → rows.Takes t.state m b → is_text m ≡ false → (step t b).state.places.token_at ≡ t.state.places.token_at
+pub goes_on : (t : Turn) (m : Mode) (b : ℕ) → rows.Takes t.state m b → is_text m ≡ false → (step t b).state.positions.token_at ≡ t.state.positions.token_at
 goes_on t m b h no_text =
-    ap (λ (v : Turn). v.state.places.token_at) (goes t m b h) ∙ (token_goes m (moved t (counted t.state)) b h.mode_is h.no_fault no_text).token_at
+    ap (λ (v : Turn). v.state.positions.token_at) (goes t m b h) ∙ (token_goes m (moved t (counted t.state)) b h.mode_is h.no_fault no_text).token_at
 
-run_place : (c : Bool) (s : State) → (if c then counted s else run_begun (counted s)).places.token_at ≡ (if c then s else run_begun s).places.token_at
-run_place true s = refl
-run_place false s = refl
+run_position : (c : Bool) (s : State) → (if c then counted s else run_begun (counted s)).positions.token_at ≡ (if c then s else run_begun s).positions.token_at
+run_position true s = refl
+run_position false s = refl
 
 runs : (t : Turn) (b : ℕ) → rows.Takes t.state mode.Text b → (step t b).state.fault ≡ None → is_text (step t b).state.lexical.mode ≡ true
-    → ((step t b).state.places.token_at ≡ (in_run t.state).places.token_at) × ((step t b).state.lexical.in_run ≡ true)
+    → ((step t b).state.positions.token_at ≡ (in_run t.state).positions.token_at) × ((step t b).state.lexical.in_run ≡ true)
 runs t b h none e =
     let is = goes t mode.Text b h in
     let taken = text_goes mode.Text (moved t (counted t.state)) b h.mode_is h.no_fault refl in
     let g = taken.goes (ap (λ (v : Turn). v.state.fault) (sym is) ∙ none) (subst (λ (v : Turn). is_text v.state.lexical.mode ≡ true) is e) in
-    (ap (λ (v : Turn). v.state.places.token_at) is ∙ (g.0 ∙ run_place t.state.lexical.in_run t.state), ap (λ (v : Turn). v.state.lexical.in_run) is ∙ g.1)
+    (ap (λ (v : Turn). v.state.positions.token_at) is ∙ (g.0 ∙ run_position t.state.lexical.in_run t.state), ap (λ (v : Turn). v.state.lexical.in_run) is ∙ g.1)
 
 pub run_begins : (t : Turn) (b : ℕ) → rows.Takes t.state mode.Text b → t.state.lexical.in_run ≡ false → (step t b).state.fault ≡ None → is_text (step t b).state.lexical.mode ≡ true
-    → ((step t b).state.places.token_at ≡ t.state.places.at) × ((step t b).state.lexical.in_run ≡ true)
+    → ((step t b).state.positions.token_at ≡ t.state.positions.at) × ((step t b).state.lexical.in_run ≡ true)
 run_begins t b h first none e =
-    let r = runs t b h none e in let is : (in_run t.state).places.token_at ≡ t.state.places.at = rw first refl in (r.0 ∙ is, r.1)
+    let r = runs t b h none e in let is : (in_run t.state).positions.token_at ≡ t.state.positions.at = rw first refl in (r.0 ∙ is, r.1)
 
 pub run_goes_on : (t : Turn) (b : ℕ) → rows.Takes t.state mode.Text b → t.state.lexical.in_run ≡ true → (step t b).state.fault ≡ None → is_text (step t b).state.lexical.mode ≡ true
-    → ((step t b).state.places.token_at ≡ t.state.places.token_at) × ((step t b).state.lexical.in_run ≡ true)
+    → ((step t b).state.positions.token_at ≡ t.state.positions.token_at) × ((step t b).state.lexical.in_run ≡ true)
 run_goes_on t b h on none e =
-    let r = runs t b h none e in let is : (in_run t.state).places.token_at ≡ t.state.places.token_at = rw on refl in (r.0 ∙ is, r.1)
+    let r = runs t b h none e in let is : (in_run t.state).positions.token_at ≡ t.state.positions.token_at = rw on refl in (r.0 ∙ is, r.1)

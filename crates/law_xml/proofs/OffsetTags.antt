@@ -280,7 +280,7 @@ opening_spot t b quote =
     let asked = (if may_declare s then question else fault) in
     let footer = moved t (gathered_in (unlimited s) mode.Footer b) in
     let last = (if b == 47 && not (is_some s.here) then footer else in_tag t b) in
-    let free = record s { places = record s.places { used = 0 } } in
+    let free = record s { positions = record s.positions { used = 0 } } in
     turn_by (λ v. SpotOn b v.state) bang (if b == 63 then moved t asked else last) (b == 33) (λ e i n. rw e refl)
     (λ e. turn_by (λ v. SpotOn b v.state) (moved t asked) last (b == 63)
     (λ f. state_by (SpotOn b) question fault (may_declare s) (λ g i n. rw (e, f) refl) (λ g i n. absurd (none_some _ n)))
@@ -396,17 +396,17 @@ run_leaves s = one s s (run_begun s) s.lexical.in_run refl refl
 markup_leaves : (s : State) → Leaves s (markup_begun s)
 markup_leaves s =
     let t = token_begun s mode.Opening in
-    one s t (record t { places = record t.places { item_at = t.places.at; used = 1 } }) (is_some t.here) refl refl
+    one s t (record t { positions = record t.positions { item_at = t.positions.at; used = 1 } }) (is_some t.here) refl refl
 
 text_leaves : (s : State) (b : ℕ) → Leaves s (in_text s b)
 unfolding in_text inside between text_inside text_outside
 text_leaves s b =
     let r = in_run s in
-    let fault = fails s s.places.at why.NotWellFormed in
+    let fault = fails s s.positions.at why.NotWellFormed in
     let reference = token_begun s mode.Reference in
     let judged = one s (token_fails r why.NotWellFormed) (character_taken r b) (is_forbidden r b || ends_section r b) (run_leaves s) (run_leaves s) in
     let said = one s r (token_fails r why.NotWellFormed) (is_white b) (run_leaves s) (run_leaves s) in
-    let begun = one s (record r { places = record r.places { item_at = r.places.at } }) r (is_empty r.pending) (run_leaves s) (run_leaves s) in
+    let begun = one s (record r { positions = record r.positions { item_at = r.positions.at } }) r (is_empty r.pending) (run_leaves s) (run_leaves s) in
     one s (inside s b) (between s b) (is_some s.here)
     (one s (markup_begun s) (if b == 38 then reference else text_inside s b) (b == 60) (markup_leaves s)
     (one s reference (text_inside s b) (b == 38) refl (one s (judged_text r b) r (ends_character s.pending b) judged (run_leaves s))))

@@ -9,7 +9,7 @@ use Rattle.law_xml.proofs.OffsetTags.{named_there}
 use Rattle.law_xml.proofs.OneOffset.{Hand, from_first, hand_marked, hand_no_text, hand_rest, markup_in_hand, one_front, one_run, reference_in_hand, text_rest}
 use Rattle.law_xml.specs.Hands.{AreKept, IsHolding, IsReading, brackets_last}
 use Rattle.law_xml.specs.Offsets.{AreBefore, AreTokens, IsOpen, IsRun, character_left, first_of, is_no_end, is_reference}
-use Rattle.law_xml.specs.Streams.{place_of}
+use Rattle.law_xml.specs.Streams.{position_of}
 use Rattle.xml_framer.specs.Machine.{run}
 use Rattle.xml_framer.specs.Readings.{fault_of, framed}
 use Rattle.xml_framer.specs.States.{State, from_start, is_text, turn}
@@ -70,7 +70,7 @@ module _ (s : State) (bytes : List ℕ) (h : Known s bytes) where
       record {
         no_text = no_text;
         first_is = heads (first_of s.lexical.mode) first k.more more texts.1;
-        at_is = k.at_is ∙ ap (λ l. place_of (length l)) befores;
+        at_is = k.at_is ∙ ap (λ l. position_of (length l)) befores;
         kept = subst (AreKept s.lexical.mode s) (tails (first_of s.lexical.mode) first k.more more texts.1) (are_kept s.lexical.mode s k.more no_text k.spot k.mark);
       })
       (cases_Bool (is_text s.lexical.mode))
@@ -85,7 +85,7 @@ module _ (s : State) (bytes : List ℕ) (h : Known s bytes) where
       let fronts = one_front k.before before k.text text (from_first k.before k.ahead) (from_first before tokens) (text_rest k.text k.is_run) (text_rest text plain) (sym k.bytes_are ∙ are) in
       record {
         text_mode = mode_text;
-        at_is = k.at_is ∙ ap (λ l. place_of (length l)) fronts.0;
+        at_is = k.at_is ∙ ap (λ l. position_of (length l)) fronts.0;
         held = k.held ∙ ap (character_left []) fronts.1;
         counts = λ inner none begun. k.counts inner none ∙ ap (brackets_last 0) fronts.1;
         none_begun = λ off. absurd (false≢true (sym off ∙ on));
@@ -95,7 +95,7 @@ module _ (s : State) (bytes : List ℕ) (h : Known s bytes) where
       let fronts = one_front bytes before [] text (from_first bytes k.tokens) (from_first before tokens) (text_rest [] refl) (text_rest text plain) (append-nil bytes ∙ are) in
       record {
         text_mode = mode_text;
-        at_is = k.at_is ∙ ap (λ l. place_of (length l)) fronts.0;
+        at_is = k.at_is ∙ ap (λ l. position_of (length l)) fronts.0;
         held = k.none_held ∙ ap (character_left []) fronts.1;
         counts = λ inner none begun. absurd (false≢true (sym off ∙ begun));
         none_begun = λ same. sym fronts.1;

@@ -7,7 +7,7 @@ use Rattle.xml_tokens.specs.Tags.{quote_behind}
 use Rattle.xml_framer.specs.ManyBytes.{quote_after}
 use Rattle.law_xml.proofs.OneText.{one_section}
 use Rattle.law_xml.specs.Offsets.{AreBefore, AreTokens, IsAtToken, IsOpen, IsRun, IsToken, IsWhole, a_markup, a_reference, a_text, begins_declaration_end, character_left, has_declaration_end, is_no_end, is_no_markup, is_open_tag, leads_tag, no_token, one_more, open_declaration, open_section, open_tag, opening_declaration, opening_section, whole_declaration, whole_reference, whole_section, whole_tag}
-use Rattle.law_xml.specs.Streams.{place_of}
+use Rattle.law_xml.specs.Streams.{position_of}
 use Rattle.law_xml.specs.Texts.{has_section_end}
 
 heads : (x y : ℕ) (xs ys : List ℕ) → x ∷ xs ≡ y ∷ ys → x ≡ y
@@ -345,28 +345,28 @@ amp_no_text b front other text run tokens tokens_too is_run plain whole amp why 
     let r = one_front front other text run (from_first front tokens) (from_first other tokens_too) (text_rest text is_run) (text_rest run plain) e in
     ⊎_elim (λ (none : is_no_markup b ≡ true). false≢true (ap is_no_markup (sym amp) ∙ none)) (λ (some : character_left [] run ≢ []). some (ap (character_left []) (sym r.1) ∙ whole)) why
 
-one_place : (bytes : List ℕ) (b n m : ℕ) → Belongs bytes b n → Belongs bytes b m → n ≡ m
-one_place bytes b n m (to_hand _ _ _ front text hand x xs tokens run held some is n_is) (to_hand _ _ _ other plain token y ys tokens_too run_too held_too some_too are m_is) =
+one_position : (bytes : List ℕ) (b n m : ℕ) → Belongs bytes b n → Belongs bytes b m → n ≡ m
+one_position bytes b n m (to_hand _ _ _ front text hand x xs tokens run held some is n_is) (to_hand _ _ _ other plain token y ys tokens_too run_too held_too some_too are m_is) =
     let r = one_front front other (text ++ hand) (plain ++ token) (from_first front tokens) (from_first other tokens_too) (hand_rest text hand run held) (hand_rest plain token run_too held_too) (sym is ∙ are) in
     let split = one_run text plain hand token run run_too (hand_marked hand held) (hand_marked token held_too) r.1 in
     n_is ∙ ap (λ l. length (l ++ text)) r.0 ∙ ap (λ l. length (other ++ l)) split.0 ∙ sym m_is
-one_place bytes b n m (to_hand _ _ _ front text hand x xs tokens run held some is n_is) (to_amp _ _ _ other plain tokens_too run_too whole are amp m_is) =
+one_position bytes b n m (to_hand _ _ _ front text hand x xs tokens run held some is n_is) (to_amp _ _ _ other plain tokens_too run_too whole are amp m_is) =
     absurd (hand_no_text front other text hand plain x xs tokens tokens_too run held some run_too (sym is ∙ are))
-one_place bytes b n m (to_hand _ _ _ front text hand x xs tokens run held some is n_is) (to_text _ _ _ other plain tokens_too run_too why are m_is) =
+one_position bytes b n m (to_hand _ _ _ front text hand x xs tokens run held some is n_is) (to_text _ _ _ other plain tokens_too run_too why are m_is) =
     absurd (hand_no_text front other text hand plain x xs tokens tokens_too run held some run_too (sym is ∙ are))
-one_place bytes b n m (to_amp _ _ _ front text tokens run whole is amp n_is) (to_hand _ _ _ other plain hand x xs tokens_too run_too held some are m_is) =
+one_position bytes b n m (to_amp _ _ _ front text tokens run whole is amp n_is) (to_hand _ _ _ other plain hand x xs tokens_too run_too held some are m_is) =
     absurd (hand_no_text other front plain hand text x xs tokens_too tokens run_too held some run (sym are ∙ is))
-one_place bytes b n m (to_amp _ _ _ front text tokens run whole is amp n_is) (to_amp _ _ _ other plain tokens_too run_too whole_too are amp_too m_is) = n_is ∙ sym m_is
-one_place bytes b n m (to_amp _ _ _ front text tokens run whole is amp n_is) (to_text _ _ _ other plain tokens_too run_too why are m_is) =
+one_position bytes b n m (to_amp _ _ _ front text tokens run whole is amp n_is) (to_amp _ _ _ other plain tokens_too run_too whole_too are amp_too m_is) = n_is ∙ sym m_is
+one_position bytes b n m (to_amp _ _ _ front text tokens run whole is amp n_is) (to_text _ _ _ other plain tokens_too run_too why are m_is) =
     absurd (amp_no_text b front other text plain tokens tokens_too run run_too whole amp why (sym is ∙ are))
-one_place bytes b n m (to_text _ _ _ front text tokens run why is n_is) (to_hand _ _ _ other plain hand x xs tokens_too run_too held some are m_is) =
+one_position bytes b n m (to_text _ _ _ front text tokens run why is n_is) (to_hand _ _ _ other plain hand x xs tokens_too run_too held some are m_is) =
     absurd (hand_no_text other front plain hand text x xs tokens_too tokens run_too held some run (sym are ∙ is))
-one_place bytes b n m (to_text _ _ _ front text tokens run why is n_is) (to_amp _ _ _ other plain tokens_too run_too whole are amp m_is) =
+one_position bytes b n m (to_text _ _ _ front text tokens run why is n_is) (to_amp _ _ _ other plain tokens_too run_too whole are amp m_is) =
     absurd (amp_no_text b other front plain text tokens_too tokens run_too run whole amp why (sym are ∙ is))
-one_place bytes b n m (to_text _ _ _ front text tokens run why is n_is) (to_text _ _ _ other plain tokens_too run_too why_too are m_is) =
+one_position bytes b n m (to_text _ _ _ front text tokens run why is n_is) (to_text _ _ _ other plain tokens_too run_too why_too are m_is) =
     let r = one_front front other text plain (from_first front tokens) (from_first other tokens_too) (text_rest text run) (text_rest plain run_too) (sym is ∙ are) in n_is ∙ ap length r.0 ∙ sym m_is
 
 pub one_offset : (bytes : List ℕ) (b n m : ℕ) → IsAtToken bytes b n → IsAtToken bytes b m → n ≡ m
 one_offset bytes b n m h k =
-    let same = one_place bytes b (length h.before) (length k.before) (belongs bytes b h.before h.token h.bytes_are h.is_token) (belongs bytes b k.before k.token k.bytes_are k.is_token) in
-    h.at_is ∙ ap place_of same ∙ sym k.at_is
+    let same = one_position bytes b (length h.before) (length k.before) (belongs bytes b h.before h.token h.bytes_are h.is_token) (belongs bytes b k.before k.token k.bytes_are k.is_token) in
+    h.at_is ∙ ap position_of same ∙ sym k.at_is

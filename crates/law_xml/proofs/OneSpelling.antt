@@ -116,7 +116,7 @@ before_end inside close after c = ap (λ l. inside ++ (l ++ after)) c.bytes_are
 no_start : (a says front other x y : List ℕ) (b : ℕ) → IsText a says → IsText front other → is_name_start b ≡ true → a ++ (60 ∷ 47 ∷ x) ≡ front ++ (60 ∷ b ∷ y) → ⊥
 no_start a says front other x y b p q starts e =
     let same = one_text a says front other 47 b x y p q slash_no_exclamation (start_no_exclamation b starts) e in
-    let behind : 60 ∷ 47 ∷ x ≡ 60 ∷ b ∷ y = cancelled a front (60 ∷ 47 ∷ x) (60 ∷ b ∷ y) same.0 e in
+    let following : 60 ∷ 47 ∷ x ≡ 60 ∷ b ∷ y = cancelled a front (60 ∷ 47 ∷ x) (60 ∷ b ∷ y) same.0 e in
     let second : b ≡ 47 = cc in
     start_no_slash b starts second
 
@@ -138,13 +138,13 @@ mutual
   one_element scope a e (filled _ _ _ raw t start inside close kids is goes content closes bytes begun) b f x y (filled _ _ _ raw' t' start' inside' close' kids' is' goes' content' closes' bytes' begun') same =
       let whole : start ++ (inside ++ (close ++ x)) ≡ start' ++ (inside' ++ (close' ++ y)) = sym (three a start inside close x bytes) ∙ (same ∙ three b start' inside' close' y bytes') in
       let tags = same_tags scope start start' (inside ++ (close ++ x)) (inside' ++ (close' ++ y)) raw raw' t t' is is' whole in
-      let behind = cancelled start start' (inside ++ (close ++ x)) (inside' ++ (close' ++ y)) tags.bytes whole in
+      let following = cancelled start start' (inside ++ (close ++ x)) (inside' ++ (close' ++ y)) tags.bytes whole in
       let c = end_begins close t.spelled closes in
       let c' = end_begins close' t'.spelled closes' in
       let moved : SpellsContent (t.bindings ++ scope) inside' kids' = subst (λ (u : Tag). SpellsContent (u.bindings ++ scope) inside' kids') (sym tags.tags) content' in
       let contents = one_content (t.bindings ++ scope) inside kids content inside' kids' (c.rest ++ x) (c'.rest ++ y) moved
-      (sym (before_end inside close x c) ∙ (behind ∙ before_end inside' close' y c')) in
-      let left = cancelled inside inside' (close ++ x) (close' ++ y) contents.0 behind in
+      (sym (before_end inside close x c) ∙ (following ∙ before_end inside' close' y c')) in
+      let left = cancelled inside inside' (close ++ x) (close' ++ y) contents.0 following in
       let closed = one_tag close close' x y (end_tag t.spelled) (end_tag t'.spelled) closes closes' left in
       (bytes ∙ ((λ i. tags.bytes i ++ (contents.0 i ++ closed i)) ∙ sym bytes'), one_begun t t' kids kids' e f tags.tags contents.1 begun begun')
 
@@ -166,9 +166,9 @@ mutual
       let start' = begins scope middle' e' spelled' in
       let texts = one_text front says front' says' start.second start'.second (start.rest ++ (rest ++ u)) (start'.rest ++ (rest' ++ v)) text text' (start_no_exclamation start.second start.starts) (start_no_exclamation start'.second start'.starts)
       (sym (before_start a front middle rest u start bytes) ∙ (same ∙ before_start b front' middle' rest' v start' bytes')) in
-      let behind = cancelled front front' (middle ++ (rest ++ u)) (middle' ++ (rest' ++ v)) texts.0 (sym (three a front middle rest u bytes) ∙ (same ∙ three b front' middle' rest' v bytes')) in
-      let elements = one_element scope middle e spelled middle' e' (rest ++ u) (rest' ++ v) spelled' behind in
-      let left = cancelled middle middle' (rest ++ u) (rest' ++ v) elements.0 behind in
+      let following = cancelled front front' (middle ++ (rest ++ u)) (middle' ++ (rest' ++ v)) texts.0 (sym (three a front middle rest u bytes) ∙ (same ∙ three b front' middle' rest' v bytes')) in
+      let elements = one_element scope middle e spelled middle' e' (rest ++ u) (rest' ++ v) spelled' following in
+      let left = cancelled middle middle' (rest ++ u) (rest' ++ v) elements.0 following in
       let rests = one_content scope rest more content rest' more' x y content' left in
       (bytes ∙ ((λ i. texts.0 i ++ (elements.0 i ++ rests.0 i)) ∙ sym bytes'), kids ∙ ((λ i. joined (text_node (texts.1 i)) (child (elements.1 i) (rests.1 i))) ∙ sym kids'))
 

@@ -5,9 +5,9 @@ use Rattle.std.proofs.lemmas.Bool.Decides.{nat_tests}
 use Rattle.std.proofs.lemmas.List.{append_cancel_left}
 use Rattle.std.specs.List.{list_all}
 use Rattle.xml_tokens.proofs.Going.{references_go_on}
-use Rattle.xml_tokens.proofs.Splits.{behind-append, front-append, stops}
+use Rattle.xml_tokens.proofs.Splits.{following-append, front-append, stops}
 use Rattle.xml_tokens.specs.Characters.{is_digit, is_name_byte, is_name_start}
-use Rattle.xml_tokens.specs.Fronts.{behind, front}
+use Rattle.xml_tokens.specs.Fronts.{following, front}
 use Rattle.xml_tokens.specs.References.{each_goes_on, is_hex_digit, number_goes_on, reference_goes_on, referred}
 use Rattle.xml_tokens.specs.declared.references.Reference.TheVariants.{Character, Malformed}
 use Rattle.law_xml.specs.Texts.{IsCharacterData, IsText, SpellsText, begins_section_end, data_alone, has_section_end, with_reference, with_section}
@@ -18,7 +18,7 @@ use Rattle.xml_tokens.specs.Lines.{line_ends}
 same_front : (p : ℕ → Bool) (a b x y : List ℕ) → list_all p a ≡ true → list_all p b ≡ true → stops p x ≡ true → stops p y ≡ true → a ++ x ≡ b ++ y → (a ≡ b) × (x ≡ y)
 same_front p a b x y all other s t e = (
   sym (front-append p a x all s) ∙ (ap (front p) e ∙ front-append p b y other t),
-  sym (behind-append p a x all s) ∙ (ap (behind p) e ∙ behind-append p b y other t),
+  sym (following-append p a x all s) ∙ (ap (following p) e ∙ following-append p b y other t),
 )
 
 -- ---- a CDATA section runs up to the first `]]>`
@@ -116,8 +116,8 @@ aligned : (plain other x y one two : List ℕ) → IsCharacterData plain → IsC
     → one ≡ plain ++ x → two ≡ other ++ y → one ≡ two → (plain ≡ other) × (x ≡ y)
 aligned plain other x y one two p q s t left right e = same_front no_mark plain other x y p.no_markup q.no_markup s t (sym left ∙ (e ∙ right))
 
-behind_begin : (x y : List ℕ) → 60 ∷ 33 ∷ 91 ∷ 67 ∷ 68 ∷ 65 ∷ 84 ∷ 65 ∷ 91 ∷ x ≡ 60 ∷ 33 ∷ 91 ∷ 67 ∷ 68 ∷ 65 ∷ 84 ∷ 65 ∷ 91 ∷ y → x ≡ y
-behind_begin x y e = append_cancel_left (codes "<![CDATA[") x y e
+after_begin : (x y : List ℕ) → 60 ∷ 33 ∷ 91 ∷ 67 ∷ 68 ∷ 65 ∷ 84 ∷ 65 ∷ 91 ∷ x ≡ 60 ∷ 33 ∷ 91 ∷ 67 ∷ 68 ∷ 65 ∷ 84 ∷ 65 ∷ 91 ∷ y → x ≡ y
+after_begin x y e = append_cancel_left (codes "<![CDATA[") x y e
 
 -- ---- a text
 
@@ -139,7 +139,7 @@ one_spelled a s (with_reference _ _ plain name rest more k characters known spel
     let u = 60 ∷ c ∷ x in
     let v = 60 ∷ d ∷ y in
     let same = aligned plain plain' (38 ∷ (name ++ (59 ∷ (rest ++ u)))) (38 ∷ (name' ++ (59 ∷ (rest' ++ v)))) _ _ characters characters' refl refl (reference_and a plain name rest u is) (reference_and b plain' name' rest' v is') e in
-    let behind : 38 ∷ (name ++ (59 ∷ (rest ++ u))) ≡ 38 ∷ (name' ++ (59 ∷ (rest' ++ v))) = same.1 in
+    let following : 38 ∷ (name ++ (59 ∷ (rest ++ u))) ≡ 38 ∷ (name' ++ (59 ∷ (rest' ++ v))) = same.1 in
     let names : name ++ (59 ∷ (rest ++ u)) ≡ name' ++ (59 ∷ (rest' ++ v)) = cc in
     let named = same_front (λ b. not (eqb b 59)) name name' (59 ∷ (rest ++ u)) (59 ∷ (rest' ++ v)) (name_unended name k known) (name_unended name' k' known') refl refl names in
     let ended : 59 ∷ (rest ++ u) ≡ 59 ∷ (rest' ++ v) = named.1 in
@@ -161,7 +161,7 @@ one_spelled a s (with_section _ _ plain inside rest more characters whole spelle
     let v = 60 ∷ d ∷ y in
     let same = aligned plain plain' (60 ∷ 33 ∷ 91 ∷ 67 ∷ 68 ∷ 65 ∷ 84 ∷ 65 ∷ 91 ∷ (inside ++ (93 ∷ 93 ∷ 62 ∷ (rest ++ u)))) (60 ∷ 33 ∷ 91 ∷ 67 ∷ 68 ∷ 65 ∷ 84 ∷ 65 ∷ 91 ∷ (inside' ++ (93 ∷ 93 ∷ 62 ∷ (rest' ++ v)))) _ _ characters characters' refl refl
     (section_and a plain inside rest u is) (section_and b plain' inside' rest' v is') e in
-    let insides = behind_begin (inside ++ (93 ∷ 93 ∷ 62 ∷ (rest ++ u))) (inside' ++ (93 ∷ 93 ∷ 62 ∷ (rest' ++ v))) same.1 in
+    let insides = after_begin (inside ++ (93 ∷ 93 ∷ 62 ∷ (rest ++ u))) (inside' ++ (93 ∷ 93 ∷ 62 ∷ (rest' ++ v))) same.1 in
     let section = one_section inside inside' (rest ++ u) (rest' ++ v) whole whole' insides in
     let one = one_spelled rest more spelled rest' more' c d x y spelled' other other' section.1 in
     (is ∙ ((λ i. same.0 i ++ (codes "<![CDATA[" ++ (section.0 i ++ (codes "]]>" ++ one.0 i)))) ∙ sym is'), says ∙ ((λ i. line_ends (same.0 i) ++ (line_ends (section.0 i) ++ one.1 i)) ∙ sym says'))

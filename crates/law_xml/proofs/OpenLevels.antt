@@ -46,8 +46,8 @@ module _ (limits : Limits) (scope : Scope) (bytes : List ℕ) (kids : Nodes) whe
     text_ends front says h t,
   )
 
-  pub element_behind : (middle : List ℕ) (e : Elem) → IsContentBefore limits scope bytes kids → SpellsIn limits scope middle e → IsContent limits scope (bytes ++ middle) (joined kids (child e no_nodes))
-  element_behind middle e h inner rest more outer =
+  pub element_after : (middle : List ℕ) (e : Elem) → IsContentBefore limits scope bytes kids → SpellsIn limits scope middle e → IsContent limits scope (bytes ++ middle) (joined kids (child e no_nodes))
+  element_after middle e h inner rest more outer =
       content_as limits scope (bytes ++ (middle ++ rest)) _ (joined kids (child e more)) _
       (sym (append_assoc bytes middle rest)) (sym (joined_assoc kids (child e no_nodes) more))
       (h.0 middle rest e more inner outer)
@@ -126,7 +126,7 @@ level_resumed limits outer own o bytes middle e h inner = record {
   name_is = h.name_is;
   own_is = h.own_is;
   element_is = ap (λ f. with_nodes f (child e no_nodes)) h.element_is;
-  content = element_behind limits (h.tag.bindings ++ outer) h.inside h.kids middle e h.content (subst (λ s. SpellsIn limits (s ++ outer) middle e) (sym h.own_is) inner);
+  content = element_after limits (h.tag.bindings ++ outer) h.inside h.kids middle e h.content (subst (λ s. SpellsIn limits (s ++ outer) middle e) (sym h.own_is) inner);
   bytes_are = ap (λ l. l ++ middle) h.bytes_are ∙ append_assoc h.start h.inside middle;
 }
 

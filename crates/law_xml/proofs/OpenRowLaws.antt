@@ -37,7 +37,7 @@ use Rattle.law_xml.specs.Hands.{AreKept, IsHolding, IsReading, brackets_last}
 use Rattle.law_xml.specs.Offsets.{AreBefore, AreTokens, IsOpen, character_left, first_of, leads_tag, open_section, open_tag, opening_section}
 use Rattle.law_xml.specs.OpenRows.{EndInTag, EndInText, OpenRow, OpeningByteRow, TagByteRow, TextByteRow, admits, after_end, after_less, after_tag, after_text, forbidden_character, in_section, nameless, stray_character, stray_question, stray_reference, stray_section, stray_section_end}
 use Rattle.law_xml.specs.Rows.{Row, TextRow, TokenRow, bad_footer, forbidden_in_section, forbidden_in_text, in_text_row, in_token_row, no_declaration, no_name, reference_outside, section_end_in_text, section_outside, text_outside, whole_tag_row}
-use Rattle.law_xml.specs.Streams.{place_of}
+use Rattle.law_xml.specs.Streams.{position_of}
 
 heads : (x y : ℕ) (xs ys : List ℕ) → x ∷ xs ≡ y ∷ ys → x ≡ y
 heads x y xs ys e = cc
@@ -169,8 +169,8 @@ module _ (limits : Limits) (few_bytes : limits.bytes < 2 ^ 64) (few : limits.att
       let text = text_mode s.lexical.mode r.text_mode in
       let read = read_at before none in
       let same = read.kept.limits_are in
-      let hand = subst (λ m. Hand s.here m s s.places.used (framed limits before).items before) text read.hand in
-      subst (λ l. HasContext l (context_of s) before) same (context_in s.here s s.places.used (framed limits before).items before (subst (λ (l : Limits). l.bytes < 2 ^ 64) (sym same) few_bytes) (r.held ∙ ahead.whole) hand)
+      let hand = subst (λ m. Hand s.here m s s.positions.used (framed limits before).items before) text read.hand in
+      subst (λ l. HasContext l (context_of s) before) same (context_in s.here s s.positions.used (framed limits before).items before (subst (λ (l : Limits). l.bytes < 2 ^ 64) (sym same) few_bytes) (r.held ∙ ahead.whole) hand)
 
   context_told : (c : Context) (before : List ℕ) → HasContext limits c before → context_of (state_at before) ≡ c
   unfolding framed
@@ -230,12 +230,12 @@ module _ (limits : Limits) (few_bytes : limits.bytes < 2 ^ 64) (few : limits.att
       decided : Row s b at_offset w → Decided
       decided row = (rows_of_bytes limits bytes b at_offset w none).1 row
 
-      in_token : (m : Mode) (before more : List ℕ) → is_too_long s b ≡ false → continues (character_left [] bytes) b ≡ true → (h : IsHolding s 60 before more) → s.lexical.mode ≡ m → at_offset ≡ place_of (length before)
+      in_token : (m : Mode) (before more : List ℕ) → is_too_long s b ≡ false → continues (character_left [] bytes) b ≡ true → (h : IsHolding s 60 before more) → s.lexical.mode ≡ m → at_offset ≡ position_of (length before)
           → TokenRow m s b w → Decided
-      in_token m before more brief good h is place row =
+      in_token m before more brief good h is position row =
           decided
           (in_token_row s b at_offset w m (record { no_fault = none; mode_is = is; short = brief; is_text = unbroken limits bytes b at_offset w none good }) (ap is_text (sym is) ∙ h.no_text)
-          (place ∙ sym h.at_is) row)
+          (position ∙ sym h.at_is) row)
 
       in_text_mode : is_too_long s b ≡ false → continues (character_left [] bytes) b ≡ true → is_text s.lexical.mode ≡ true → TextRow s b at_offset w → Decided
       in_text_mode brief good text row =
@@ -243,19 +243,19 @@ module _ (limits : Limits) (few_bytes : limits.bytes < 2 ^ 64) (few : limits.att
 
       -- ---- texts
 
-      to_text : (before text : List ℕ) (c : Context) → EndInText bytes before text → context_of s ≡ c → continues (character_left [] bytes) b ≡ true → at_offset ≡ place_of (length before)
+      to_text : (before text : List ℕ) (c : Context) → EndInText bytes before text → context_of s ≡ c → continues (character_left [] bytes) b ≡ true → at_offset ≡ position_of (length before)
           → TextByteRow c (character_left [] bytes) text b w → TextRow s b at_offset w
-      to_text before text c e same good place (stray_character _ _ _ _ _ opens less and ended white w_is) =
-          text_outside s b at_offset w (outside s (ap (λ (d : Context). d.opens) same ∙ opens)) less and (ap (λ l. ends_character l b) (pending_is limits bytes none) ∙ ended) white (place ∙ sym (reads before text e).at_is) w_is
-      to_text before text c e same good place (forbidden_character _ _ _ _ _ opens less and ended bad w_is) =
+      to_text before text c e same good position (stray_character _ _ _ _ _ opens less and ended white w_is) =
+          text_outside s b at_offset w (outside s (ap (λ (d : Context). d.opens) same ∙ opens)) less and (ap (λ l. ends_character l b) (pending_is limits bytes none) ∙ ended) white (position ∙ sym (reads before text e).at_is) w_is
+      to_text before text c e same good position (forbidden_character _ _ _ _ _ opens less and ended bad w_is) =
           forbidden_in_text s b at_offset w (inside s (λ f. opens (ap (λ (d : Context). d.opens) (sym same) ∙ f))) less and (ap (λ l. ends_character l b) (pending_is limits bytes none) ∙ ended)
-          (ap (λ l. ends_forbidden_character l b) (pending_is limits bytes none) ∙ bad) (place ∙ sym (reads before text e).at_is) w_is
-      to_text before text c e same good place (stray_section_end _ _ _ _ _ opens is two w_is) =
+          (ap (λ l. ends_forbidden_character l b) (pending_is limits bytes none) ∙ bad) (position ∙ sym (reads before text e).at_is) w_is
+      to_text before text c e same good position (stray_section_end _ _ _ _ _ opens is two w_is) =
           let r = reads before text e in
           let inner = inside s (λ f. opens (ap (λ (d : Context). d.opens) (sym same) ∙ f)) in
           let empty = (ascii_alone s.pending b (omega (arith, is)) (unbroken limits bytes b at_offset w none good)).0 in
           ⊎_elim
-          (λ (on : s.lexical.in_run ≡ true). section_end_in_text s b at_offset w inner is on (r.counts inner empty on ∙ two) (place ∙ sym r.at_is) w_is)
+          (λ (on : s.lexical.in_run ≡ true). section_end_in_text s b at_offset w inner is on (r.counts inner empty on ∙ two) (position ∙ sym r.at_is) w_is)
           (λ (off : s.lexical.in_run ≡ false). let few_of : ◌≡◌ {A = ℕ} 0 2 = ap (brackets_last 0) (sym (r.none_begun off)) ∙ two in absurd (omega (arith, few_of)))
           (cases_Bool s.lexical.in_run)
 
@@ -272,23 +272,23 @@ module _ (limits : Limits) (few_bytes : limits.bytes < 2 ^ 64) (few : limits.att
           let r = slash_first more ends in
           let rest = r.0 in
           let all : bytes ≡ before ++ 60 ∷ ((47 ∷ []) ++ rest) = e.bytes_are ∙ ap (λ l. before ++ 60 ∷ l) r.1 in
-          let fine : (at limits (before ++ 60 ∷ ((47 ∷ []) ++ rest))).state.fault ≡ None = ap (λ l. (at limits l).state.fault) (sym all) ∙ none in
-          let fine_two : (at limits (before ++ 60 ∷ 47 ∷ [])).state.fault ≡ None =
-          none_before limits (before ++ 60 ∷ 47 ∷ []) rest (ap (λ l. (at limits l).state.fault) (append_assoc before (60 ∷ 47 ∷ []) rest) ∙ fine) in
-          let fine_one : (at limits (before ++ 60 ∷ [])).state.fault ≡ None =
-          none_before limits (before ++ 60 ∷ []) (47 ∷ []) (ap (λ l. (at limits l).state.fault) (append_assoc before (60 ∷ []) (47 ∷ [])) ∙ fine_two) in
-          let alone = markup_held limits (before ++ 60 ∷ []) before [] fine_one e.ahead (open_tag [] refl refl) refl in
+          let bounded : (at limits (before ++ 60 ∷ ((47 ∷ []) ++ rest))).state.fault ≡ None = ap (λ l. (at limits l).state.fault) (sym all) ∙ none in
+          let bounded_two : (at limits (before ++ 60 ∷ 47 ∷ [])).state.fault ≡ None =
+          none_before limits (before ++ 60 ∷ 47 ∷ []) rest (ap (λ l. (at limits l).state.fault) (append_assoc before (60 ∷ 47 ∷ []) rest) ∙ bounded) in
+          let bounded_one : (at limits (before ++ 60 ∷ [])).state.fault ≡ None =
+          none_before limits (before ++ 60 ∷ []) (47 ∷ []) (ap (λ l. (at limits l).state.fault) (append_assoc before (60 ∷ []) (47 ∷ [])) ∙ bounded_two) in
+          let alone = markup_held limits (before ++ 60 ∷ []) before [] bounded_one e.ahead (open_tag [] refl refl) refl in
           let u = at limits (before ++ 60 ∷ []) in
           let opening = opening_kind u.state.lexical.mode u.state alone.no_text alone.first_is alone.kept in
           let token : u.state.token ≡ 60 ∷ [] = (subst (λ m. AreKept m u.state []) opening alone.kept).0 in
-          let same : context_of u.state ≡ c = markup_same limits before [] fine_one e.ahead (open_tag [] refl refl) ∙ context_is limits c before h in
+          let same : context_of u.state ≡ c = markup_same limits before [] bounded_one e.ahead (open_tag [] refl refl) ∙ context_is limits c before h in
           let outer = outside u.state (ap (λ (d : Context). d.opens) same ∙ none_open) in
           let two : at limits (before ++ 60 ∷ 47 ∷ []) ≡ step u 47 = ap (at limits) (sym (append_assoc before (60 ∷ []) (47 ∷ []))) ∙ at_more limits (before ++ 60 ∷ []) 47 in
-          let begun = footer_begins u opening outer token (ap (λ (v : Turn). v.state.fault) (sym two) ∙ fine_two) in
+          let begun = footer_begins u opening outer token (ap (λ (v : Turn). v.state.fault) (sym two) ∙ bounded_two) in
           let start = subst (λ (v : Turn). IsFooter v.state (60 ∷ 47 ∷ [])) (sym two) begun in
           let open_all : IsOpen ((47 ∷ []) ++ rest) = subst IsOpen r.1 opens in
           let last =
-          markup_along limits before (λ p v. IsFooter v.state (60 ∷ p)) (λ p d v k ok goes_on. footer_more v d (60 ∷ p) k ok goes_on) e.ahead (47 ∷ []) rest fine open_all start in
+          markup_along limits before (λ p v. IsFooter v.state (60 ∷ p)) (λ p d v k ok goes_on. footer_more v d (60 ∷ p) k ok goes_on) e.ahead (47 ∷ []) rest bounded open_all start in
           subst (λ l. IsFooter (at limits l).state (60 ∷ more)) (sym all) (subst (λ l. IsFooter (at limits (before ++ 60 ∷ ((47 ∷ []) ++ rest))).state (60 ∷ l)) (sym r.1) last)
 
       between_is : (p : Phase) → is_between p ≡ true → p ≡ phase.Between
@@ -315,34 +315,34 @@ module _ (limits : Limits) (few_bytes : limits.bytes < 2 ^ 64) (few : limits.att
       -- ---- each row decides
 
       pub open_decides : is_too_long s b ≡ false → OpenRow limits bytes b at_offset w → Decided
-      open_decides brief (stray_reference _ _ _ _ _ c before text good e h opens is place w_is) =
+      open_decides brief (stray_reference _ _ _ _ _ c before text good e h opens is position w_is) =
           in_text_mode brief good (reads before text e).text_mode
-          (reference_outside s b at_offset w (outside s (ap (λ (d : Context). d.opens) (in_text c before text e h) ∙ opens)) is (place ∙ sym (read_at bytes none).kept.at_is) w_is)
-      open_decides brief (after_text _ _ _ _ _ c before text good e h place row) =
-          in_text_mode brief good (reads before text e).text_mode (to_text before text c e (in_text c before text e h) good place row)
-      open_decides brief (after_less _ _ _ _ _ c before good e h place row) =
+          (reference_outside s b at_offset w (outside s (ap (λ (d : Context). d.opens) (in_text c before text e h) ∙ opens)) is (position ∙ sym (read_at bytes none).kept.at_is) w_is)
+      open_decides brief (after_text _ _ _ _ _ c before text good e h position row) =
+          in_text_mode brief good (reads before text e).text_mode (to_text before text c e (in_text c before text e h) good position row)
+      open_decides brief (after_less _ _ _ _ _ c before good e h position row) =
           let alone = open_tag [] refl refl in
           let hold = holds before [] e alone in
           let kind = opening_kind s.lexical.mode s hold.no_text hold.first_is hold.kept in
-          in_token mode.Opening before [] brief good hold kind place (opening row)
+          in_token mode.Opening before [] brief good hold kind position (opening row)
         where
           opening : OpeningByteRow c b w → TokenRow mode.Opening s b w
           opening (stray_question _ _ _ is none_due w_is) = no_declaration s b w is (sym (admits_is s) ∙ ap admits (in_markup c before [] e (open_tag [] refl refl) h) ∙ none_due) w_is
           opening (nameless _ _ _ is w_is) = no_name s b w is w_is
-      open_decides brief (stray_section _ _ _ _ _ c before good e h opens is place w_is) =
+      open_decides brief (stray_section _ _ _ _ _ c before good e h opens is position w_is) =
           let part = opening_section (codes "![CDATA") (codes "[") refl in
           let hold = holds before (codes "![CDATA") e part in
           let kind = bang_kind s.lexical.mode s hold.no_text hold.first_is hold.kept in
           let due : b ≡ slice_index (codes "<![CDATA[") (length s.token) = is ∙ ap (λ l. slice_index (codes "<![CDATA[") (length l)) (sym kind.1) in
-          in_token mode.Bang before (codes "![CDATA") brief good hold kind.0 place
+          in_token mode.Bang before (codes "![CDATA") brief good hold kind.0 position
           (section_outside s b w due (ap length kind.1) (outside s (ap (λ (d : Context). d.opens) (in_markup c before (codes "![CDATA") e part h) ∙ opens)) w_is)
-      open_decides brief (in_section _ _ _ _ _ before inner good e place ended bad w_is) =
+      open_decides brief (in_section _ _ _ _ _ before inner good e position ended bad w_is) =
           let part = open_section (codes "![CDATA[" ++ inner) inner refl e.no_end in
           let hold = holds before (codes "![CDATA[" ++ inner) e.markup part in
           let kind = section_kind s.lexical.mode s inner hold.no_text hold.first_is hold.kept in
-          in_token mode.Section before (codes "![CDATA[" ++ inner) brief good hold kind place
+          in_token mode.Section before (codes "![CDATA[" ++ inner) brief good hold kind position
           (forbidden_in_section s b w (ap (λ l. ends_character l b) (pending_is limits bytes none) ∙ ended) (ap (λ l. ends_forbidden_character l b) (pending_is limits bytes none) ∙ bad) w_is)
-      open_decides brief (after_tag _ _ _ _ _ c before more good e h no_end is place row) =
+      open_decides brief (after_tag _ _ _ _ _ c before more good e h no_end is position row) =
           let hold = holds before more e.markup (tag_open before more e) in
           let same = in_markup c before more e.markup (tag_open before more e) h in
           ⊎_elim
@@ -351,18 +351,18 @@ module _ (limits : Limits) (few_bytes : limits.bytes < 2 ^ 64) (few : limits.att
           let token : 60 ∷ (more ++ b ∷ []) ≡ s.token ++ b ∷ [] = ap (λ l. l ++ b ∷ []) (sym k.1) in
           let there : TagByteRow s.limits (context_of s) (s.token ++ b ∷ []) w =
           subst (λ l. TagByteRow l (context_of s) (s.token ++ b ∷ []) w) (sym limits_are) (subst (λ d. TagByteRow limits d (s.token ++ b ∷ []) w) (sym same) (subst (λ l. TagByteRow limits c l w) token row)) in
-          in_token mode.Tag before more brief good hold k.0 place (whole_tag_row s b w is (kept.3 ∙ e.unquoted) (to_whole s b w there)))
+          in_token mode.Tag before more brief good hold k.0 position (whole_tag_row s b w is (kept.3 ∙ e.unquoted) (to_whole s b w there)))
           (λ (k : (s.lexical.mode ≡ mode.Footer) × (is_end (60 ∷ more) ≡ true)).
-          let outer = footer_outside s.here s.lexical.mode s s.places.used (framed limits bytes).items bytes (read_at bytes none).hand k.0 in
+          let outer = footer_outside s.here s.lexical.mode s s.positions.used (framed limits bytes).items bytes (read_at bytes none).hand k.0 in
           let none_open = ap (λ (d : Context). d.opens) (sym same) ∙ from_outside s outer in absurd (false≢true (sym (no_end none_open) ∙ k.1)))
           (tag_kind s.lexical.mode s more e.some e.leads hold.no_text hold.first_is hold.kept)
-      open_decides brief (after_end _ _ _ _ _ c before more good e h opens ends is place other w_is) =
+      open_decides brief (after_end _ _ _ _ _ c before more good e h opens ends is position other w_is) =
           let hold = holds before more e.markup (tag_open before more e) in
           let same = in_markup c before more e.markup (tag_open before more e) h in
           let outer = outside s (ap (λ (d : Context). d.opens) same ∙ opens) in
           ⊎_elim
           (λ (k : (s.lexical.mode ≡ mode.Tag) × (s.token ≡ 60 ∷ more)).
-          let begins = tag_begins s.here s.lexical.mode s s.places.used (framed limits bytes).items bytes (read_at bytes none).hand k.0 outer in
+          let begins = tag_begins s.here s.lexical.mode s s.positions.used (framed limits bytes).items bytes (read_at bytes none).hand k.0 outer in
           absurd (false≢true (sym begins.1 ∙ ap is_end k.1 ∙ ends)))
           (λ (k : (s.lexical.mode ≡ mode.Footer) × (is_end (60 ∷ more) ≡ true)).
           let kept = subst (λ m. AreKept m s more) k.0 hold.kept in
@@ -371,6 +371,6 @@ module _ (limits : Limits) (few_bytes : limits.bytes < 2 ^ 64) (few : limits.att
           (λ (ended : ends_stream (gathered s b) ≡ true).
           let r = footer_is more f is ended in
           absurd (other (ap (λ (d : Context). d.phase) (sym same) ∙ r.0, subst (IsEndTag (60 ∷ (more ++ b ∷ []))) (ap (λ (d : Context). d.name) same) r.1)))
-          (λ (goes_on : ends_stream (gathered s b) ≡ false). in_token mode.Footer before more brief good hold k.0 place (bad_footer s b w is (kept.2 ∙ e.unquoted) goes_on w_is))
+          (λ (goes_on : ends_stream (gathered s b) ≡ false). in_token mode.Footer before more brief good hold k.0 position (bad_footer s b w is (kept.2 ∙ e.unquoted) goes_on w_is))
           (cases_Bool (ends_stream (gathered s b))))
           (tag_kind s.lexical.mode s more e.some e.leads hold.no_text hold.first_is hold.kept)

@@ -35,7 +35,7 @@ use Rattle.law_xml.specs.Offsets.{AreBefore, character_left, first_of, is_open_t
 use Rattle.law_xml.specs.OpenRows.{EndInTag, EndInText, OpenRow, TagByteRow, after_end, after_less, after_tag, after_text, forbidden_character, in_section, nameless, stray_character, stray_question, stray_reference, stray_section, stray_section_end}
 use Rattle.law_xml.specs.Rows.{DeclarationRow, FooterRow, QuestionRow, ReferenceRow, Row, TagRow, TextRow, TokenRow, bad_declaration, bad_footer, bad_reference, departing_declaration, departing_reference, departing_section, forbidden_in_section, forbidden_in_text, in_text_row, in_token_row, no_declaration, no_name, no_utf8, other_encoding, reference_outside, section_end_in_text, section_outside, text_outside, too_long, unknown_reference, unspaced_declaration, whole_tag_row}
 use Rattle.law_xml.specs.Standing.{StandsOutside}
-use Rattle.law_xml.specs.Streams.{place_of}
+use Rattle.law_xml.specs.Streams.{position_of}
 
 heads : (x y : ℕ) (xs ys : List ℕ) → x ∷ xs ≡ y ∷ ys → x ≡ y
 heads x y xs ys e = cc
@@ -55,11 +55,11 @@ malformed_short e = cc
 opens_section : (more rest : List ℕ) → codes "![CDATA[" ≡ more ++ rest → leads_tag more ≡ false → length more < 8 → OpensSection more
 opens_section [] rest due lead few = absurd (true≢false lead)
 opens_section (x ∷ xs) [] due lead few = let all : 8 ≡ length ((x ∷ xs) ++ []) = ap length due in let n = length-append (x ∷ xs) [] in absurd (omega (arith, all, n, few))
-opens_section (x ∷ xs) (y ∷ ys) due lead few = record { behind = xs; more_is = ap (λ d. d ∷ xs) (sym (heads 33 x (codes "[CDATA[") (xs ++ y ∷ ys) due)); next = y; rest = ys; due = due }
+opens_section (x ∷ xs) (y ∷ ys) due lead few = record { following = xs; more_is = ap (λ d. d ∷ xs) (sym (heads 33 x (codes "[CDATA[") (xs ++ y ∷ ys) due)); next = y; rest = ys; due = due }
 
 opens_declaration : (more rest : List ℕ) → codes "?xml" ≡ more ++ rest → leads_tag more ≡ false → OpensDeclaration more
 opens_declaration [] rest due lead = absurd (true≢false lead)
-opens_declaration (x ∷ xs) rest due lead = record { behind = xs; more_is = ap (λ d. d ∷ xs) (sym (heads 63 x (codes "xml") (xs ++ rest) due)); rest = rest; due = due }
+opens_declaration (x ∷ xs) rest due lead = record { following = xs; more_is = ap (λ d. d ∷ xs) (sym (heads 63 x (codes "xml") (xs ++ rest) due)); rest = rest; due = due }
 
 -- all but the last byte of `<![CDATA[`
 whole_opening : (more rest : List ℕ) → codes "![CDATA[" ≡ more ++ rest → length more ≡ 7 → more ≡ codes "![CDATA"
@@ -71,7 +71,7 @@ record IsInHand (s : State) (bytes : List ℕ) (b offset : ℕ) (m : Mode) (befo
   bytes_are : bytes ≡ before ++ first_of m ∷ more
   ahead : AreBefore before
   kept : AreKept m s more
-  place : offset ≡ place_of (length before)
+  position : offset ≡ position_of (length before)
   good : continues (character_left [] bytes) b ≡ true
 
 module _ (limits : Limits) (few_bytes : limits.bytes < 2 ^ 64) (few : limits.attributes < 2 ^ 32) (short : limits.namespace_bytes < 2 ^ 32) (bytes : List ℕ) (none : fault_of limits bytes ≡ None) where
@@ -146,20 +146,20 @@ module _ (limits : Limits) (few_bytes : limits.bytes < 2 ^ 64) (few : limits.att
         let token : s.token ++ b ∷ [] ≡ 60 ∷ (more ++ b ∷ []) = ap (λ l. l ++ b ∷ []) k.0 in
         let there : TagByteRow limits (context_of s) (60 ∷ (more ++ b ∷ [])) w =
         subst (λ l. TagByteRow limits (context_of s) l w) token (subst (λ l. TagByteRow l (context_of s) (s.token ++ b ∷ []) w) (limits_are limits few_bytes few short bytes none) (of_whole s b w row)) in
-        inr (after_tag limits bytes b offset w (context_of s) before more h.good tag (tag_context before more e k.1 k.2) (no_end k.0) is h.place there)
+        inr (after_tag limits bytes b offset w (context_of s) before more h.good tag (tag_context before more e k.1 k.2) (no_end k.0) is h.position there)
       where
         no_end : s.token ≡ 60 ∷ more → (context_of s).opens ≡ [] → is_end (60 ∷ more) ≡ false
         no_end token opens =
-            ap is_end (sym token) ∙ (tag_begins s.here s.lexical.mode s s.places.used (framed limits bytes).items bytes (read_at limits few_bytes few short bytes none).hand h.mode_is (outside s opens)).1
+            ap is_end (sym token) ∙ (tag_begins s.here s.lexical.mode s s.positions.used (framed limits bytes).items bytes (read_at limits few_bytes few short bytes none).hand h.mode_is (outside s opens)).1
 
     footer_told : Decided → (before more : List ℕ) → Hand mode.Footer before more → FooterRow s b w → Told
     footer_told is before more h (bad_footer _ _ _ last quote no_end w_is) =
         let k = h.kept in
         let e : EndInMarkup bytes before more = record { ahead = h.ahead; bytes_are = h.bytes_are } in
         let tag : EndInTag bytes before more = record { markup = e; some = some_more more k.3; leads = k.0; not_ended = k.1; unquoted = sym k.2 ∙ quote } in
-        let outer = footer_outside s.here s.lexical.mode s s.places.used (framed limits bytes).items bytes (read_at limits few_bytes few short bytes none).hand h.mode_is in
+        let outer = footer_outside s.here s.lexical.mode s s.positions.used (framed limits bytes).items bytes (read_at limits few_bytes few short bytes none).hand h.mode_is in
         let c = tag_context before more e k.0 k.1 in
-        inr (after_end limits bytes b offset w (context_of s) before more h.good tag c (from_outside s outer) k.3 last h.place (no_footer is before more e c outer) w_is)
+        inr (after_end limits bytes b offset w (context_of s) before more h.good tag c (from_outside s outer) k.3 last h.position (no_footer is before more e c outer) w_is)
       where
         some_more : (l : List ℕ) → is_end (60 ∷ l) ≡ true → is_empty l ≡ false
         some_more [] e = absurd (false≢true e)
@@ -191,8 +191,8 @@ module _ (limits : Limits) (few_bytes : limits.bytes < 2 ^ 64) (few : limits.att
         c = tag_context before [] alone refl refl
 
         opening : TokenRow mode.Opening s b w → OpenRow limits bytes b offset w
-        opening (no_declaration _ _ _ last none_due w_is) = after_less limits bytes b offset w (context_of s) before h.good alone c h.place (stray_question (context_of s) b w last (admits_is s ∙ none_due) w_is)
-        opening (no_name _ _ _ last w_is) = after_less limits bytes b offset w (context_of s) before h.good alone c h.place (nameless (context_of s) b w last w_is)
+        opening (no_declaration _ _ _ last none_due w_is) = after_less limits bytes b offset w (context_of s) before h.good alone c h.position (stray_question (context_of s) b w last (admits_is s ∙ none_due) w_is)
+        opening (no_name _ _ _ last w_is) = after_less limits bytes b offset w (context_of s) before h.good alone c h.position (nameless (context_of s) b w last w_is)
     in_hand_told is mode.Bang no_text before more h row = by_row row
       where
         e : EndInMarkup bytes before more
@@ -201,14 +201,14 @@ module _ (limits : Limits) (few_bytes : limits.bytes < 2 ^ 64) (few : limits.att
         by_row : TokenRow mode.Bang s b w → Told
         by_row (departing_section _ _ _ departs w_is) =
             inl
-            (after_bang bytes b offset w before more h.good e (opens_section more h.kept.1 h.kept.2 h.kept.3 h.kept.4) h.place
+            (after_bang bytes b offset w before more h.good e (opens_section more h.kept.1 h.kept.2 h.kept.3 h.kept.4) h.position
             (no_section (60 ∷ more) b w (subst (λ l. b ≢ slice_index (codes "<![CDATA[") (length l)) h.kept.0 departs) w_is))
         by_row (section_outside _ _ _ due eight outer w_is) =
             let all = ap length (sym h.kept.0) in
             let word : more ≡ codes "![CDATA" = whole_opening more h.kept.1 h.kept.2 (omega (arith, all, eight)) in
             let part : EndInMarkup bytes before (codes "![CDATA") = subst (EndInMarkup bytes before) word e in
             let c = markup_context limits few_bytes few short bytes none before (codes "![CDATA") part (opening_section (codes "![CDATA") (codes "[") refl) in
-            inr (stray_section limits bytes b offset w (context_of s) before h.good part c (from_outside s outer) (due ∙ ap (slice_index (codes "<![CDATA[")) eight) h.place w_is)
+            inr (stray_section limits bytes b offset w (context_of s) before h.good part c (from_outside s outer) (due ∙ ap (slice_index (codes "<![CDATA[")) eight) h.position w_is)
     in_hand_told is mode.Question no_text before more h row =
         inl (question_told limits bytes b offset w none is (question_short row) before more (record { ahead = h.ahead; bytes_are = h.bytes_are }) (opens_declaration more h.kept.1 h.kept.2 h.kept.3))
     in_hand_told is mode.Declaration no_text before more h row =
@@ -220,12 +220,12 @@ module _ (limits : Limits) (few_bytes : limits.bytes < 2 ^ 64) (few : limits.att
     in_hand_told is mode.Section no_text before more h (forbidden_in_section _ _ _ ended bad w_is) =
         let k = h.kept in
         let e : EndInMarkup bytes before (codes "![CDATA[" ++ k.0) = record { ahead = h.ahead; bytes_are = h.bytes_are ∙ ap (λ l. before ++ 60 ∷ l) k.1 } in
-        inr (in_section limits bytes b offset w before k.0 h.good (record { markup = e; no_end = k.2 }) h.place (ends_there ended) (forbidden_there bad) w_is)
+        inr (in_section limits bytes b offset w before k.0 h.good (record { markup = e; no_end = k.2 }) h.position (ends_there ended) (forbidden_there bad) w_is)
 
     pub row_told : Decided → is_too_long s b ≡ false → Told
     row_told is near = by_row ((rows_of_bytes limits bytes b offset w none).0 is)
       where
-        by_token : (m : Mode) → Takes s m b → is_text m ≡ false → offset ≡ s.places.token_at → TokenRow m s b w → Told
+        by_token : (m : Mode) → Takes s m b → is_text m ≡ false → offset ≡ s.positions.token_at → TokenRow m s b w → Told
         by_token m k no_text at_is row =
             let h = token_told limits bytes none (ap is_text k.mode_is ∙ no_text) in
             in_hand_told is m no_text h.before h.more
@@ -234,7 +234,7 @@ module _ (limits : Limits) (few_bytes : limits.bytes < 2 ^ 64) (few : limits.att
               bytes_are = subst (λ n. bytes ≡ h.before ++ first_of n ∷ h.more) k.mode_is h.bytes_are;
               ahead = h.ahead;
               kept = subst (λ n. AreKept n s h.more) k.mode_is h.kept;
-              place = at_is ∙ h.at_is;
+              position = at_is ∙ h.at_is;
               good = good_there k.is_text;
             })
             row

@@ -9,7 +9,7 @@ use Rattle.xml_framer.proofs.Pieces.{run_append}
 use Rattle.xml_framer.specs.Machine.{run}
 use Rattle.xml_framer.specs.States.{State, Turn, turn}
 use Rattle.xml_framer.specs.declared.items.Item.{Item}
-use Rattle.net_pipes.specs.Pipes.{Pipe, closed, emptied, empty_pipe, entered, handed, is_end_due, with_end_told}
+use Rattle.net_pipes.specs.Pipes.{Pipe, closed, emptied, empty_pipe, entered, handed, is_end_due, with_end_reported}
 use Rattle.law_xml.specs.Carries.{Carries, GivesAll, GivesFirst, KeepsFirst, held}
 use Rattle.law_xml.specs.Items.{AreItems, AreWhole, IsRest, no_more}
 use Rattle.law_xml.proofs.JoinedRuns.{NoItems, items_join, may_be_lost, no_items}
@@ -109,7 +109,7 @@ empties s part p items t c =
 pub closes : (s : State) (part : List ℕ) (p : Pipe) (items : List Item) (t : State) → Carries s part p items t → Carries s part (closed p) items t
 closes s part p items t c = record { no_fault = c.no_fault; none_given = c.none_given; are_items = may_be_lost p.ended s (part ++ p.bytes) items t c.are_items }
 
-pub end_told : (s : State) (part : List ℕ) (p : Pipe) (items : List Item) (t : State) → Carries s part p items t → Carries s part (with_end_told p) items t
+pub end_told : (s : State) (part : List ℕ) (p : Pipe) (items : List Item) (t : State) → Carries s part p items t → Carries s part (with_end_reported p) items t
 end_told s part p items t c = record { no_fault = c.no_fault; none_given = c.none_given; are_items = c.are_items }
 
 pub without_bytes : (s : State) (part : List ℕ) (p : Pipe) (items : List Item) (t : State) → Carries s part p items t → p.bytes ≡ [] → (items ≡ []) × (t ≡ s) × IsRest p.ended s part

@@ -38,7 +38,7 @@ use Rattle.law_xml.specs.Streams as streams
 use Rattle.law_xml.proofs.CanonLaws.{canon_spelled}
 use Rattle.law_xml.proofs.HeaderLaws.{header_spelled}
 use Rattle.law_xml.proofs.SaidCharacters.{local_is_plain, text_says_characters, value_says_characters}
-use Rattle.law_xml.proofs.SpelledAttributes.{Fine}
+use Rattle.law_xml.proofs.SpelledAttributes.{Bounded}
 use Rattle.law_xml.proofs.SpelledNames.{differ}
 use Rattle.law_xml.proofs.SpelledTrees.{begun_is, spelled_tree}
 
@@ -67,30 +67,30 @@ xml_characters = characters_literal xml_namespace refl refl
 
 -- ---- attributes as they are spelled
 
-fine_from : (bytes : List ℕ) (xs : List tokens.Attribute) (rest : List ℕ) → AreAttributes bytes xs rest → AllByRecursion Fine xs
-fine_from bytes [] rest h = tt
-fine_from bytes (a ∷ more) rest h = (record { name = h.1.1.name_is; value = value_says_characters h.1.0 a.value h.1.2 }, fine_from h.0 more rest h.2)
+bounded_from : (bytes : List ℕ) (xs : List tokens.Attribute) (rest : List ℕ) → AreAttributes bytes xs rest → AllByRecursion Bounded xs
+bounded_from bytes [] rest h = tt
+bounded_from bytes (a ∷ more) rest h = (record { name = h.1.1.name_is; value = value_says_characters h.1.0 a.value h.1.2 }, bounded_from h.0 more rest h.2)
 
 more_bound : (o : Option (List ℕ)) (value : List ℕ) (more : Scope) → IsCharacters value → AllByRecursion MayDeclare (with_binding o value more) → (AllByRecursion MayDeclare more → IsPlainScope more)
     → IsPlainScope (with_binding o value more)
 more_bound None value more c may ih = ih may
 more_bound (Some p) value more c may ih = (record { characters = c; may = may.0 }, ih may.1)
 
-bindings_plain : (xs : List tokens.Attribute) → AllByRecursion Fine xs → AllByRecursion MayDeclare (bindings_of xs) → IsPlainScope (bindings_of xs)
+bindings_plain : (xs : List tokens.Attribute) → AllByRecursion Bounded xs → AllByRecursion MayDeclare (bindings_of xs) → IsPlainScope (bindings_of xs)
 bindings_plain [] h may = tt
 bindings_plain (a ∷ more) h may = more_bound (declared_prefix a.name) a.value (bindings_of more) h.0.value may (bindings_plain more h.1)
 
 record IsOther (a : tokens.Attribute) : Type 0 where
-  fine : Fine a
+  bounded : Bounded a
   undeclared : declared_prefix a.name ≡ None
 
-one_other : (o : Option (List ℕ)) (a : tokens.Attribute) (more : List tokens.Attribute) → declared_prefix a.name ≡ o → Fine a → AllByRecursion IsOther more → AllByRecursion IsOther (unless_binding o a more)
-one_other None a more is fine rest = (record { fine = fine; undeclared = is }, rest)
-one_other (Some p) a more is fine rest = rest
+one_other : (o : Option (List ℕ)) (a : tokens.Attribute) (more : List tokens.Attribute) → declared_prefix a.name ≡ o → Bounded a → AllByRecursion IsOther more → AllByRecursion IsOther (unless_binding o a more)
+one_other None a more is bounded rest = (record { bounded = bounded; undeclared = is }, rest)
+one_other (Some p) a more is bounded rest = rest
 
-others_fine : (xs : List tokens.Attribute) → AllByRecursion Fine xs → AllByRecursion IsOther (others_of xs)
-others_fine [] h = tt
-others_fine (a ∷ more) h = one_other (declared_prefix a.name) a (others_of more) refl h.0 (others_fine more h.1)
+others_bounded : (xs : List tokens.Attribute) → AllByRecursion Bounded xs → AllByRecursion IsOther (others_of xs)
+others_bounded [] h = tt
+others_bounded (a ∷ more) h = one_other (declared_prefix a.name) a (others_of more) refl h.0 (others_bounded more h.1)
 
 -- ---- what a prefix is bound to
 
@@ -139,13 +139,13 @@ declares = refl
 
 -- a name without a prefix that declares nothing
 no_declaration : (a : tokens.Attribute) (local : List ℕ) → IsOther a → IsName a.name [] local → local ≢ codes "xmlns"
-no_declaration a local h (inl (is, uncolon)) e = no_empty_prefix a.name local h.fine.name is
+no_declaration a local h (inl (is, uncolon)) e = no_empty_prefix a.name local h.bounded.name is
 no_declaration a local h (inr (is, none, uncolon)) e = let clash : None ≡ Some [] = sym h.undeclared ∙ ap declared_prefix (is ∙ e) ∙ declares in absurd cc
 
 expanded_plain : (scope : Scope) (a : tokens.Attribute) (e : ExpandedAttribute) → IsPlainScope scope → IsOther a → IsExpanded scope a e → IsPlainAttribute (attribute_of e)
 expanded_plain scope a e s h (prefix, named, within, says) =
-    let plain_name = local_is_plain a.name prefix e.name h.fine.name named in
-    let value = subst IsCharacters (sym says) h.fine.value in
+    let plain_name = local_is_plain a.name prefix e.name h.bounded.name named in
+    let value = subst IsCharacters (sym says) h.bounded.value in
     ⊎_elim
     (λ (none : (prefix ≡ []) × (e.ns ≡ [])). record {
       ns = subst IsCharacters (sym none.1) no_characters;
@@ -213,14 +213,14 @@ plain_name scope prefix ns name s p within =
 
 tag_plain : (scope : Scope) (bytes : List ℕ) (raw : List tokens.Attribute) (t : Tag) → IsPlainScope scope → IsStart scope bytes raw t → IsPlainTag scope t
 tag_plain scope bytes raw t s start =
-    let fine = fine_from start.spelled.inside raw (start.spelled.space ++ tag_end t.empty) start.spelled.inside_is in
-    let own = subst IsPlainScope (sym start.declarations) (bindings_plain raw fine (subst (AllByRecursion MayDeclare) start.declarations (recursion_from_All MayDeclare t.bindings start.may_be_made))) in
+    let bounded = bounded_from start.spelled.inside raw (start.spelled.space ++ tag_end t.empty) start.spelled.inside_is in
+    let own = subst IsPlainScope (sym start.declarations) (bindings_plain raw bounded (subst (AllByRecursion MayDeclare) start.declarations (recursion_from_All MayDeclare t.bindings start.may_be_made))) in
     let inner = append_each IsPlainBinding t.bindings scope own s in
     record {
       inner = inner;
       own = own;
       name = plain_name (t.bindings ++ scope) start.prefix t.ns t.name inner (local_is_plain t.spelled start.prefix t.name start.spelled.name_is start.name_is) start.element;
-      attributes = all_expanded (t.bindings ++ scope) (others_of raw) t.attributes inner (others_fine raw fine) start.others;
+      attributes = all_expanded (t.bindings ++ scope) (others_of raw) t.attributes inner (others_bounded raw bounded) start.others;
     }
 
 -- ---- elements

@@ -11,7 +11,7 @@ use Rattle.law_xml.proofs.FaultLaws.{goes, long}
 use Rattle.law_xml.proofs.PrefixSteps.{IsFirst, Keeps, begins_from, first_from, has_part, keeps_on}
 use Rattle.law_xml.proofs.ReadSoFar.{Hand, Read}
 use Rattle.law_xml.proofs.ReadStreams.{begins, is_within, stepped}
-use Rattle.law_xml.proofs.RunPlaces.{no_fault_before}
+use Rattle.law_xml.proofs.RunPositions.{no_fault_before}
 use Rattle.law_xml.proofs.StreamRuns.{stream_read}
 use Rattle.law_xml.proofs.WithinParts.{StreamIn}
 use Rattle.xml_framer.specs.Machine.{is_too_long, part_of, run, step, taken_in}
@@ -19,7 +19,7 @@ use Rattle.xml_framer.specs.States.{OpenElement, State, Turn, counted, from_star
 use Rattle.law_xml.specs.FaultRows.{Decides, Takes, is_outer}
 use Rattle.law_xml.specs.Prefixes.{BeginsSo, IsPrefix}
 use Rattle.law_xml.specs.StreamLimits.{IsStreamWithin}
-use Rattle.law_xml.specs.Streams.{InForce, StreamTo, place_of}
+use Rattle.law_xml.specs.Streams.{InForce, StreamTo, position_of}
 use Rattle.xml_framer.specs.declared.items.Item.{Item}
 use Rattle.xml_framer.specs.declared.fault.Why.TheVariants as why
 use Rattle.xml_framer.specs.declared.limits.Limits.{Limits}
@@ -31,7 +31,7 @@ pub none_too_soon : (limits : Limits) (bytes more : List ℕ) (now : InForce) (i
 none_too_soon limits bytes more now items stream faulty within =
     let r = stream_read limits now (bytes ++ more) items stream within in
     let first = run (turn (from_start limits) []) bytes in
-    let whole : run first more ≡ turn r.behind items = sym (run_append (turn (from_start limits) []) bytes more) ∙ r.run_is in
+    let whole : run first more ≡ turn r.following items = sym (run_append (turn (from_start limits) []) bytes more) ∙ r.run_is in
     let none = no_fault_before first more (ap (λ (u : Turn). u.state.fault) whole ∙ r.stands.no_fault) in
     true≢false (sym faulty ∙ ap is_some none)
 
@@ -43,8 +43,8 @@ HasPart t = has_part t.state t.state.pending ≡ true
 abbrev pub IsWhole : Turn → Type 0
 IsWhole t = has_part t.state t.state.pending ≡ false
 
-abbrev pub behind : Limits → List ℕ → Turn
-behind limits bytes = run (turn (from_start limits) []) bytes
+abbrev pub following : Limits → List ℕ → Turn
+following limits bytes = run (turn (from_start limits) []) bytes
 
 -- a stream of the items within the limits
 abbrev pub Reads : Limits → List ℕ → List Item → Type 0
@@ -58,11 +58,11 @@ pub record Part (given : Limits) (t : Turn) (bytes : List ℕ) : Type 0 where
   pub some : is_empty hand ≡ false
   pub begins_so : BeginsSo hand
   pub stream : Reads given done t.items
-  pub at : t.state.places.item_at ≡ place_of (length done)
-  pub last : (n : ℕ) → n ≤ length bytes → IsWhole (behind given (take n bytes)) → n ≤ length done
+  pub at : t.state.positions.item_at ≡ position_of (length done)
+  pub last : (n : ℕ) → n ≤ length bytes → IsWhole (following given (take n bytes)) → n ≤ length done
 
 pub record Known (given : Limits) (t : Turn) (bytes : List ℕ) : Type 0 where
-  pub from : behind given bytes ≡ t
+  pub from : following given bytes ≡ t
   pub read : Read given t bytes
   pub part : has_part t.state t.state.pending ≡ true → Part given t bytes
 
@@ -105,39 +105,39 @@ module _ (t : Turn) (b : ℕ) (bytes : List ℕ) (given : Limits) (h : Known giv
 
   -- the items and the offset of what is unfinished, from what is known of the byte
   after : (n : ℕ) → Keeps b n t (taken_in t.state.lexical.mode (moved t (counted t.state)) b) → has_part (step t b).state (step t b).state.pending ≡ true
-      → ((step t b).items ≡ t.items) × ((step t b).state.places.item_at ≡ n)
+      → ((step t b).items ≡ t.items) × ((step t b).state.positions.item_at ≡ n)
   after n keeps part =
       let is = goes t t.state.lexical.mode b takes_it in
       let there = keeps (subst (λ u. has_part u.state u.state.pending ≡ true) is part) in
-      (ap (λ u. u.items) is ∙ there.0, ap (λ u. u.state.places.item_at) is ∙ there.1)
+      (ap (λ u. u.items) is ∙ there.0, ap (λ u. u.state.positions.item_at) is ∙ there.1)
 
   first : IsFirst b (taken_in t.state.lexical.mode (moved t (counted t.state)) b).state → has_part (step t b).state (step t b).state.pending ≡ true → (b ≡ 60) ⊎ (128 ≤ b)
   first is_first part = is_first (subst (λ u. has_part u.state u.state.pending ≡ true) (goes t t.state.lexical.mode b takes_it) part)
 
-  from_after : behind given (bytes ++ b ∷ []) ≡ step t b
+  from_after : following given (bytes ++ b ∷ []) ≡ step t b
   from_after = run_append (turn (from_start given) []) bytes (b ∷ []) ∙ ap (λ (u : Turn). run u (b ∷ [])) h.from
 
   -- nothing is unfinished only before the byte
-  last_before : HasPart (step t b) → (n : ℕ) → n ≤ length (bytes ++ b ∷ []) → IsWhole (behind given (take n (bytes ++ b ∷ []))) → n ≤ length bytes
+  last_before : HasPart (step t b) → (n : ℕ) → n ≤ length (bytes ++ b ∷ []) → IsWhole (following given (take n (bytes ++ b ∷ []))) → n ≤ length bytes
   last_before part n le whole =
       ⊎_elim
       (λ (large : length bytes < n).
       let long = length-append bytes (b ∷ []) in
       let all : take n (bytes ++ b ∷ []) ≡ bytes ++ b ∷ [] = take_all n (bytes ++ b ∷ []) (omega (arith, long, large)) in
-      let there : IsWhole (step t b) = subst IsWhole (ap (behind given) all ∙ from_after) whole in
+      let there : IsWhole (step t b) = subst IsWhole (ap (following given) all ∙ from_after) whole in
       absurd (true≢false (sym part ∙ there)))
       (λ (small : n ≤ length bytes). small) (cases_lt (length bytes) n)
 
-  same_before : (n : ℕ) → n ≤ length bytes → IsWhole (behind given (take n (bytes ++ b ∷ []))) → IsWhole (behind given (take n bytes))
-  same_before n small whole = subst (λ l. IsWhole (behind given l)) (take-append-le n bytes (b ∷ []) small) whole
+  same_before : (n : ℕ) → n ≤ length bytes → IsWhole (following given (take n (bytes ++ b ∷ []))) → IsWhole (following given (take n bytes))
+  same_before n small whole = subst (λ l. IsWhole (following given l)) (take-append-le n bytes (b ∷ []) small) whole
 
   part_after : has_part (step t b).state (step t b).state.pending ≡ true → Part given (step t b) (bytes ++ b ∷ [])
   part_after part =
       ⊎_elim
       (λ (open_before : has_part t.state t.state.pending ≡ true).
       let was = h.part open_before in
-      let stands = stands_there t.state.here t.state.lexical.mode t.state t.items bytes t.state.places.used h.read.hand in
-      let there = after t.state.places.item_at (keeps_on t.state.lexical.mode (moved t (counted t.state)) b refl takes_it.is_text stands open_before) part in
+      let stands = stands_there t.state.here t.state.lexical.mode t.state t.items bytes t.state.positions.used h.read.hand in
+      let there = after t.state.positions.item_at (keeps_on t.state.lexical.mode (moved t (counted t.state)) b refl takes_it.is_text stands open_before) part in
       record {
         done = was.done;
         hand = was.hand ++ b ∷ [];
@@ -149,7 +149,7 @@ module _ (t : Turn) (b : ℕ) (bytes : List ℕ) (given : Limits) (h : Known giv
         last = λ n le w. let small = last_before part n le w in was.last n small (same_before n small w);
       })
       (λ (whole : has_part t.state t.state.pending ≡ false).
-      let there = after t.state.places.at (begins_from t.state.here t.state.lexical.mode t.state.pending (moved t (counted t.state)) b whole takes_it.is_text) part in
+      let there = after t.state.positions.at (begins_from t.state.here t.state.lexical.mode t.state.pending (moved t (counted t.state)) b whole takes_it.is_text) part in
       record {
         done = bytes;
         hand = b ∷ [];
@@ -177,13 +177,13 @@ known_first limits bytes few short none =
 
 -- no more is a stream within the limits
 whole_front : (given : Limits) (bytes : List ℕ) (now : InForce) (front rest : List ℕ) (said : List Item) (more : StreamTo now front said) → bytes ≡ front ++ rest → IsStreamWithin given now front said more
-    → (length front ≤ length bytes) × IsWhole (behind given (take (length front) bytes))
+    → (length front ≤ length bytes) × IsWhole (following given (take (length front) bytes))
 whole_front given bytes now front rest said more are within =
     let r = stream_read given now front said more within in
     let n = ap length are ∙ length-append front rest in
     let taken : take (length front) bytes ≡ front = ap (take (length front)) are ∙ take-append_seam front rest in
-    let there : IsWhole (turn r.behind said) = rw (r.stands.outside, r.stands.text, r.stands.no_pending) refl in
-    (omega (arith, n), subst IsWhole (sym (ap (behind given) taken ∙ r.run_is)) there)
+    let there : IsWhole (turn r.following said) = rw (r.stands.outside, r.stands.text, r.stands.no_pending) refl in
+    (omega (arith, n), subst IsWhole (sym (ap (following given) taken ∙ r.run_is)) there)
 
 is_prefix : (given : Limits) (t : Turn) (bytes : List ℕ) → t.state.fault ≡ None → Known given t bytes → IsPrefix given bytes t.items (part_of t.state)
 unfolding part_of
@@ -238,17 +238,17 @@ used_part None mode.Tag s used items bytes held h some = refl
 used_part None mode.Footer s used items bytes held h some = refl
 used_part None mode.Section s used items bytes held h some = refl
 
-long_used : (s : State) (b : ℕ) → is_too_long s b ≡ true → 0 < s.places.used
+long_used : (s : State) (b : ℕ) → is_too_long s b ≡ true → 0 < s.positions.used
 unfolding is_too_long
-long_used s b e = ltb-true 0 s.places.used (and_parts _ _ e).0
+long_used s b e = ltb-true 0 s.positions.used (and_parts _ _ e).0
 
 long_after : (given : Limits) (t : Turn) (b : ℕ) (bytes : List ℕ) → t.state.fault ≡ None → Known given t bytes → is_too_long t.state b ≡ true
     → (n : ℕ) × (part_of t.state ≡ Some n) × Decides t b n why.TooLong
 unfolding part_of
 long_after given t b bytes none h far =
     let s = t.state in
-    let part = used_part s.here s.lexical.mode s s.places.used t.items bytes s.pending h.read.hand (long_used s b far) in
-    (s.places.item_at, rw (none, h.read.kept.not_spent, part) refl, long t b none far)
+    let part = used_part s.here s.lexical.mode s s.positions.used t.items bytes s.pending h.read.hand (long_used s b far) in
+    (s.positions.item_at, rw (none, h.read.kept.not_spent, part) refl, long t b none far)
 
 pub long_told : (limits : Limits) (bytes : List ℕ) (b : ℕ) → limits.attributes < 2 ^ 32 → limits.namespace_bytes < 2 ^ 32 → (run (turn (from_start limits) []) bytes).state.fault ≡ None
     → is_too_long (run (turn (from_start limits) []) bytes).state b ≡ true

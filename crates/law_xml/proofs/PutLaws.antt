@@ -45,10 +45,10 @@ stands_first limits =
 -- ---- the declaration
 
 record Declared (t : State) (p : Phase) (scope : Scope) (name : List ℕ) : Type 0 where
-  behind : State
-  run_is : run (turn t []) declaration ≡ turn behind []
-  stands : StandsOutside behind (declared_phase p) scope name
-  same_limits : behind.limits ≡ t.limits
+  following : State
+  run_is : run (turn t []) declaration ≡ turn following []
+  stands : StandsOutside following (declared_phase p) scope name
+  same_limits : following.limits ≡ t.limits
 
 quiet : (t : State) (p : Phase) (scope : Scope) (name : List ℕ) → StandsOutside t p scope name → IsQuiet t
 quiet t p scope name at =
@@ -66,7 +66,7 @@ is_declared t p scope name at may short =
     let q = has.fresh.quiet in
     let outside = has.here ∙ at.outside in
     record {
-      behind = r.0;
+      following = r.0;
       run_is = r.1;
       stands = record {
         no_fault = q.no_fault;
@@ -89,27 +89,27 @@ is_declared t p scope name at may short =
 
 module _ (s : State) (part : List ℕ) (p : Pipe) (items : List Item) (t : State) (c : Carries s part p items t) (open_still : p.ended ≡ false) where
   header_enters : (before : Phase) (scope : Scope) (name : List ℕ) (h : Header) (d : Declared t before scope name)
-      → Gives d.behind [] (written_header h) (item.Header d.behind.places.at (as_written h)) phase.Between written_scope (codes "stream:stream") → HasPut s part p items t (Opening h)
+      → Gives d.following [] (written_header h) (item.Header d.following.positions.at (as_written h)) phase.Between written_scope (codes "stream:stream") → HasPut s part p items t (Opening h)
   header_enters before scope name h d g =
       let bytes = written_header h in
-      let i = item.Header d.behind.places.at (as_written h) in
-      let one = with_declaration t d.behind g.behind declaration bytes i d.run_is (gives_one d.behind bytes i phase.Between written_scope (codes "stream:stream") g) in
+      let i = item.Header d.following.positions.at (as_written h) in
+      let one = with_declaration t d.following g.following declaration bytes i d.run_is (gives_one d.following bytes i phase.Between written_scope (codes "stream:stream") g) in
       record {
-        at = d.behind.places.at;
-        entered_as = one_enters s part p items t (declaration ++ bytes) i g.behind phase.Between written_scope (codes "stream:stream") c open_still one g.stands (g.same_limits ∙ d.same_limits);
+        at = d.following.positions.at;
+        entered_as = one_enters s part p items t (declaration ++ bytes) i g.following phase.Between written_scope (codes "stream:stream") c open_still one g.stands (g.same_limits ∙ d.same_limits);
       }
 
   first_header : (h : Header) → StandsOutside t phase.First [] [] → IsPlainHeader h → HeaderFits t.limits h → length declaration ≤ t.limits.bytes → HasPut s part p items t (Opening h)
   first_header h at plain fits short =
       let d = is_declared t phase.First [] [] at refl short in
-      header_enters phase.First [] [] h d (first_declared_header_is_read d.behind [] [] [] h plain (subst (λ l. HeaderFits l h) (sym d.same_limits) fits) d.stands)
+      header_enters phase.First [] [] h d (first_declared_header_is_read d.following [] [] [] h plain (subst (λ l. HeaderFits l h) (sym d.same_limits) fits) d.stands)
 
   next_header : (h : Header) → StandsOutside t phase.Between written_scope (codes "stream:stream") → IsPlainHeader h → HeaderFits t.limits h → length declaration ≤ t.limits.bytes
       → t.limits.attributes < 2 ^ 32 → t.limits.namespace_bytes < 2 ^ 32 → HasPut s part p items t (Opening h)
   next_header h at plain fits short few names =
       let d = is_declared t phase.Between written_scope (codes "stream:stream") at refl short in
       header_enters phase.Between written_scope (codes "stream:stream") h d
-      (declared_header_is_read d.behind [] written_scope (codes "stream:stream") h plain (subst (λ l. HeaderFits l h) (sym d.same_limits) fits)
+      (declared_header_is_read d.following [] written_scope (codes "stream:stream") h plain (subst (λ l. HeaderFits l h) (sym d.same_limits) fits)
       (subst (λ l. l.attributes < 2 ^ 32) (sym d.same_limits) few) (subst (λ l. l.namespace_bytes < 2 ^ 32) (sym d.same_limits) names) d.stands)
 
   between : (i : ItemOut) → StandsOutside t phase.Between written_scope (codes "stream:stream") → OutFits t.limits i → t.limits.attributes < 2 ^ 32 → t.limits.namespace_bytes < 2 ^ 32 → HasPut s part p items t i

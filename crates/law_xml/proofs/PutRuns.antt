@@ -33,10 +33,10 @@ stays_open p more open_still = rw open_still refl
 
 -- ---- where the framer stands behind an item
 
-stands_behind : (i : ItemOut) (t : State) → StandsOutside t (phase_behind i) written_scope (codes "stream:stream") → StandsAt t (phase_behind i)
-stands_behind (Opening h) t at = at
-stands_behind (Whole e) t at = at
-stands_behind Closing t at = at
+stands_after : (i : ItemOut) (t : State) → StandsOutside t (phase_behind i) written_scope (codes "stream:stream") → StandsAt t (phase_behind i)
+stands_after (Opening h) t at = at
+stands_after (Whole e) t at = at
+stands_after Closing t at = at
 
 all_fit : (l m : Limits) (more : List ItemOut) → m ≡ l → AllByRecursion (OutFits l) more → AllByRecursion (OutFits m) more
 all_fit l m more same fit = subst (λ k. AllByRecursion (OutFits k) more) (sym same) fit
@@ -61,18 +61,18 @@ all_enter (i ∷ rest) s part p items t now c open_still at may fit few names =
     let next = entered bytes p in
     let still = stays_open p bytes open_still in
     let l = has.same_limits in
-    let more = all_enter rest s part next (items ++ read_out one.at i ∷ []) has.now (phase_behind i) has.carries still (stands_behind i has.now has.stands) may.1 (all_fit t.limits has.now.limits rest l fit.1)
+    let more = all_enter rest s part next (items ++ read_out one.at i ∷ []) has.now (phase_behind i) has.carries still (stands_after i has.now has.stands) may.1 (all_fit t.limits has.now.limits rest l fit.1)
     (subst (λ k. k.attributes < 2 ^ 32) (sym l) few) (subst (λ k. k.namespace_bytes < 2 ^ 32) (sym l) names) in
-    let behind = flat_map written_item rest in
-    let whole = entered (bytes ++ behind) p in
-    let same_bytes = open_bytes next behind still ∙ ap (λ b. b ++ behind) (open_bytes p bytes open_still) ∙ append_assoc p.bytes bytes behind ∙ sym (open_bytes p (bytes ++ behind) open_still) in
-    let same_end = stays_open next behind still ∙ sym (stays_open p (bytes ++ behind) open_still) in
+    let following = flat_map written_item rest in
+    let whole = entered (bytes ++ following) p in
+    let same_bytes = open_bytes next following still ∙ ap (λ b. b ++ following) (open_bytes p bytes open_still) ∙ append_assoc p.bytes bytes following ∙ sym (open_bytes p (bytes ++ following) open_still) in
+    let same_end = stays_open next following still ∙ sym (stays_open p (bytes ++ following) open_still) in
     record {
       read = read_out one.at i ∷ more.read;
       are_read = (one.at, refl, more.are_read);
       now = more.now;
       carries = subst (λ is. Carries s part whole is more.now) (append_assoc items (read_out one.at i ∷ []) more.read)
-          (same_carries s part (entered behind next) whole _ more.now same_bytes same_end more.carries);
+          (same_carries s part (entered following next) whole _ more.now same_bytes same_end more.carries);
       stands = more.stands;
       same_limits = more.same_limits ∙ l;
     }

@@ -13,8 +13,8 @@ pub record IsQuiet (s : State) : Type 0 where
   pub no_pending : s.pending ≡ []
   pub no_quote : s.lexical.quote ≡ None
   pub not_spoiled : s.lexical.spoiled ≡ false
-  pub counted : s.places.used < 2 ^ 64
-  pub uncounted : is_some s.here ≡ false → s.places.used ≡ 0
+  pub counted : s.positions.used < 2 ^ 64
+  pub uncounted : is_some s.here ≡ false → s.positions.used ≡ 0
 
 -- a token ended, and no run of text has begun
 pub record IsFresh (s : State) : Type 0 where
@@ -23,7 +23,7 @@ pub record IsFresh (s : State) : Type 0 where
 
 -- the byte limit leaves room for these bytes: the second case is past all numbers that are counted
 abbrev pub HasRoom : State → List ℕ → Type 0
-HasRoom s bytes = (s.places.used + length bytes ≤ s.limits.bytes) ⊎ (2 ^ 64 ≤ s.limits.bytes)
+HasRoom s bytes = (s.positions.used + length bytes ≤ s.limits.bytes) ⊎ (2 ^ 64 ≤ s.limits.bytes)
 
 -- What these have in common: they differ at most in the places, the token, the character and the text in hand, and in
 -- what is known of the token.
@@ -41,8 +41,8 @@ pub record HasSaid (s t : State) (bytes says : List ℕ) : Type 0 where
   pub alike : AreAlike s t
   pub quiet : IsQuiet t
   pub chars : t.chars ≡ s.chars ++ says
-  pub used : t.places.used ≤ s.places.used + length bytes
-  pub item_at : t.places.item_at ≡ s.places.item_at
+  pub used : t.positions.used ≤ s.positions.used + length bytes
+  pub item_at : t.positions.item_at ≡ s.positions.item_at
 
 -- a whole tag is in hand: its `>` has been gathered and isn't behind yet
 pub record HasInHand (s t : State) (bytes : List ℕ) : Type 0 where
@@ -51,6 +51,6 @@ pub record HasInHand (s t : State) (bytes : List ℕ) : Type 0 where
   pub chars : t.chars ≡ s.chars
   pub token : t.token ≡ bytes
   pub no_pending : t.pending ≡ []
-  pub used : t.places.used ≤ s.places.used + length bytes
-  pub counted : t.places.used < 2 ^ 64
-  pub token_at : t.places.token_at ≡ s.places.at
+  pub used : t.positions.used ≤ s.positions.used + length bytes
+  pub counted : t.positions.used < 2 ^ 64
+  pub token_at : t.positions.token_at ≡ s.positions.at

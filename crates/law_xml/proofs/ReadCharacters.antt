@@ -6,7 +6,7 @@ use Rattle.std.proofs.lemmas.List.Folds.{list_all-append}
 use Rattle.std.specs.List.{list_all}
 use Rattle.std.specs.Option.{is_some, option_and_then}
 use Rattle.xml_tokens.proofs.Utf8Runs.{after_IsPending, runs_are_text}
-use Rattle.xml_tokens.specs.Characters.{are_characters, are_characters_behind, ends_forbidden, is_control}
+use Rattle.xml_tokens.specs.Characters.{are_characters, are_characters_after, ends_forbidden, is_control}
 use Rattle.xml_tokens.specs.Utf8.{IsPending, continues, ends_character, ends_forbidden_character, held_after, is_lead, is_nothing, is_second, is_tail, utf8_next, utf8_run}
 use Rattle.xml_tokens.specs.Lines.{IsCharacters}
 
@@ -104,7 +104,7 @@ pub record Judged (text pending : List ℕ) : Type 0 where
   pub y : ℕ
   pub ends : EndsIn x y pending
   pub runs : (rest : List ℕ) → utf8_run [] (text ++ rest) ≡ utf8_run pending rest
-  pub characters : (rest : List ℕ) → are_characters_behind 0 0 (text ++ rest) ≡ are_characters_behind x y rest
+  pub characters : (rest : List ℕ) → are_characters_after 0 0 (text ++ rest) ≡ are_characters_after x y rest
   pub begun : IsPending pending
 
 pub nothing_judged : Judged [] []
@@ -121,8 +121,8 @@ second_in_hand : (next : List ℕ) → utf8_next (239 ∷ []) 191 ≡ Some next 
 unfolding utf8_next
 second_in_hand next e = one_some next (239 ∷ 191 ∷ []) (sym e)
 
-ends_behind : (x y b : ℕ) (held next : List ℕ) → EndsIn x y held → utf8_next held b ≡ Some next → EndsIn y b next
-ends_behind x y b held next h e = record {
+ends_after : (x y b : ℕ) (held next : List ℕ) → EndsIn x y held → utf8_next held b ≡ Some next → EndsIn y b next
+ends_after x y b held next h e = record {
   one = λ is. lead_in_hand held next (ap (utf8_next held) (sym is) ∙ e);
   two = λ first is. second_in_hand next (ap (λ p. utf8_next p 191) (sym (h.one first)) ∙ (ap (utf8_next held) (sym is) ∙ e));
 }
@@ -164,9 +164,9 @@ byte_judged text held b h c asked =
     record {
       x = h.y;
       y = b;
-      ends = ends_behind h.x h.y b held (held_after held b) h.ends next;
+      ends = ends_after h.x h.y b held (held_after held b) h.ends next;
       runs = λ rest. ap (utf8_run []) (append_assoc text (b ∷ []) rest) ∙ (h.runs (b ∷ rest) ∙ ap (option_and_then (λ p. utf8_run p rest)) next);
-      characters = λ rest. ap (are_characters_behind 0 0) (append_assoc text (b ∷ []) rest) ∙ (h.characters (b ∷ rest) ∙ ap (λ t. not t && are_characters_behind h.y b rest) (allowed h.x h.y b held h.ends c asked));
+      characters = λ rest. ap (are_characters_after 0 0) (append_assoc text (b ∷ []) rest) ∙ (h.characters (b ∷ rest) ∙ ap (λ t. not t && are_characters_after h.y b rest) (allowed h.x h.y b held h.ends c asked));
       begun = after_IsPending held b h.begun;
     }
 
@@ -194,5 +194,5 @@ pub judged_characters : (text : List ℕ) → Judged text [] → IsCharacters te
 unfolding are_characters
 judged_characters text h = record {
   utf8 = runs_are_text [] text tt (ap (utf8_run []) (sym (append-nil text)) ∙ h.runs []);
-  characters = ap (are_characters_behind 0 0) (sym (append-nil text)) ∙ h.characters [];
+  characters = ap (are_characters_after 0 0) (sym (append-nil text)) ∙ h.characters [];
 }

@@ -26,7 +26,7 @@ use Rattle.xml_framer.specs.Machine.{taken_in}
 use Rattle.xml_framer.specs.MarkupSteps.{in_bang, section_opened}
 use Rattle.law_xml.proofs.WithinParts.{AreShallow, IsCounted, SpellsIn, StreamIn, counted_length, counted_more, depth_more, depth_text, shallow_own, shallow_with}
 use Rattle.xml_framer.specs.declared.limits.Limits.{Limits}
-use Rattle.xml_framer.specs.States.{OpenElement, State, Turn, fails, gathered, gathered_in, next_place, token_begun, token_ended, token_fails, turn, with_more, with_text}
+use Rattle.xml_framer.specs.States.{OpenElement, State, Turn, fails, gathered, gathered_in, next_position, token_begun, token_ended, token_fails, turn, with_more, with_text}
 use Rattle.law_xml.specs.Streams.{with_element}
 use Rattle.xml_framer.specs.TagSteps.{added_to, begun, closed, element_from, ends, first_of, in_opening, in_tag, is_spelled, is_too_deep, joined_text, leaf, level, outer_scopes, rest_of, scope_in, starts, tag_closes, tag_gathered, tag_here, tag_inside, tag_limits, unlimited}
 use Rattle.law_xml.specs.Texts.{IsText}
@@ -79,25 +79,25 @@ top_more o more [] h = λ n. let same = same_name o.element more in h (sym same.
 top_more o more (p ∷ ps) h = h
 
 -- a byte and what it finds
-module _ (given : Limits) (s : State) (o : OpenElement) (items : List Item) (b : ℕ) (bytes hand : List ℕ) (used : ℕ) (k : Kept given s.places.at s.lexical.spent s.limits bytes) (c : continues s.pending b ≡ true)
-    (room : s.limits.bytes < 2 ^ 64 → 0 < used → (used + 1 ≤ s.limits.bytes) × (s.places.used ≡ used + 1)) (a : Around s.limits used s.lexical.phase s.scopes s.name s.below o items bytes hand) where
+module _ (given : Limits) (s : State) (o : OpenElement) (items : List Item) (b : ℕ) (bytes hand : List ℕ) (used : ℕ) (k : Kept given s.positions.at s.lexical.spent s.limits bytes) (c : continues s.pending b ≡ true)
+    (room : s.limits.bytes < 2 ^ 64 → 0 < used → (used + 1 ≤ s.limits.bytes) × (s.positions.used ≡ used + 1)) (a : Around s.limits used s.lexical.phase s.scopes s.name s.below o items bytes hand) where
   abbrev P : State → Type 0
   P r = After given b bytes (turn r items)
 
   abbrev Q : Turn → Type 0
   Q = After given b bytes
 
-  on : Kept given (next_place s.places.at) s.lexical.spent s.limits (bytes ++ b ∷ [])
-  on = kept_on given s.places.at s.lexical.spent s.limits bytes b k
+  on : Kept given (next_position s.positions.at) s.lexical.spent s.limits (bytes ++ b ∷ [])
+  on = kept_on given s.positions.at s.lexical.spent s.limits bytes b k
 
-  counts : s.limits.bytes < 2 ^ 64 → s.places.used ≡ used + 1
+  counts : s.limits.bytes < 2 ^ 64 → s.positions.used ≡ used + 1
   counts few = (room few (a.count few).0).1
 
-  fits : s.limits.bytes < 2 ^ 64 → s.places.used ≤ s.limits.bytes
+  fits : s.limits.bytes < 2 ^ 64 → s.positions.used ≤ s.limits.bytes
   fits few = let r = room few (a.count few).0 in let most = r.0 in let is = r.1 in omega (arith, most, is)
 
-  around : Around s.limits s.places.used s.lexical.phase s.scopes s.name s.below o items (bytes ++ b ∷ []) (hand ++ b ∷ [])
-  around = around_more s.limits used s.places.used s.lexical.phase s.scopes s.name s.below o items bytes hand b counts fits a
+  around : Around s.limits s.positions.used s.lexical.phase s.scopes s.name s.below o items (bytes ++ b ∷ []) (hand ++ b ∷ [])
+  around = around_more s.limits used s.positions.used s.lexical.phase s.scopes s.name s.below o items bytes hand b counts fits a
 
   failed : (r : State) (at : ℕ) (w : Why) → P (fails r at w)
   failed r at w none = absurd (no_fault (record { at = at; why = w }) none)
@@ -110,7 +110,7 @@ module _ (given : Limits) (s : State) (o : OpenElement) (items : List Item) (b :
 
   -- the same where one has, and this is known of it
   abbrev running : Bool → ℕ → ℕ → State
-  running r n at = record (inner s o mode.Text) { places = record s.places { token_at = at }; lexical = record s.lexical { mode = mode.Text; in_run = true; returned = r; brackets = n } }
+  running r n at = record (inner s o mode.Text) { positions = record s.positions { token_at = at }; lexical = record s.lexical { mode = mode.Text; in_run = true; returned = r; brackets = n } }
 
   character_case : (r : Bool) (n at : ℕ) → s.token ≡ [] → TextIn hand s.pending s.chars true r n → (b == 60 || b == 38) ≡ false → P (if ends_character s.pending b then judged_text (running r n at) b else running r n at)
   character_case r n at none h mark =
@@ -124,10 +124,10 @@ module _ (given : Limits) (s : State) (o : OpenElement) (items : List Item) (b :
   marks true none h ended = mark_begun hand s.pending s.chars s.lexical.returned s.lexical.brackets b h ended
   marks false none h ended = mark_begun hand s.pending s.chars false 0 b (record { whole = h.whole; hand_is = h.hand_is; judged = h.judged; seen = h.seen }) ended
 
-  behind_text : (run : Bool) → s.token ≡ [] → TextIn hand s.pending s.chars run s.lexical.returned s.lexical.brackets → (b == 60 || b == 38) ≡ false → P (text_inside (in_text_run run) b)
+  after_text : (run : Bool) → s.token ≡ [] → TextIn hand s.pending s.chars run s.lexical.returned s.lexical.brackets → (b == 60 || b == 38) ≡ false → P (text_inside (in_text_run run) b)
   unfolding text_inside
-  behind_text true none h mark = character_case s.lexical.returned s.lexical.brackets s.places.token_at none h mark
-  behind_text false none h mark = character_case false 0 s.places.at none (record { whole = h.whole; hand_is = h.hand_is; judged = h.judged; seen = h.seen }) mark
+  after_text true none h mark = character_case s.lexical.returned s.lexical.brackets s.positions.token_at none h mark
+  after_text false none h mark = character_case false 0 s.positions.at none (record { whole = h.whole; hand_is = h.hand_is; judged = h.judged; seen = h.seen }) mark
 
   inside_text : (run : Bool) → s.token ≡ [] → TextIn hand s.pending s.chars run s.lexical.returned s.lexical.brackets → P (in_text (in_text_run run) b)
   unfolding in_text inside
@@ -145,7 +145,7 @@ module _ (given : Limits) (s : State) (o : OpenElement) (items : List Item) (b :
       let one : b ∷ [] ≡ 38 ∷ s.token = ap (λ d. d ∷ []) is ∙ ap (λ t. 38 ∷ t) (sym none) in
       let mark = marks run none h (ascii_alone s.pending b (omega (arith, is)) c).0 in
       record { kept = on; hand = (hand ++ b ∷ [], around, subst (MarkIn (hand ++ b ∷ []) s.chars) one mark) })
-      (λ f. behind_text run none h (or_from _ _ e f)))
+      (λ f. after_text run none h (or_from _ _ e f)))
 
   -- ---- a reference
 
@@ -241,8 +241,8 @@ module _ (given : Limits) (s : State) (o : OpenElement) (items : List Item) (b :
     next_level : is_too_deep (full m) ≡ false → length s.below + 1 + 1 ≤ s.limits.depth
     next_level near = ltb-false s.limits.depth (length s.below + 1 + 1) near
 
-    count_on : s.limits.bytes < 2 ^ 64 → IsCounted s.places.used a.done (bytes ++ b ∷ [])
-    count_on few = counted_more used s.places.used a.done bytes b (counts few) (a.count few)
+    count_on : s.limits.bytes < 2 ^ 64 → IsCounted s.positions.used a.done (bytes ++ b ∷ [])
+    count_on few = counted_more used s.positions.used a.done bytes b (counts few) (a.count few)
 
     texted_shallow : AreShallow s.limits.depth texted s.below
     texted_shallow =
@@ -349,7 +349,7 @@ module _ (given : Limits) (s : State) (o : OpenElement) (items : List Item) (b :
         let at_base = subst (λ l. SpellsIn s.limits (scope_in l) last closing) down.0 spelled in
         let all = bytes_are ∙ ap (λ l. a.done ++ (l ++ last)) down.1 in
         let short : s.limits.bytes < 2 ^ 64 → length last ≤ s.limits.bytes =
-        λ few. let long = counted_length s.places.used a.done (bytes ++ b ∷ []) last (count_on few) all in let fits = (room few (a.count few).0).0 in let is = counts few in omega (arith, long, fits, is) in
+        λ few. let long = counted_length s.positions.used a.done (bytes ++ b ∷ []) last (count_on few) all in let fits = (room few (a.count few).0).0 in let is = counts few in omega (arith, long, fits, is) in
         let made : StreamIn s.limits (in_force phase.Between a.base s.name) (bytes ++ b ∷ []) (items ++ item.Element (tidied closing) ∷ []) = (
           with_element (in_force phase.Between a.base s.name) (bytes ++ b ∷ []) _ a.done last items closing a.stream.0 refl (record { spelled = at_base.0; no_header = top }) all
               (ap (λ x. items ++ item.Element x ∷ []) (spelled_stays (scope_in a.rest) last closing spelled.0)),
@@ -367,7 +367,7 @@ module _ (given : Limits) (s : State) (o : OpenElement) (items : List Item) (b :
         shallow_with s.limits.depth p (with_more p (child closing no_nodes)) ps both.1 (rw deeper (omega (arith, own, inner_one)))
 
     resumed : (p : OpenElement) (ps : List OpenElement) → s.below ≡ p ∷ ps → (rest : List Scope) → a.rest ≡ rest → AreCovered s.limits a.base rest (p ∷ ps) a.outer → SpellsIn s.limits (scope_in rest) (a.level ++ (h.text ++ whole)) closing
-        → Around s.limits s.places.used s.lexical.phase (outer_scopes s.scopes) s.name ps (with_more p (child closing no_nodes)) items (bytes ++ b ∷ []) []
+        → Around s.limits s.positions.used s.lexical.phase (outer_scopes s.scopes) s.name ps (with_more p (child closing no_nodes)) items (bytes ++ b ∷ []) []
     resumed p ps low [] is down spelled = absurd down
     resumed p ps low (own ∷ rest) is down spelled =
         let last = a.level ++ (h.text ++ whole) in

@@ -31,7 +31,7 @@ use Rattle.xml_writer.specs.Canon.{streams_namespace}
 use Rattle.xml_framer.specs.Machine.{shows_unlimited, taken_in}
 use Rattle.xml_framer.specs.MarkupSteps.{declared_phase, declares, ends_in_question, in_bang, in_declaration, in_phase, in_question, section_opened}
 use Rattle.law_xml.specs.Spells.{IsHeaderName, SpellsEmptyHeader, SpellsHeader}
-use Rattle.xml_framer.specs.States.{OpenElement, State, Turn, admits_declaration, fails, gathered, gathered_in, gives, in_run, item_ended, may_declare, next_place, run_begun, token_fails, turn}
+use Rattle.xml_framer.specs.States.{OpenElement, State, Turn, admits_declaration, fails, gathered, gathered_in, gives, in_run, item_ended, may_declare, next_position, run_begun, token_fails, turn}
 use Rattle.law_xml.proofs.WithinParts.{AreShallow, StreamIn, counted_length, counted_more}
 use Rattle.law_xml.specs.StreamLimits.{IsEmptyHeaderInWithin, IsHeaderInWithin}
 use Rattle.law_xml.specs.Within.{IsHeadWithin}
@@ -59,14 +59,14 @@ grown_some (x ∷ xs) b e = absurd cc
 white_low : (b : ℕ) → is_white b ≡ true → b < 128
 white_low b h = grind (arith, nat_tests)
 
-token_more : (limits : Limits) (used next : ℕ) (now : InForce) (items : List Item) (bytes token : List ℕ) (place b : ℕ) → (limits.bytes < 2 ^ 64 → 0 < used → next ≡ used + 1) → TokenIn limits used now items bytes token place
-    → TokenIn limits next now items (bytes ++ b ∷ []) (token ++ b ∷ []) place
-token_more limits used next now items bytes token place b is h = record {
+token_more : (limits : Limits) (used next : ℕ) (now : InForce) (items : List Item) (bytes token : List ℕ) (position b : ℕ) → (limits.bytes < 2 ^ 64 → 0 < used → next ≡ used + 1) → TokenIn limits used now items bytes token position
+    → TokenIn limits next now items (bytes ++ b ∷ []) (token ++ b ∷ []) position
+token_more limits used next now items bytes token position b is h = record {
   done = h.done;
   stream = h.stream;
   count = λ few. counted_more used next h.done bytes b (is few (h.count few).0) (h.count few);
   bytes_are = ap (λ l. l ++ b ∷ []) h.bytes_are ∙ append_assoc h.done token (b ∷ []);
-  place_is = h.place_is;
+  position_is = h.position_is;
 }
 
 is_declared : (p : Phase) → admits_declaration p ≡ true → IsDeclared p (declared_phase p)
@@ -142,16 +142,16 @@ abbrev pub outer : State → Mode → State
 outer s m = record s { here = None; lexical = record s.lexical { mode = m } }
 
 -- a byte and what it finds
-module _ (given : Limits) (s : State) (items : List Item) (b : ℕ) (bytes : List ℕ) (used : ℕ) (k : Kept given s.places.at s.lexical.spent s.limits bytes) (c : continues s.pending b ≡ true)
-    (idle : used ≡ 0 → s.places.used ≡ 0) (low : s.below ≡ []) where
+module _ (given : Limits) (s : State) (items : List Item) (b : ℕ) (bytes : List ℕ) (used : ℕ) (k : Kept given s.positions.at s.lexical.spent s.limits bytes) (c : continues s.pending b ≡ true)
+    (idle : used ≡ 0 → s.positions.used ≡ 0) (low : s.below ≡ []) where
   abbrev now : InForce
   now = in_force s.lexical.phase s.scopes s.name
 
   abbrev P : State → Type 0
   P r = After given b bytes (turn r items)
 
-  on : Kept given (next_place s.places.at) s.lexical.spent s.limits (bytes ++ b ∷ [])
-  on = kept_on given s.places.at s.lexical.spent s.limits bytes b k
+  on : Kept given (next_position s.positions.at) s.lexical.spent s.limits (bytes ++ b ∷ [])
+  on = kept_on given s.positions.at s.lexical.spent s.limits bytes b k
 
   failed : (r : State) (gave : List Item) (at : ℕ) (w : Why) → After given b bytes (turn (fails r at w) gave)
   failed r gave at w none = absurd (no_fault (record { at = at; why = w }) none)
@@ -163,18 +163,18 @@ module _ (given : Limits) (s : State) (items : List Item) (b : ℕ) (bytes : Lis
 
   -- there is room for the byte
   abbrev Room : Type 0
-  Room = s.limits.bytes < 2 ^ 64 → 0 < used → (used + 1 ≤ s.limits.bytes) × (s.places.used ≡ used + 1)
+  Room = s.limits.bytes < 2 ^ 64 → 0 < used → (used + 1 ≤ s.limits.bytes) × (s.positions.used ≡ used + 1)
 
   abbrev HasToken : Type 0
-  HasToken = TokenIn s.limits used now items bytes s.token s.places.token_at
+  HasToken = TokenIn s.limits used now items bytes s.token s.positions.token_at
 
-  grows : Room → HasToken → TokenIn s.limits s.places.used now items (bytes ++ b ∷ []) (s.token ++ b ∷ []) s.places.token_at
-  grows room h = token_more s.limits used s.places.used now items bytes s.token s.places.token_at b (λ few p. (room few p).1) h
+  grows : Room → HasToken → TokenIn s.limits s.positions.used now items (bytes ++ b ∷ []) (s.token ++ b ∷ []) s.positions.token_at
+  grows room h = token_more s.limits used s.positions.used now items bytes s.token s.positions.token_at b (λ few p. (room few p).1) h
 
   whole_short : Room → HasToken → s.limits.bytes < 2 ^ 64 → length (s.token ++ b ∷ []) ≤ s.limits.bytes
   whole_short room h few =
       let more = grows room h in
-      let n = counted_length s.places.used more.done (bytes ++ b ∷ []) (s.token ++ b ∷ []) (more.count few) more.bytes_are in
+      let n = counted_length s.positions.used more.done (bytes ++ b ∷ []) (s.token ++ b ∷ []) (more.count few) more.bytes_are in
       let r = room few (h.count few).0 in
       let fits = r.0 in
       let is = r.1 in omega (arith, n, fits, is)
@@ -191,8 +191,8 @@ module _ (given : Limits) (s : State) (items : List Item) (b : ℕ) (bytes : Lis
       (λ i. cond_both (is_white b) r (token_fails r why.NotWellFormed) P (λ w none. record { kept = on; hand = (low, (h.0, idle h.1, λ p. white_hand h.2 w)) }) (λ w. failed r items _ _))
       (λ i. cond_both (is_white b) (run_begun r) (token_fails (run_begun r) why.NotWellFormed) P (λ w none. record { kept = on; hand = (low, (h.0, idle h.1, λ p. white_hand h.2 w)) }) (λ w. failed (run_begun r) items _ _)))
       (λ e. cond_both s.lexical.in_run r (run_begun r) (λ u. P (character_begun u))
-      (λ i. cond_both (is_empty s.pending) (record r { places = record r.places { item_at = r.places.at } }) r P (λ w none. record { kept = on; hand = (low, (h.0, idle h.1, λ p. absurd (grown e p))) }) (λ w none. record { kept = on; hand = (low, (h.0, idle h.1, λ p. absurd (grown e p))) }))
-      (λ i. cond_both (is_empty s.pending) (record (run_begun r) { places = record (run_begun r).places { item_at = r.places.at } }) (run_begun r) P (λ w none. record { kept = on; hand = (low, (h.0, idle h.1, λ p. absurd (grown e p))) }) (λ w none. record { kept = on; hand = (low, (h.0, idle h.1, λ p. absurd (grown e p))) })))
+      (λ i. cond_both (is_empty s.pending) (record r { positions = record r.positions { item_at = r.positions.at } }) r P (λ w none. record { kept = on; hand = (low, (h.0, idle h.1, λ p. absurd (grown e p))) }) (λ w none. record { kept = on; hand = (low, (h.0, idle h.1, λ p. absurd (grown e p))) }))
+      (λ i. cond_both (is_empty s.pending) (record (run_begun r) { positions = record (run_begun r).positions { item_at = r.positions.at } }) (run_begun r) P (λ w none. record { kept = on; hand = (low, (h.0, idle h.1, λ p. absurd (grown e p))) }) (λ w none. record { kept = on; hand = (low, (h.0, idle h.1, λ p. absurd (grown e p))) })))
 
   markup_case : Outside mode.Text (outer s mode.Text) used items bytes → (b == 60) ≡ true → P (markup_begun (outer s mode.Text))
   markup_case h e none =
@@ -208,7 +208,7 @@ module _ (given : Limits) (s : State) (items : List Item) (b : ℕ) (bytes : Lis
               stream = h.2 (ascii_alone s.pending b (omega (arith, is)) c).0;
               count = λ few. (omega arith, let n = length-append bytes (b ∷ []) in omega (arith, n));
               bytes_are = ap (λ l. bytes ++ l) (ap (λ d. d ∷ []) is ∙ ap (λ t. t ++ 60 ∷ []) (sym h.0));
-              place_is = k.at_is;
+              position_is = k.at_is;
             },
           ),
         );
@@ -218,8 +218,8 @@ module _ (given : Limits) (s : State) (items : List Item) (b : ℕ) (bytes : Lis
   unfolding in_text between
   outside_text h =
       let r = outer s mode.Text in
-      cond_both (b == 60) (markup_begun r) (if b == 38 then fails r r.places.at why.NotWellFormed else text_outside r b) P (λ e. markup_case h e)
-      (λ e. cond_both (b == 38) (fails r r.places.at why.NotWellFormed) (text_outside r b) P (λ f. failed r items _ _) (λ f. text_case h))
+      cond_both (b == 60) (markup_begun r) (if b == 38 then fails r r.positions.at why.NotWellFormed else text_outside r b) P (λ e. markup_case h e)
+      (λ e. cond_both (b == 38) (fails r r.positions.at why.NotWellFormed) (text_outside r b) P (λ f. failed r items _ _) (λ f. text_case h))
 
   -- ---- declarations
 
@@ -349,7 +349,7 @@ module _ (given : Limits) (s : State) (items : List Item) (b : ℕ) (bytes : Lis
   abbrev Q : Turn → Type 0
   Q = After given b bytes
 
-  module _ (m : Mode) (h : TokenIn s.limits s.places.used now items (bytes ++ b ∷ []) (s.token ++ b ∷ []) s.places.token_at) (short : s.limits.bytes < 2 ^ 64 → length (s.token ++ b ∷ []) ≤ s.limits.bytes) where
+  module _ (m : Mode) (h : TokenIn s.limits s.positions.used now items (bytes ++ b ∷ []) (s.token ++ b ∷ []) s.positions.token_at) (short : s.limits.bytes < 2 ^ 64 → length (s.token ++ b ∷ []) ≤ s.limits.bytes) where
     -- what the tag of a header has to spell
     abbrev Heads : Tag → Type 0
     Heads t =
@@ -359,14 +359,14 @@ module _ (given : Limits) (s : State) (items : List Item) (b : ℕ) (bytes : Lis
         × (s.limits.bytes < 2 ^ 64 → IsEmptyHeaderInWithin s.limits s.lexical.phase (scope_in s.scopes) whole t.spelled (t.bindings ++ []) (header_of t) x))
 
     headed_at : (t : Tag) → Heads t → (empty : Bool) → t.empty ≡ empty
-        → Q (turn (in_phase (item_ended (record (full m) { scopes = t.bindings ∷ []; name = t.spelled })) (phase_behind empty)) (items ++ header_items s.places.token_at (header_of t) empty))
+        → Q (turn (in_phase (item_ended (record (full m) { scopes = t.bindings ∷ []; name = t.spelled })) (phase_behind empty)) (items ++ header_items s.positions.token_at (header_of t) empty))
     headed_at t heads false e none = record {
       kept = on;
-      hand = (low, (refl, refl, λ p. (headed (in_force phase.Between (t.bindings ∷ []) t.spelled) (bytes ++ b ∷ []) _ now h.done whole items (header_of t) h.stream.0 (heads.0 e).0 refl h.bytes_are (ap (λ at. items ++ item.Header at (header_of t) ∷ []) h.place_is), λ few. (h.stream.1 few, (heads.0 e).1 few))));
+      hand = (low, (refl, refl, λ p. (headed (in_force phase.Between (t.bindings ∷ []) t.spelled) (bytes ++ b ∷ []) _ now h.done whole items (header_of t) h.stream.0 (heads.0 e).0 refl h.bytes_are (ap (λ at. items ++ item.Header at (header_of t) ∷ []) h.position_is), λ few. (h.stream.1 few, (heads.0 e).1 few))));
     }
     headed_at t heads true e none = record {
       kept = on;
-      hand = (low, (refl, refl, λ p. (headed_and_ended (in_force phase.Ended (t.bindings ∷ []) t.spelled) (bytes ++ b ∷ []) _ now h.done whole items (header_of t) h.stream.0 (heads.1 e).0 refl h.bytes_are (ap (λ at. items ++ item.Header at (header_of t) ∷ item.Footer ∷ []) h.place_is), λ few. (h.stream.1 few, (heads.1 e).1 few))));
+      hand = (low, (refl, refl, λ p. (headed_and_ended (in_force phase.Ended (t.bindings ∷ []) t.spelled) (bytes ++ b ∷ []) _ now h.done whole items (header_of t) h.stream.0 (heads.1 e).0 refl h.bytes_are (ap (λ at. items ++ item.Header at (header_of t) ∷ item.Footer ∷ []) h.position_is), λ few. (h.stream.1 few, (heads.1 e).1 few))));
     }
 
     heads_at : ((t : Tag) → tag_anew (full m) ≡ Ok t → Heads t) → (r : Result Tag StartWhy) → tag_anew (full m) ≡ r → Q (heads (turn (full m) items) r)
@@ -412,8 +412,8 @@ module _ (given : Limits) (s : State) (items : List Item) (b : ℕ) (bytes : Lis
 
     -- ---- an element begins
 
-    hand_behind : (b == 62) ≡ true → Judged [] (held_after s.pending b)
-    hand_behind e = let is = eqb-true b 62 e in subst (Judged []) (sym (ascii_alone s.pending b (omega (arith, is)) c).1) nothing_judged
+    hand_after : (b == 62) ≡ true → Judged [] (held_after s.pending b)
+    hand_after e = let is = eqb-true b 62 e in subst (Judged []) (sym (ascii_alone s.pending b (omega (arith, is)) c).1) nothing_judged
 
     not_named : (t : Tag) → tag_here (full m) ≡ Ok t → is_header (full m) ≡ false → ¬ (IsHeaderName t.ns t.name)
     unfolding is_header
@@ -471,13 +471,13 @@ module _ (given : Limits) (s : State) (items : List Item) (b : ℕ) (bytes : Lis
                 level = whole;
                 stream = subst (λ p. StreamIn s.limits (in_force p s.scopes s.name) h.done items) between h.stream;
                 count = h.count;
-                fits = λ few. let n = counted_length s.places.used h.done (bytes ++ b ∷ []) (s.token ++ b ∷ []) (h.count few) h.bytes_are in let most = short few in omega (arith, n, most);
+                fits = λ few. let n = counted_length s.positions.used h.done (bytes ++ b ∷ []) (s.token ++ b ∷ []) (h.count few) h.bytes_are in let most = short few in omega (arith, n, most);
                 shallow = subst (AreShallow s.limits.depth o) (sym low) (shallow near);
                 covered = subst (λ l. AreCovered s.limits s.scopes s.scopes l []) (sym low) (refl, refl);
                 open_level = level_begun s.limits (scope_in s.scopes) whole w.0 t w.1 w.2 n;
                 bytes_are = h.bytes_are ∙ ap (λ l. h.done ++ l) (sym (append-nil whole));
               },
-              (refl, record { whole = []; hand_is = sym (ascii_alone s.pending b (let l = eqb-true b 62 e in omega (arith, l)) c).1; judged = hand_behind e; seen = front_seen [] [] no_front }),
+              (refl, record { whole = []; hand_is = sym (ascii_alone s.pending b (let l = eqb-true b 62 e in omega (arith, l)) c).1; judged = hand_after e; seen = front_seen [] [] no_front }),
             );
           }
 
@@ -528,7 +528,7 @@ module _ (given : Limits) (s : State) (items : List Item) (b : ℕ) (bytes : Lis
       slash true h = absurd (true≢false h)
       slash false h = refl
 
-  outside_opening : (s.limits.bytes < 2 ^ 64 → 0 < used → shows_unlimited (outer s mode.Opening) b ≡ false → (used + 1 ≤ s.limits.bytes) × (s.places.used ≡ used + 1)) → Outside mode.Opening (outer s mode.Opening) used items bytes → After given b bytes (in_opening (turn (outer s mode.Opening) items) b)
+  outside_opening : (s.limits.bytes < 2 ^ 64 → 0 < used → shows_unlimited (outer s mode.Opening) b ≡ false → (used + 1 ≤ s.limits.bytes) × (s.positions.used ≡ used + 1)) → Outside mode.Opening (outer s mode.Opening) used items bytes → After given b bytes (in_opening (turn (outer s mode.Opening) items) b)
   unfolding in_opening
   outside_opening room (alone, h) =
       let r = outer s mode.Opening in
@@ -542,7 +542,7 @@ module _ (given : Limits) (s : State) (items : List Item) (b : ℕ) (bytes : Lis
       (λ f. cond_both (b == 47 && true) footer (in_tag (turn r items) b) Q (λ g none. record { kept = on; hand = (low, (refl, λ n. outside_footer_begun h)) }) (λ g. tag_case mode.Opening (λ few p. room few p (begins_tag e f g)) (begins_with s.token b alone g) h)))
 
   -- a byte outside elements
-  pub outside_byte : (m : Mode) → (s.limits.bytes < 2 ^ 64 → 0 < used → shows_unlimited (outer s m) b ≡ false → (used + 1 ≤ s.limits.bytes) × (s.places.used ≡ used + 1)) → Outside m (outer s m) used items bytes → After given b bytes (taken_in m (turn (outer s m) items) b)
+  pub outside_byte : (m : Mode) → (s.limits.bytes < 2 ^ 64 → 0 < used → shows_unlimited (outer s m) b ≡ false → (used + 1 ≤ s.limits.bytes) × (s.positions.used ≡ used + 1)) → Outside m (outer s m) used items bytes → After given b bytes (taken_in m (turn (outer s m) items) b)
   outside_byte mode.Text room h = outside_text h
   outside_byte mode.Reference room h = absurd h
   outside_byte mode.Opening room h = outside_opening room h

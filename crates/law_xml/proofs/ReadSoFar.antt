@@ -7,9 +7,9 @@ use Rattle.law_xml.proofs.TextFronts.{Gathered, Seen}
 use Rattle.law_xml.proofs.ReadCharacters.{Judged}
 use Rattle.xml_framer.specs.Machine.{behind_byte}
 use Rattle.law_xml.specs.Spells.{IsHeaderName}
-use Rattle.xml_framer.specs.States.{OpenElement, State, Turn, admits_declaration, next_place}
+use Rattle.xml_framer.specs.States.{OpenElement, State, Turn, admits_declaration, next_position}
 use Rattle.law_xml.proofs.WithinParts.{AreShallow, IsCounted, StreamIn}
-use Rattle.law_xml.specs.Streams.{InForce, place_of}
+use Rattle.law_xml.specs.Streams.{InForce, position_of}
 use Rattle.xml_framer.specs.TagSteps.{scope_in}
 use Rattle.xml_tokens.specs.Lines.{line_ends}
 use Rattle.xml_framer.specs.TextSteps.{kept_back}
@@ -28,12 +28,12 @@ in_force p scopes name = record { phase = p; scope = scope_in scopes; name = nam
 -- ---- outside elements
 
 -- a token is in hand, behind the stream so far
-pub record TokenIn (limits : Limits) (used : ℕ) (now : InForce) (items : List Item) (bytes token : List ℕ) (place : ℕ) : Type 0 where
+pub record TokenIn (limits : Limits) (used : ℕ) (now : InForce) (items : List Item) (bytes token : List ℕ) (position : ℕ) : Type 0 where
   pub done : List ℕ
   pub stream : StreamIn limits now done items
   pub count : limits.bytes < 2 ^ 64 → IsCounted used done bytes
   pub bytes_are : bytes ≡ done ++ token
-  pub place_is : place ≡ place_of (length done)
+  pub position_is : position ≡ position_of (length done)
 
 -- an end tag is in hand, of which white space behind the name is not kept
 pub record FooterIn (limits : Limits) (now : InForce) (items : List Item) (bytes token : List ℕ) : Type 0 where
@@ -51,11 +51,11 @@ BeginsNoEnd token = (2 ≤ length token) × (is_end token ≡ false)
 abbrev pub Outside : Mode → State → ℕ → List Item → List ℕ → Type 0
 Outside mode.Text s used items bytes = (s.token ≡ []) × (used ≡ 0) × (s.pending ≡ [] → StreamIn s.limits (in_force s.lexical.phase s.scopes s.name) bytes items)
 Outside mode.Reference s used items bytes = ⊥
-Outside mode.Opening s used items bytes = (s.token ≡ 60 ∷ []) × TokenIn s.limits used (in_force s.lexical.phase s.scopes s.name) items bytes s.token s.places.token_at
+Outside mode.Opening s used items bytes = (s.token ≡ 60 ∷ []) × TokenIn s.limits used (in_force s.lexical.phase s.scopes s.name) items bytes s.token s.positions.token_at
 Outside mode.Bang s used items bytes = used ≡ 0
-Outside mode.Question s used items bytes = (admits_declaration s.lexical.phase ≡ true) × TokenIn s.limits used (in_force s.lexical.phase s.scopes s.name) items bytes s.token s.places.token_at
-Outside mode.Declaration s used items bytes = (admits_declaration s.lexical.phase ≡ true) × TokenIn s.limits used (in_force s.lexical.phase s.scopes s.name) items bytes s.token s.places.token_at
-Outside mode.Tag s used items bytes = BeginsNoEnd s.token × TokenIn s.limits used (in_force s.lexical.phase s.scopes s.name) items bytes s.token s.places.token_at
+Outside mode.Question s used items bytes = (admits_declaration s.lexical.phase ≡ true) × TokenIn s.limits used (in_force s.lexical.phase s.scopes s.name) items bytes s.token s.positions.token_at
+Outside mode.Declaration s used items bytes = (admits_declaration s.lexical.phase ≡ true) × TokenIn s.limits used (in_force s.lexical.phase s.scopes s.name) items bytes s.token s.positions.token_at
+Outside mode.Tag s used items bytes = BeginsNoEnd s.token × TokenIn s.limits used (in_force s.lexical.phase s.scopes s.name) items bytes s.token s.positions.token_at
 Outside mode.Footer s used items bytes = (used ≡ 0) × (s.lexical.spoiled ≡ false → FooterIn s.limits (in_force s.lexical.phase s.scopes s.name) items bytes s.token)
 Outside mode.Section s used items bytes = ⊥
 
@@ -148,15 +148,15 @@ Hand (Some o) m s used items bytes = (hand : List ℕ) × Around s.limits used s
 
 -- the place of the next byte, and what no byte changes
 pub record Kept (given : Limits) (at : ℕ) (spent : Bool) (limits : Limits) (bytes : List ℕ) : Type 0 where
-  pub at_is : at ≡ place_of (length bytes)
+  pub at_is : at ≡ position_of (length bytes)
   pub not_spent : spent ≡ false
   pub limits_are : limits ≡ given
   pub few_attributes : limits.attributes < 2 ^ 32
   pub short_namespaces : limits.namespace_bytes < 2 ^ 32
 
 pub record Read (given : Limits) (t : Turn) (bytes : List ℕ) : Type 0 where
-  pub kept : Kept given t.state.places.at t.state.lexical.spent t.state.limits bytes
-  pub hand : Hand t.state.here t.state.lexical.mode t.state t.state.places.used t.items bytes
+  pub kept : Kept given t.state.positions.at t.state.lexical.spent t.state.limits bytes
+  pub hand : Hand t.state.here t.state.lexical.mode t.state t.state.positions.used t.items bytes
 
 -- what is so behind bytes, unless there is a fault
 abbrev pub Explained : Limits → Turn → List ℕ → Type 0
@@ -166,7 +166,7 @@ Explained given t bytes = t.state.fault ≡ None → Read given t bytes
 abbrev pub After : Limits → ℕ → List ℕ → Turn → Type 0
 After given b bytes u = Explained given (behind_byte u b) (bytes ++ b ∷ [])
 
-pub kept_on : (given : Limits) (at : ℕ) (spent : Bool) (limits : Limits) (bytes : List ℕ) (b : ℕ) → Kept given at spent limits bytes → Kept given (next_place at) spent limits (bytes ++ b ∷ [])
+pub kept_on : (given : Limits) (at : ℕ) (spent : Bool) (limits : Limits) (bytes : List ℕ) (b : ℕ) → Kept given at spent limits bytes → Kept given (next_position at) spent limits (bytes ++ b ∷ [])
 kept_on given at spent limits bytes b k = record {
   at_is = let h = k.at_is in let n = length-append bytes (b ∷ []) in (rw n (omega (arith, h)));
   not_spent = k.not_spent;

@@ -10,7 +10,7 @@ use Rattle.law_xml.proofs.ReadInside.{inside_byte}
 use Rattle.law_xml.proofs.ReadOutside.{outside_byte}
 use Rattle.law_xml.proofs.ReadSoFar.{After, Explained, Hand, Kept, Read, in_force}
 use Rattle.xml_framer.specs.Machine.{behind_byte, goes_on, is_too_long, part_of, run, shows_unlimited, step, taken, taken_in}
-use Rattle.xml_framer.specs.States.{OpenElement, State, Turn, counted, fails, from_start, is_opening, is_text, moved, next_place, token_place, turn}
+use Rattle.xml_framer.specs.States.{OpenElement, State, Turn, counted, fails, from_start, is_opening, is_text, moved, next_position, token_position, turn}
 use Rattle.law_xml.proofs.WithinParts.{StreamIn}
 use Rattle.law_xml.specs.StreamLimits.{IsStreamWithin}
 use Rattle.law_xml.specs.Streams.{InForce, IsStream, StreamTo, nothing}
@@ -37,9 +37,9 @@ none_shown false = refl
 
 -- there is room for the byte, which is counted
 abbrev HasRoom : State → ℕ → ℕ → Type 0
-HasRoom s used b = s.limits.bytes < 2 ^ 64 → 0 < used → shows_unlimited s b ≡ false → (used + 1 ≤ s.limits.bytes) × (s.places.used ≡ used + 1)
+HasRoom s used b = s.limits.bytes < 2 ^ 64 → 0 < used → shows_unlimited s b ≡ false → (used + 1 ≤ s.limits.bytes) × (s.positions.used ≡ used + 1)
 
-byte : (given : Limits) (s : State) (items : List Item) (b : ℕ) (bytes : List ℕ) (used : ℕ) → Kept given s.places.at s.lexical.spent s.limits bytes → continues s.pending b ≡ true → (used ≡ 0 → s.places.used ≡ 0)
+byte : (given : Limits) (s : State) (items : List Item) (b : ℕ) (bytes : List ℕ) (used : ℕ) → Kept given s.positions.at s.lexical.spent s.limits bytes → continues s.pending b ≡ true → (used ≡ 0 → s.positions.used ≡ 0)
     → (o : Option OpenElement) (m : Mode) → HasRoom (with_hand s o m) used b → Hand o m (with_hand s o m) used items bytes → After given b bytes (taken_in m (turn (with_hand s o m) items) b)
 byte given s items b bytes used k c idle None m room h = outside_byte given s items b bytes used k c idle h.0 m room h.1
 byte given s items b bytes used k c idle (Some o) m room h = inside_byte given s o items b bytes h.0 used k c (λ few p. room few p (none_shown (is_opening m))) h.1 m h.2
@@ -50,14 +50,14 @@ below least n e = grind (arith, nat_tests)
 some_used : (n : ℕ) → 0 < n → (nat_lt 0 n ≡ true) × ((n == 0) ≡ false)
 some_used n p = (grind (arith, nat_tests), grind (arith, nat_tests))
 
-has_room : (s : State) (b : ℕ) → is_too_long s b ≡ false → s.limits.bytes < 2 ^ 64 → 0 < s.places.used → shows_unlimited s b ≡ false
-    → (s.places.used + 1 ≤ s.limits.bytes) × ((counted s).places.used ≡ s.places.used + 1)
+has_room : (s : State) (b : ℕ) → is_too_long s b ≡ false → s.limits.bytes < 2 ^ 64 → 0 < s.positions.used → shows_unlimited s b ≡ false
+    → (s.positions.used + 1 ≤ s.limits.bytes) × ((counted s).positions.used ≡ s.positions.used + 1)
 unfolding is_too_long
 has_room s b near few p limited =
-    let some = some_used s.places.used p in
-    let less = below s.limits.bytes s.places.used (with_true (nat_le s.limits.bytes s.places.used) (rw (some.0, limited) at near)) in
-    let next : next_place s.places.used ≡ s.places.used + 1 = omega (arith, few, less) in
-    let is : (counted s).places.used ≡ next_place s.places.used = rw some.1 refl in
+    let some = some_used s.positions.used p in
+    let less = below s.limits.bytes s.positions.used (with_true (nat_le s.limits.bytes s.positions.used) (rw (some.0, limited) at near)) in
+    let next : next_position s.positions.used ≡ s.positions.used + 1 = omega (arith, few, less) in
+    let is : (counted s).positions.used ≡ next_position s.positions.used = rw some.1 refl in
     (omega (arith, less), is ∙ next)
   where
     with_true : (x : Bool) → (x && true) ≡ false → x ≡ false
@@ -92,15 +92,15 @@ taken_byte : (given : Limits) (t : Turn) (b : ℕ) (bytes : List ℕ) → Read g
     → After given b bytes (taken (moved t (counted t.state)) b)
 unfolding taken
 taken_byte given t b bytes h near c =
-    byte given (counted t.state) t.items b bytes t.state.places.used h.kept c (λ e. rw e refl) t.state.here t.state.lexical.mode (has_room t.state b near)
-    (counted_hand t.state.here t.state.lexical.mode t.state t.state.places.used t.items bytes h.hand)
+    byte given (counted t.state) t.items b bytes t.state.positions.used h.kept c (λ e. rw e refl) t.state.here t.state.lexical.mode (has_room t.state b near)
+    (counted_hand t.state.here t.state.lexical.mode t.state t.state.positions.used t.items bytes h.hand)
 
 goes : (given : Limits) (t : Turn) (b : ℕ) (bytes : List ℕ) → Read given t bytes → Explained given (goes_on t b) (bytes ++ b ∷ [])
 unfolding goes_on
 goes given t b bytes h =
     let E = λ (u : Turn). Explained given u (bytes ++ b ∷ []) in
-    let long = moved t (fails t.state t.state.places.item_at why.TooLong) in
-    let broken = moved t (fails t.state (token_place t.state) why.Encoding) in
+    let long = moved t (fails t.state t.state.positions.item_at why.TooLong) in
+    let broken = moved t (fails t.state (token_position t.state) why.Encoding) in
     let on = behind_byte (taken (moved t (counted t.state)) b) b in
     cond_both (is_too_long t.state b) long (if not (continues t.state.pending b) then broken else on) E (λ e. failed given t _ _ b bytes)
     (λ e. cond_both (not (continues t.state.pending b)) broken on E (λ f. failed given t _ _ b bytes) (λ f. taken_byte given t b bytes h e (not-false (continues t.state.pending b) f)))
@@ -144,40 +144,40 @@ nothing_left : (xs : List ℕ) → not (is_empty xs) ≡ false → xs ≡ []
 nothing_left [] e = refl
 nothing_left (x ∷ xs) e = absurd (true≢false e)
 
-some_place : (n : ℕ) → Some n ≡ None → ⊥
-some_place n e = cc
+some_position : (n : ℕ) → Some n ≡ None → ⊥
+some_position n e = cc
 
 pub is_within : (given : Limits) (s : State) (items : List Item) (bytes : List ℕ) → s.fault ≡ None → part_of s ≡ None → Read given (turn s items) bytes → (now : InForce) × StreamIn s.limits now bytes items
 unfolding part_of
 is_within given s items bytes none part h =
     let open_here = is_some s.here || (not (is_text s.lexical.mode) || not (is_empty s.pending)) in
-    let place : (if open_here then Some s.places.item_at else None) ≡ None = rw (none, h.kept.not_spent) at part in
-    let whole = closed open_here s.places.item_at place in
+    let position : (if open_here then Some s.positions.item_at else None) ≡ None = rw (none, h.kept.not_spent) at part in
+    let whole = closed open_here s.positions.item_at position in
     let p = or_parts (is_some s.here) _ whole in
     let q = or_parts (not (is_text s.lexical.mode)) (not (is_empty s.pending)) p.1 in
-    (in_force s.lexical.phase s.scopes s.name, ended_hand s.here s.lexical.mode s s.places.used items bytes p.0 q.0 (nothing_left s.pending q.1) h.hand)
+    (in_force s.lexical.phase s.scopes s.name, ended_hand s.here s.lexical.mode s s.positions.used items bytes p.0 q.0 (nothing_left s.pending q.1) h.hand)
   where
     closed : (b : Bool) (n : ℕ) → (if b then Some n else None) ≡ None → b ≡ false
-    closed true n e = absurd (some_place n e)
+    closed true n e = absurd (some_position n e)
     closed false n e = refl
 
 pub is_whole : (given : Limits) (s : State) (items : List Item) (bytes : List ℕ) → s.fault ≡ None → part_of s ≡ None → Read given (turn s items) bytes → IsStream bytes items
 is_whole given s items bytes none part h = let w = is_within given s items bytes none part h in (w.0, w.1.0)
 
-abbrev behind : Limits → List ℕ → Turn
-behind limits bytes = run (turn (from_start limits) []) bytes
+abbrev following : Limits → List ℕ → Turn
+following limits bytes = run (turn (from_start limits) []) bytes
 
 pub what_is_read : (limits : Limits) (bytes : List ℕ) → limits.attributes < 2 ^ 32 → limits.namespace_bytes < 2 ^ 32
-    → (behind limits bytes).state.fault ≡ None → part_of (behind limits bytes).state ≡ None → IsStream bytes (behind limits bytes).items
+    → (following limits bytes).state.fault ≡ None → part_of (following limits bytes).state ≡ None → IsStream bytes (following limits bytes).items
 what_is_read limits bytes few short none part =
-    let end = behind limits bytes in
+    let end = following limits bytes in
     is_whole limits end.state end.items bytes none part (ran limits bytes (turn (from_start limits) []) [] (begins limits few short) none)
 
 pub what_is_within : (limits : Limits) (bytes : List ℕ) → limits.bytes < 2 ^ 64 → limits.attributes < 2 ^ 32 → limits.namespace_bytes < 2 ^ 32
-    → (behind limits bytes).state.fault ≡ None → part_of (behind limits bytes).state ≡ None
-    → (now : InForce) × (stream : StreamTo now bytes (behind limits bytes).items) × IsStreamWithin limits now bytes (behind limits bytes).items stream
+    → (following limits bytes).state.fault ≡ None → part_of (following limits bytes).state ≡ None
+    → (now : InForce) × (stream : StreamTo now bytes (following limits bytes).items) × IsStreamWithin limits now bytes (following limits bytes).items stream
 what_is_within limits bytes few_bytes few short none part =
-    let end = behind limits bytes in
+    let end = following limits bytes in
     let read = ran limits bytes (turn (from_start limits) []) [] (begins limits few short) none in
     let w = is_within limits end.state end.items bytes none part read in
     let same = read.kept.limits_are in

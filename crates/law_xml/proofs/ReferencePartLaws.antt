@@ -5,8 +5,8 @@ use Rattle.std.proofs.lemmas.Bool.Decides.{nat_tests}
 use Rattle.std.specs.List.{list_all}
 use Rattle.std.specs.Str.{bytes_eq}
 use Rattle.xml_tokens.proofs.Going.{references_go_on}
-use Rattle.xml_tokens.specs.Characters.{are_characters, are_characters_behind, ends_forbidden, go_on, is_digit, is_name, is_name_byte, is_name_start}
-use Rattle.xml_tokens.specs.References.{are_digits, each_goes_on, ends_forbidden_behind, entity_reference, is_hex_digit, last_two, number_goes_on, reference_goes_on, referred}
+use Rattle.xml_tokens.specs.Characters.{are_characters, are_characters_after, ends_forbidden, go_on, is_digit, is_name, is_name_byte, is_name_start}
+use Rattle.xml_tokens.specs.References.{are_digits, each_goes_on, ends_forbidden_after, entity_reference, is_hex_digit, last_two, number_goes_on, reference_goes_on, referred}
 use Rattle.xml_tokens.specs.declared.references.Reference.{Reference}
 use Rattle.xml_tokens.specs.declared.references.Reference.TheVariants as reference
 use Rattle.law_xml.specs.ReferenceParts.{IsNumberPart, IsReferencePart, decimal, hexadecimal, sharp, sharp_x}
@@ -115,19 +115,19 @@ last_two_more a b [] c = refl
 last_two_more a b (x ∷ xs) c = last_two_more b x xs c
 
 names_go : (x : ℕ) (so rest : List ℕ) → (x == 35) ≡ false → each_goes_on (x ∷ so) rest ≡ true
-    → (go_on rest ≡ true) × (are_characters_behind (get_or (last_two 0 0 (x ∷ so)) 0 0) (get_or (last_two 0 0 (x ∷ so)) 1 0) rest ≡ true)
+    → (go_on rest ≡ true) × (are_characters_after (get_or (last_two 0 0 (x ∷ so)) 0 0) (get_or (last_two 0 0 (x ∷ so)) 1 0) rest ≡ true)
 unfolding reference_goes_on
 names_go x so [] other h = (refl, refl)
 names_go x so (b ∷ bs) other h =
     let p = and_parts _ _ h in
-    let first : (if x == 35 then number_goes_on so b else (is_name_byte b && not (ends_forbidden_behind (x ∷ so) b))) ≡ true = p.0 in
-    let both : (is_name_byte b && not (ends_forbidden_behind (x ∷ so) b)) ≡ true = rw other at first in
+    let first : (if x == 35 then number_goes_on so b else (is_name_byte b && not (ends_forbidden_after (x ∷ so) b))) ≡ true = p.0 in
+    let both : (is_name_byte b && not (ends_forbidden_after (x ∷ so) b)) ≡ true = rw other at first in
     let here = and_parts _ _ both in
     let rest = names_go x (so ++ b ∷ []) bs other p.1 in
     let more = last_two_more 0 0 (x ∷ so) b in
     let later = rest.1 in
-    let behind : are_characters_behind (get_or (last_two 0 0 (x ∷ so)) 1 0) b bs ≡ true = rw more at later in
-    (and_from _ _ here.0 rest.0, and_from _ _ here.1 behind)
+    let following : are_characters_after (get_or (last_two 0 0 (x ∷ so)) 1 0) b bs ≡ true = rw more at later in
+    (and_from _ _ here.0 rest.0, and_from _ _ here.1 following)
 
 entity_well : (name : List ℕ) → is_name name ≡ true → entity_reference name ≢ reference.Malformed
 entity_well name h =

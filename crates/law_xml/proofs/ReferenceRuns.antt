@@ -78,7 +78,7 @@ ampersand_runs s items o q here room =
     goes (turn s items) mode.Text 38 (takes s mode.Text 38 0 [] q.no_fault q.text room is) ∙ ap (λ v. turn (passed v 38) items) (ampersand_is (counted s) o here) in
     goes_one s u items 38 (λ t. InToken t mode.Reference [] [] s.chars) stepped
     (kept_one s u (record { limits = refl; here = refl; below = refl; scopes = refl; name = refl; phase = refl; spent = refl }) refl refl)
-    (record { no_fault = q.no_fault; mode_is = refl; token_is = q.no_token; pending_is = ap (λ (l : Option (List ℕ)). unwrap_or l s.pending) is; no_quote = q.no_quote; not_spoiled = q.not_spoiled; chars_are = refl; counted = one_more_low s.places.used })
+    (record { no_fault = q.no_fault; mode_is = refl; token_is = q.no_token; pending_is = ap (λ (l : Option (List ℕ)). unwrap_or l s.pending) is; no_quote = q.no_quote; not_spoiled = q.not_spoiled; chars_are = refl; counted = one_more_low s.positions.used })
 
 abbrev referring : State → ℕ → State
 referring s c = record (token_ended s) { chars = s.chars ++ encode_utf8 c }
@@ -105,7 +105,7 @@ semicolon_runs s items o name chars c h here room e =
           no_pending = ap (λ (l : Option (List ℕ)). unwrap_or l s.pending) is;
           no_quote = refl;
           not_spoiled = refl;
-          counted = one_more_low s.places.used;
+          counted = one_more_low s.positions.used;
           uncounted = λ none. absurd (true≢false (sym (ap is_some here) ∙ none));
         };
         no_run = refl;

@@ -26,8 +26,8 @@ as_rest false s bytes r = inl r
 as_rest true s bytes r = r
 
 -- the first bytes of an item are a front of it
-pub front_of : (s : State) (bytes more : List ℕ) (i : Item) (behind : State) → GivesOne s (bytes ++ more) i behind → 0 < length more → IsFront s bytes
-front_of s bytes more i behind g some = record { more = more; given = i; behind = behind; gives = g; some_more = some }
+pub front_of : (s : State) (bytes more : List ℕ) (i : Item) (following : State) → GivesOne s (bytes ++ more) i following → 0 < length more → IsFront s bytes
+front_of s bytes more i following g some = record { more = more; given = i; following = following; gives = g; some_more = some }
 
 longer : (a b : List ℕ) → 0 < length b → 0 < length (a ++ b)
 longer a b some = omega (arith, length-append a b, some)
@@ -38,7 +38,7 @@ shorter a b some = omega (arith, length-append a b, some)
 front_of_front : (s : State) (bytes : List ℕ) (n : ℕ) → IsFront s bytes → IsFront s (take n bytes)
 front_of_front s bytes n f =
     let same : bytes ++ f.more ≡ take n bytes ++ (drop n bytes ++ f.more) = ap (λ l. l ++ f.more) (sym (take-append-drop n bytes)) ∙ append_assoc (take n bytes) (drop n bytes) f.more in
-    front_of s (take n bytes) (drop n bytes ++ f.more) f.given f.behind (subst (λ l. GivesOne s l f.given f.behind) same f.gives) (longer (drop n bytes) f.more f.some_more)
+    front_of s (take n bytes) (drop n bytes ++ f.more) f.given f.following (subst (λ l. GivesOne s l f.given f.following) same f.gives) (longer (drop n bytes) f.more f.some_more)
 
 none_of_none : (n : ℕ) → take {A = ℕ} n [] ≡ []
 none_of_none zero = refl
@@ -80,9 +80,9 @@ fewer_give_none s bytes n none =
     nothing_before (run (turn s []) (take n bytes)).items grows.0 (sym grows.1 ∙ ap (λ (t : Turn). t.items) whole ∙ none)
 
 -- where nothing was given before the last byte, nothing was before an earlier one
-pub by_last_byte : (s : State) (front : List ℕ) (last : ℕ) (i : Item) (behind : State) → run (turn s []) (front ++ last ∷ []) ≡ turn behind (i ∷ []) → (run (turn s []) front).items ≡ [] → behind.fault ≡ None
-    → GivesOne s (front ++ last ∷ []) i behind
-by_last_byte s front last i behind runs none no_fault =
+pub by_last_byte : (s : State) (front : List ℕ) (last : ℕ) (i : Item) (following : State) → run (turn s []) (front ++ last ∷ []) ≡ turn following (i ∷ []) → (run (turn s []) front).items ≡ [] → following.fault ≡ None
+    → GivesOne s (front ++ last ∷ []) i following
+by_last_byte s front last i following runs none no_fault =
     record {
       run_is = runs;
       none_before = λ n less.
@@ -93,8 +93,8 @@ by_last_byte s front last i behind runs none no_fault =
 
 -- ---- bytes that give nothing before an item
 
-behind_front : (s t : State) (front bytes : List ℕ) → run (turn s []) front ≡ turn t [] → run (turn s []) (front ++ bytes) ≡ run (turn t []) bytes
-behind_front s t front bytes e = run_append (turn s []) front bytes ∙ ap (λ u. run u bytes) e
+after_front : (s t : State) (front bytes : List ℕ) → run (turn s []) front ≡ turn t [] → run (turn s []) (front ++ bytes) ≡ run (turn t []) bytes
+after_front s t front bytes e = run_append (turn s []) front bytes ∙ ap (λ u. run u bytes) e
 
 none_given_before : (s t u : State) (front bytes : List ℕ) (i : Item) → run (turn s []) front ≡ turn t [] → GivesOne t bytes i u → (n : ℕ) → n < length (front ++ bytes)
     → (run (turn s []) (take n (front ++ bytes))).items ≡ []
@@ -108,9 +108,9 @@ none_given_before s t u front bytes i e g n less =
     let sum : n ≡ length front + (n - length front) = grind (arith, nat_tests) in
     let fewer : n - length front < length bytes = omega (arith, length-append front bytes, sum, less) in
     let taken : take n (front ++ bytes) ≡ front ++ take k bytes = ap (λ m. take m (front ++ bytes)) sum ∙ take-append-add front bytes k in
-    ap (λ l. (run (turn s []) l).items) taken ∙ ap (λ (v : Turn). v.items) (behind_front s t front (take k bytes) e) ∙ g.none_before k fewer)
+    ap (λ l. (run (turn s []) l).items) taken ∙ ap (λ (v : Turn). v.items) (after_front s t front (take k bytes) e) ∙ g.none_before k fewer)
     (cases_Bool (leb n (length front)))
 
 pub with_declaration : (s t u : State) (front bytes : List ℕ) (i : Item) → run (turn s []) front ≡ turn t [] → GivesOne t bytes i u → GivesOne s (front ++ bytes) i u
 with_declaration s t u front bytes i e g =
-    record { run_is = behind_front s t front bytes e ∙ g.run_is; none_before = none_given_before s t u front bytes i e g; no_fault = g.no_fault }
+    record { run_is = after_front s t front bytes e ∙ g.run_is; none_before = none_given_before s t u front bytes i e g; no_fault = g.no_fault }

@@ -18,7 +18,7 @@ use Rattle.law_xml.specs.FaultRows.{Decides, EndsTag, Takes}
 use Rattle.law_xml.specs.Rows.{BangRow, DeclarationRow, FooterRow, OpeningRow, QuestionRow, ReferenceRow, Row, SectionRow, TagRow, TextRow, TokenRow, WholeTagRow, after_footer, bad_declaration, bad_first_header, bad_footer, bad_next_header, bad_reference, bad_start, bad_top, deep_start, deep_top, departing_declaration, departing_reference, departing_section, forbidden_in_section, forbidden_in_text, in_text_row, in_token_row, no_declaration, no_header_declared, no_name, no_utf8, other_encoding, other_end, reference_outside, section_end_in_text, section_outside, text_outside, too_long, unknown_reference, unspaced_declaration, whole_tag_row}
 use Rattle.xml_framer.specs.Machine.{run, step}
 use Rattle.xml_framer.specs.Readings.{fault_of, framed}
-use Rattle.xml_framer.specs.States.{State, Turn, from_start, gathered, in_run, is_text, run_begun, token_place, turn}
+use Rattle.xml_framer.specs.States.{State, Turn, from_start, gathered, in_run, is_text, run_begun, token_position, turn}
 use Rattle.xml_framer.specs.TagSteps.{ends_stream, is_too_deep, start_why, tag_here}
 use Rattle.xml_framer.specs.declared.fault.Why.{Why}
 use Rattle.xml_framer.specs.declared.fault.Why.TheVariants as why
@@ -31,47 +31,47 @@ decided : (t : Turn) (b n : ℕ) (y : Why) (at : ℕ) (w : Why) → Decides t b 
 decided t b n y at w d at_is w_is = d ∙ (ap (λ k. fault_at k y) (sym at_is) ∙ ap (fault_at at) (sym w_is))
 
 -- the place of a text
-text_place : (s : State) → s.lexical.mode ≡ mode.Text → (in_run s).places.token_at ≡ token_place s
-text_place s text = run_place s.lexical.in_run ∙ sym (placed s.lexical.mode text)
+text_position : (s : State) → s.lexical.mode ≡ mode.Text → (in_run s).positions.token_at ≡ token_position s
+text_position s text = run_position s.lexical.in_run ∙ sym (placed s.lexical.mode text)
   where
-    run_place : (x : Bool) → (if x then s else run_begun s).places.token_at ≡ (if not x then s.places.at else s.places.token_at)
-    run_place true = refl
-    run_place false = refl
+    run_position : (x : Bool) → (if x then s else run_begun s).positions.token_at ≡ (if not x then s.positions.at else s.positions.token_at)
+    run_position true = refl
+    run_position false = refl
 
-    placed : (m : Mode) → m ≡ mode.Text → (if is_text m && not s.lexical.in_run then s.places.at else s.places.token_at) ≡ (if not s.lexical.in_run then s.places.at else s.places.token_at)
+    placed : (m : Mode) → m ≡ mode.Text → (if is_text m && not s.lexical.in_run then s.positions.at else s.positions.token_at) ≡ (if not s.lexical.in_run then s.positions.at else s.positions.token_at)
     placed m is = rw is refl
 
-running_place : (s : State) → s.lexical.mode ≡ mode.Text → s.lexical.in_run ≡ true → s.places.token_at ≡ token_place s
-running_place s text running = rw (text, running) refl
+running_position : (s : State) → s.lexical.mode ≡ mode.Text → s.lexical.in_run ≡ true → s.positions.token_at ≡ token_position s
+running_position s text running = rw (text, running) refl
 
 text_decides : (t : Turn) (b at : ℕ) (w : Why) → Takes t.state mode.Text b → TextRow t.state b at w → Decides t b at w
 text_decides t b at w k (reference_outside _ _ _ _ outer is at_is w_is) =
-    decided t b t.state.places.at why.NotWellFormed at w
-    (subst (λ d. Decides t d t.state.places.at why.NotWellFormed) (sym is) (laws.reference_outside t (subst (Takes t.state mode.Text) is k) outer)) at_is w_is
+    decided t b t.state.positions.at why.NotWellFormed at w
+    (subst (λ d. Decides t d t.state.positions.at why.NotWellFormed) (sym is) (laws.reference_outside t (subst (Takes t.state mode.Text) is k) outer)) at_is w_is
 text_decides t b at w k (text_outside _ _ _ _ outer less and ended other at_is w_is) =
-    decided t b (in_run t.state).places.token_at why.NotWellFormed at w (laws.text_outside_elements t b k outer less and ended other) (at_is ∙ sym (text_place t.state k.mode_is)) w_is
+    decided t b (in_run t.state).positions.token_at why.NotWellFormed at w (laws.text_outside_elements t b k outer less and ended other) (at_is ∙ sym (text_position t.state k.mode_is)) w_is
 text_decides t b at w k (forbidden_in_text _ _ _ _ inner less and ended bad at_is w_is) =
-    decided t b (in_run t.state).places.token_at why.NotWellFormed at w (laws.forbidden t b k inner less and ended bad) (at_is ∙ sym (text_place t.state k.mode_is)) w_is
+    decided t b (in_run t.state).positions.token_at why.NotWellFormed at w (laws.forbidden t b k inner less and ended bad) (at_is ∙ sym (text_position t.state k.mode_is)) w_is
 text_decides t b at w k (section_end_in_text _ _ _ _ inner is running two at_is w_is) =
     let there : Takes t.state mode.Text 62 = subst (Takes t.state mode.Text) is k in
     let none = (ascii_alone t.state.pending 62 (omega arith) there.is_text).0 in
-    decided t b t.state.places.token_at why.NotWellFormed at w
-    (subst (λ d. Decides t d t.state.places.token_at why.NotWellFormed) (sym is) (laws.brackets t there inner none running two))
-    (at_is ∙ sym (running_place t.state k.mode_is running)) w_is
+    decided t b t.state.positions.token_at why.NotWellFormed at w
+    (subst (λ d. Decides t d t.state.positions.token_at why.NotWellFormed) (sym is) (laws.brackets t there inner none running two))
+    (at_is ∙ sym (running_position t.state k.mode_is running)) w_is
 
 -- ---- tokens
 
 module _ (t : Turn) (b : ℕ) (w : Why) where
   -- the fault of the token
   abbrev There : Type 0
-  There = Decides t b t.state.places.token_at w
+  There = Decides t b t.state.positions.token_at w
 
-  same : (y : Why) → Decides t b t.state.places.token_at y → w ≡ y → There
-  same y d w_is = decided t b t.state.places.token_at y t.state.places.token_at w d refl w_is
+  same : (y : Why) → Decides t b t.state.positions.token_at y → w ≡ y → There
+  same y d w_is = decided t b t.state.positions.token_at y t.state.positions.token_at w d refl w_is
 
   -- at a certain byte
-  at_byte : (n : ℕ) (y : Why) → b ≡ n → Decides t n t.state.places.token_at y → w ≡ y → There
-  at_byte n y is d w_is = same y (subst (λ d. Decides t d t.state.places.token_at y) (sym is) d) w_is
+  at_byte : (n : ℕ) (y : Why) → b ≡ n → Decides t n t.state.positions.token_at y → w ≡ y → There
+  at_byte n y is d w_is = same y (subst (λ d. Decides t d t.state.positions.token_at y) (sym is) d) w_is
 
   there : (m : Mode) (n : ℕ) → b ≡ n → Takes t.state m b → Takes t.state m n
   there m n is k = subst (Takes t.state m) is k
@@ -103,13 +103,13 @@ module _ (t : Turn) (b : ℕ) (w : Why) where
 -- a whole tag: its last byte is `>`
 module _ (t : Turn) (w : Why) (h : EndsTag t.state mode.Tag) where
   abbrev At : Type 0
-  At = Decides t 62 t.state.places.token_at w
+  At = Decides t 62 t.state.positions.token_at w
 
   abbrev g : State
   g = gathered t.state 62
 
-  equal : (y : Why) → Decides t 62 t.state.places.token_at y → w ≡ y → At
-  equal y d w_is = decided t 62 t.state.places.token_at y t.state.places.token_at w d refl w_is
+  equal : (y : Why) → Decides t 62 t.state.positions.token_at y → w ≡ y → At
+  equal y d w_is = decided t 62 t.state.positions.token_at y t.state.positions.token_at w d refl w_is
 
   start_decides : (e : StartWhy) → is_some t.state.here ≡ true → is_end g.token ≡ false → tag_here g ≡ Err e → w ≡ start_why g e → At
   start_decides start.Restricted inner started is w_is = equal why.Restricted (laws.restricted t inner h started is) w_is
@@ -136,30 +136,30 @@ module _ (t : Turn) (w : Why) (h : EndsTag t.state mode.Tag) where
       (λ (declared : t.state.lexical.phase ≡ phase.FirstDeclared). equal _ (laws.first_declared t outer h e declared is) w_is) p
   whole_decides (bad_next_header _ _ e outer p named is w_is) =
       ⊎_elim (λ (between : t.state.lexical.phase ≡ phase.Between). equal _ (laws.header t outer h e between named is) w_is)
-      (λ (declared : t.state.lexical.phase ≡ phase.Declared). equal _ (laws.header_behind_declaration t outer h e declared named is) w_is) p
+      (λ (declared : t.state.lexical.phase ≡ phase.Declared). equal _ (laws.header_after_declaration t outer h e declared named is) w_is) p
   whole_decides (bad_top _ _ e outer p other is w_is) = equal _ (laws.element t outer h e p other is) (w_is ∙ top_why e)
   whole_decides (deep_top _ _ tag outer p other is far w_is) = equal why.TooDeep (laws.top_deep t outer h tag p other is far) w_is
-  whole_decides (no_header_declared _ _ outer p other w_is) = equal _ (laws.behind_declaration t outer h p other) w_is
+  whole_decides (no_header_declared _ _ outer p other w_is) = equal _ (laws.after_declaration t outer h p other) w_is
   whole_decides (after_footer _ _ outer p w_is) = equal _ (laws.behind_footer t outer h p) w_is
 
-tag_decides : (t : Turn) (b : ℕ) (w : Why) → Takes t.state mode.Tag b → TagRow t.state b w → Decides t b t.state.places.token_at w
+tag_decides : (t : Turn) (b : ℕ) (w : Why) → Takes t.state mode.Tag b → TagRow t.state b w → Decides t b t.state.positions.token_at w
 tag_decides t b w k (whole_tag_row _ _ _ is quote row) =
     let there : Takes t.state mode.Tag 62 = subst (Takes t.state mode.Tag) is k in
-    subst (λ d. Decides t d t.state.places.token_at w) (sym is)
+    subst (λ d. Decides t d t.state.positions.token_at w) (sym is)
     (whole_decides t w (record { takes = there; unquoted = quote }) (subst (λ d. WholeTagRow (gathered t.state d) w) is row))
 
-footer_decides : (t : Turn) (b : ℕ) (w : Why) → Takes t.state mode.Footer b → FooterRow t.state b w → Decides t b t.state.places.token_at w
+footer_decides : (t : Turn) (b : ℕ) (w : Why) → Takes t.state mode.Footer b → FooterRow t.state b w → Decides t b t.state.positions.token_at w
 footer_decides t b w k (bad_footer _ _ _ is quote other w_is) =
     let there : Takes t.state mode.Footer 62 = subst (Takes t.state mode.Footer) is k in
     at_byte t b w 62 why.NotWellFormed is (laws.footer t (record { takes = there; unquoted = quote }) (subst (λ d. ends_stream (gathered t.state d) ≡ false) is other)) w_is
 
-opening_decides : (t : Turn) (b : ℕ) (w : Why) → Takes t.state mode.Opening b → (t.state.token ≡ codes "<") × (t.state.lexical.quote ≡ None) → OpeningRow t.state b w → Decides t b t.state.places.token_at w
+opening_decides : (t : Turn) (b : ℕ) (w : Why) → Takes t.state mode.Opening b → (t.state.token ≡ codes "<") × (t.state.lexical.quote ≡ None) → OpeningRow t.state b w → Decides t b t.state.positions.token_at w
 opening_decides t b w k alone (no_declaration _ _ _ is may w_is) = at_byte t b w 63 why.Restricted is (laws.question t (subst (Takes t.state mode.Opening) is k) may) w_is
 opening_decides t b w k alone (no_name _ _ _ is w_is) =
     at_byte t b w 62 why.NotWellFormed is (laws.without_name t (record { takes = subst (Takes t.state mode.Opening) is k; unquoted = alone.1 }) alone.0) w_is
 
 token_decides : (m : Mode) (t : Turn) (b : ℕ) (w : Why) → Takes t.state m b → (t.state.lexical.mode ≡ mode.Opening → (t.state.token ≡ codes "<") × (t.state.lexical.quote ≡ None))
-    → TokenRow m t.state b w → Decides t b t.state.places.token_at w
+    → TokenRow m t.state b w → Decides t b t.state.positions.token_at w
 token_decides mode.Text t b w k alone row = absurd row
 token_decides mode.Reference t b w k alone row = reference_decides t b w k row
 token_decides mode.Opening t b w k alone row = opening_decides t b w k (alone k.mode_is) row
@@ -171,10 +171,10 @@ token_decides mode.Footer t b w k alone row = footer_decides t b w k row
 token_decides mode.Section t b w k alone row = section_decides t b w k row
 
 pub row_decides : (t : Turn) (b at : ℕ) (w : Why) → (t.state.lexical.mode ≡ mode.Opening → (t.state.token ≡ codes "<") × (t.state.lexical.quote ≡ None)) → Row t.state b at w → Decides t b at w
-row_decides t b at w alone (too_long _ _ _ _ none far at_is w_is) = decided t b t.state.places.item_at why.TooLong at w (laws.long t b none far) at_is w_is
-row_decides t b at w alone (no_utf8 _ _ _ _ none near bad at_is w_is) = decided t b (token_place t.state) why.Encoding at w (laws.broken t b none near bad) at_is w_is
+row_decides t b at w alone (too_long _ _ _ _ none far at_is w_is) = decided t b t.state.positions.item_at why.TooLong at w (laws.long t b none far) at_is w_is
+row_decides t b at w alone (no_utf8 _ _ _ _ none near bad at_is w_is) = decided t b (token_position t.state) why.Encoding at w (laws.broken t b none near bad) at_is w_is
 row_decides t b at w alone (in_text_row _ _ _ _ k row) = text_decides t b at w k row
-row_decides t b at w alone (in_token_row _ _ _ _ m k no_text at_is row) = decided t b t.state.places.token_at w at w (token_decides m t b w k alone row) at_is refl
+row_decides t b at w alone (in_token_row _ _ _ _ m k no_text at_is row) = decided t b t.state.positions.token_at w at w (token_decides m t b w k alone row) at_is refl
 
 -- ---- bytes
 

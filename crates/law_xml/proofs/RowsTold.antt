@@ -23,9 +23,9 @@ use Rattle.law_xml.specs.Rows.{BangRow, DeclarationRow, FooterRow, OpeningRow, Q
 use Rattle.law_xml.specs.Rows as rows
 use Rattle.xml_framer.specs.Machine.{is_too_long, taken_in}
 use Rattle.xml_framer.specs.MarkupSteps.{declares, ends_in_question, in_bang, in_declaration, in_phase, in_question, section_opened}
-use Rattle.xml_framer.specs.States.{OpenElement, State, Turn, counted, fails, gathered, gathered_in, gives, in_mode, in_run, is_text, item_ended, may_declare, moved, run_begun, token_begun, token_ended, token_fails, token_place, turn}
+use Rattle.xml_framer.specs.States.{OpenElement, State, Turn, counted, fails, gathered, gathered_in, gives, in_mode, in_run, is_text, item_ended, may_declare, moved, run_begun, token_begun, token_ended, token_fails, token_position, turn}
 use Rattle.xml_framer.specs.TagSteps.{added_to, begun, closed, closed_open, element_from, ends, ends_stream, footer_closes, footer_gathered, header_tag, header_why, heads, in_footer, in_opening, in_tag, is_header, is_spelled, is_too_deep, joined_text, leaf, level, misplaced, misplaced_why, shallower, start_why, starts, tag_anew, tag_closes, tag_gathered, tag_here, tag_in, tag_inside, tag_outside, unlimited}
-use Rattle.xml_framer.specs.TextSteps.{between, bracket_taken, brackets_behind, character_begun, character_taken, ends_section, in_reference, in_section, in_text, inside, is_forbidden, judged_outside, judged_section, judged_text, markup_begun, other_taken, refers, section_taken, text_inside, text_outside}
+use Rattle.xml_framer.specs.TextSteps.{between, bracket_taken, brackets_after, character_begun, character_taken, ends_section, in_reference, in_section, in_text, inside, is_forbidden, judged_outside, judged_section, judged_text, markup_begun, other_taken, refers, section_taken, text_inside, text_outside}
 use Rattle.xml_trees.specs.Trees.{Elem}
 use Rattle.xml_framer.specs.declared.fault.Fault.{Fault}
 use Rattle.xml_framer.specs.declared.fault.Why.{Why}
@@ -94,7 +94,7 @@ module _ (s : State) (b at : ℕ) (w : Why) (none : s.fault ≡ None) where
 
   -- a fault of the token
   abbrev Has : Type 0 → Type 0
-  Has P = (at ≡ s.places.token_at) × P
+  Has P = (at ≡ s.positions.token_at) × P
 
   calm : {P : Type 0} (u : State) → u.fault ≡ s.fault → Found u → P
   calm u same e = absurd (none_some (record { at = at; why = w }) (sym e ∙ (same ∙ none)))
@@ -111,8 +111,8 @@ module _ (s : State) (b at : ℕ) (w : Why) (none : s.fault ≡ None) where
 
   refers_row : (x : Reference) → b ≡ 59 → referred s.token ≡ x → Found (refers c x) → Has (ReferenceRow s b w)
   refers_row (reference.Character n) is e f = calm (refers c (reference.Character n)) refl f
-  refers_row reference.Unknown is e f = let k = told s.places.token_at why.Restricted at w f in (k.0, unknown_reference s b w is e k.1)
-  refers_row reference.Malformed is e f = let k = told s.places.token_at why.NotWellFormed at w f in (k.0, bad_reference s b w is e k.1)
+  refers_row reference.Unknown is e f = let k = told s.positions.token_at why.Restricted at w f in (k.0, unknown_reference s b w is e k.1)
+  refers_row reference.Malformed is e f = let k = told s.positions.token_at why.NotWellFormed at w f in (k.0, bad_reference s b w is e k.1)
 
   reference_row : Found (in_reference c b) → Has (ReferenceRow s b w)
   unfolding in_reference
@@ -120,7 +120,7 @@ module _ (s : State) (b at : ℕ) (w : Why) (none : s.fault ≡ None) where
       let fault = token_fails c why.NotWellFormed in
       split (b == 59) (refers c (referred s.token)) (if reference_goes_on s.token b then gathered c b else fault) (λ e. refers_row (referred s.token) (eqb-true b 59 e) refl)
       (λ e. split (reference_goes_on s.token b) (gathered c b) fault (λ f h. calm (gathered c b) refl h)
-      (λ f h. let k = told s.places.token_at why.NotWellFormed at w h in (k.0, departing_reference s b w (eqb-false b 59 e) f k.1)))
+      (λ f h. let k = told s.positions.token_at why.NotWellFormed at w h in (k.0, departing_reference s b w (eqb-false b 59 e) f k.1)))
 
   -- ---- `<!` and `<?`
 
@@ -134,9 +134,9 @@ module _ (s : State) (b at : ℕ) (w : Why) (none : s.fault ≡ None) where
       split (b == due) (if length s.token == 8 then section_opened c else gathered c b) restricted
       (λ e. split (length s.token == 8) (section_opened c) (gathered c b)
       (λ f. split (is_some s.here) opened fault (λ i h. calm opened refl h)
-      (λ i h. let k = told s.places.token_at why.NotWellFormed at w h in (k.0, section_outside s b w (eqb-true b due e) (eqb-true (length s.token) 8 f) i k.1)))
+      (λ i h. let k = told s.positions.token_at why.NotWellFormed at w h in (k.0, section_outside s b w (eqb-true b due e) (eqb-true (length s.token) 8 f) i k.1)))
       (λ f h. calm (gathered c b) refl h))
-      (λ e h. let k = told s.places.token_at why.Restricted at w h in (k.0, departing_section s b w (eqb-false b due e) k.1))
+      (λ e h. let k = told s.positions.token_at why.Restricted at w h in (k.0, departing_section s b w (eqb-false b due e) k.1))
 
   question_row : Found (in_question c b) → Has (QuestionRow s b w)
   unfolding in_question
@@ -146,14 +146,14 @@ module _ (s : State) (b at : ℕ) (w : Why) (none : s.fault ≡ None) where
       let declaring = gathered_in c mode.Declaration b in
       split (nat_lt (length s.token) 5) (if b == due then gathered c b else fault) (if is_white b then declaring else fault)
       (λ e. split (b == due) (gathered c b) fault (λ f h. calm (gathered c b) refl h)
-      (λ f h. let k = told s.places.token_at why.Restricted at w h in (k.0, departing_declaration s b w (ltb-true (length s.token) 5 e) (eqb-false b due f) k.1)))
+      (λ f h. let k = told s.positions.token_at why.Restricted at w h in (k.0, departing_declaration s b w (ltb-true (length s.token) 5 e) (eqb-false b due f) k.1)))
       (λ e. split (is_white b) declaring fault (λ f h. calm declaring refl h)
-      (λ f h. let k = told s.places.token_at why.Restricted at w h in (k.0, unspaced_declaration s b w (least (length s.token) e) f k.1)))
+      (λ f h. let k = told s.positions.token_at why.Restricted at w h in (k.0, unspaced_declaration s b w (least (length s.token) e) f k.1)))
 
   declares_row : (x : Declaration) → b ≡ 62 → ends_in_question s.token ≡ true → declaration_of (s.token ++ b ∷ []) ≡ x → Found (declares (gathered c b) x) → Has (DeclarationRow s b w)
   declares_row declaration.Good is asked e h = calm (declares (gathered c b) declaration.Good) refl h
-  declares_row declaration.Encoding is asked e h = let k = told s.places.token_at why.Encoding at w h in (k.0, other_encoding s b w is asked e k.1)
-  declares_row declaration.NotWellFormed is asked e h = let k = told s.places.token_at why.NotWellFormed at w h in (k.0, bad_declaration s b w is asked e k.1)
+  declares_row declaration.Encoding is asked e h = let k = told s.positions.token_at why.Encoding at w h in (k.0, other_encoding s b w is asked e k.1)
+  declares_row declaration.NotWellFormed is asked e h = let k = told s.positions.token_at why.NotWellFormed at w h in (k.0, bad_declaration s b w is asked e k.1)
 
   declaration_row : Found (in_declaration c b) → Has (DeclarationRow s b w)
   unfolding in_declaration
@@ -171,9 +171,9 @@ module _ (s : State) (b at : ℕ) (w : Why) (none : s.fault ≡ None) where
       let taken = section_taken c b in
       let rest = (if ends_section c b then token_ended c else taken) in
       let third = record c { chars = c.chars ++ 93 ∷ []; lexical = record c.lexical { returned = false } } in
-      let other = record c { lexical = record c.lexical { returned = false; brackets = brackets_behind c.lexical.brackets 93 } } in
+      let other = record c { lexical = record c.lexical { returned = false; brackets = brackets_after c.lexical.brackets 93 } } in
       split (ends_character s.pending b) (if is_forbidden c b then fault else rest) c
-      (λ e. split (is_forbidden c b) fault rest (λ f h. let k = told s.places.token_at why.NotWellFormed at w h in (k.0, forbidden_in_section s b w e f k.1))
+      (λ e. split (is_forbidden c b) fault rest (λ f h. let k = told s.positions.token_at why.NotWellFormed at w h in (k.0, forbidden_in_section s b w e f k.1))
       (λ f. split (ends_section c b) (token_ended c) taken (λ i h. calm (token_ended c) refl h)
       (λ i. split (b == 93) (bracket_taken c) (other_taken c b) (λ j. split (c.lexical.brackets == 2) third other (λ l h. calm third refl h) (λ l h. calm other refl h)) (λ j h. calm (other_taken c b) refl h))))
       (λ e h. calm c refl h)
@@ -191,9 +191,9 @@ module _ (s : State) (b at : ℕ) (w : Why) (none : s.fault ≡ None) where
       let t = whole items in
       let far = moved t (token_fails t.state why.TooDeep) in
       let inner = moved t (level t.state tag) in
-      splits (is_too_deep g) far (if tag.empty then leaf t tag else inner) (λ e h. let n = told s.places.token_at why.TooDeep at w h in (n.0, deep tag refl e n.1))
+      splits (is_too_deep g) far (if tag.empty then leaf t tag else inner) (λ e h. let n = told s.positions.token_at why.TooDeep at w h in (n.0, deep tag refl e n.1))
       (λ e. splits tag.empty (leaf t tag) inner (λ f h. calm (leaf t tag).state (leaf_calm t tag) h) (λ f h. calm inner.state refl h))
-  starts_row items (Err e) deep bad = λ h. let n = told s.places.token_at (start_why (gathered c b) e) at w h in (n.0, bad e refl (n.1 ∙ same_why s b e))
+  starts_row items (Err e) deep bad = λ h. let n = told s.positions.token_at (start_why (gathered c b) e) at w h in (n.0, bad e refl (n.1 ∙ same_why s b e))
 
   inside_row : (items : List Item) → is_some s.here ≡ true → Found (tag_inside (whole items)).state → Has (WholeTagRow g w)
   unfolding tag_inside ends
@@ -202,12 +202,12 @@ module _ (s : State) (b at : ℕ) (w : Why) (none : s.fault ≡ None) where
       let fault = moved t (token_fails t.state why.NotWellFormed) in
       splits (is_end g.token) (ends t) (starts t (tag_here g))
       (λ e. splits (is_spelled s.here (end_of g.token)) (closed t) fault (λ f h. calm (closed t).state (closed_calm t) h)
-      (λ f h. let n = told s.places.token_at why.NotWellFormed at w h in (n.0, other_end g w inner e f n.1)))
+      (λ f h. let n = told s.positions.token_at why.NotWellFormed at w h in (n.0, other_end g w inner e f n.1)))
       (λ e. starts_row items (tag_here g) (λ tag is far n. deep_start g w tag inner e is far n) (λ x is n. bad_start g w x inner e is n))
 
   heads_row : (items : List Item) (r : Result Tag StartWhy) → ((e : StartWhy) → r ≡ Err e → w ≡ header_why e → WholeTagRow g w) → Found (heads (whole items) r).state → Has (WholeTagRow g w)
   heads_row items (Ok tag) bad = λ h. calm (heads (whole items) (Ok tag)).state refl h
-  heads_row items (Err e) bad = λ h. let n = told s.places.token_at (header_why e) at w h in (n.0, bad e refl n.1)
+  heads_row items (Err e) bad = λ h. let n = told s.positions.token_at (header_why e) at w h in (n.0, bad e refl n.1)
 
   header_row : (items : List Item) → ((e : StartWhy) → tag_anew g ≡ Err e → w ≡ header_why e → WholeTagRow g w) → Found (header_tag (whole items)).state → Has (WholeTagRow g w)
   unfolding header_tag
@@ -215,7 +215,7 @@ module _ (s : State) (b at : ℕ) (w : Why) (none : s.fault ≡ None) where
 
   misplaced_row : (items : List Item) → (w ≡ misplaced_why (tag_here g) → WholeTagRow g w) → Found (misplaced (whole items)).state → Has (WholeTagRow g w)
   unfolding misplaced
-  misplaced_row items bad h = let n = told s.places.token_at (misplaced_why (tag_here g)) at w h in (n.0, bad n.1)
+  misplaced_row items bad h = let n = told s.positions.token_at (misplaced_why (tag_here g)) at w h in (n.0, bad n.1)
 
   phase_row : (p : Phase) (items : List Item) → s.lexical.phase ≡ p → is_some s.here ≡ false → Found (tag_in p (whole items)).state → Has (WholeTagRow g w)
   unfolding is_header
@@ -265,14 +265,14 @@ module _ (s : State) (b at : ℕ) (w : Why) (none : s.fault ≡ None) where
       splits (b == 62 && not (is_some s.lexical.quote)) (footer_closes t) (moved (turn c items) (footer_gathered c b))
       (λ e. let p = and_parts (b == 62) (not (is_some s.lexical.quote)) e in
       splits (ends_stream (gathered c b)) given fault (λ f h. calm given.state refl h)
-      (λ f h. let n = told s.places.token_at why.NotWellFormed at w h in (n.0, bad_footer s b w (eqb-true b 62 p.0) (no_quote s.lexical.quote p.1) f n.1)))
+      (λ f h. let n = told s.positions.token_at why.NotWellFormed at w h in (n.0, bad_footer s b w (eqb-true b 62 p.0) (no_quote s.lexical.quote p.1) f n.1)))
       (λ e h. calm (footer_gathered c b) footer_calm h)
 
   -- ---- the byte after a `<`
 
   open_calm_in : (m : Mode) → (gathered_in (unlimited c) m b).fault ≡ s.fault
   open_calm_in m =
-      cond_both (is_some s.here) c (record c { places = record c.places { used = 0 } }) (λ (v : State). (gathered_in v m b).fault ≡ s.fault) (λ e. refl) (λ e. refl)
+      cond_both (is_some s.here) c (record c { positions = record c.positions { used = 0 } }) (λ (v : State). (gathered_in v m b).fault ≡ s.fault) (λ e. refl) (λ e. refl)
 
   opening_row : (items : List Item) → s.token ≡ codes "<" → s.lexical.quote ≡ None → Found (in_opening (turn c items) b).state → Has (OpeningRow s b w)
   unfolding in_opening in_tag
@@ -287,12 +287,12 @@ module _ (s : State) (b at : ℕ) (w : Why) (none : s.fault ≡ None) where
       splits (b == 33) bang (if b == 63 then moved t asked else (if b == 47 && not (is_some s.here) then footer else in_tag t b)) (λ e h. calm bang.state (open_calm_in mode.Bang) h)
       (λ e. splits (b == 63) (moved t asked) (if b == 47 && not (is_some s.here) then footer else in_tag t b)
       (λ f. split (may_declare c) question fault (λ i h. calm question refl h)
-      (λ i h. let n = told s.places.token_at why.Restricted at w h in (n.0, no_declaration s b w (eqb-true b 63 f) i n.1)))
+      (λ i h. let n = told s.positions.token_at why.Restricted at w h in (n.0, no_declaration s b w (eqb-true b 63 f) i n.1)))
       (λ f. splits (b == 47 && not (is_some s.here)) footer (in_tag t b) (λ i h. calm footer.state (open_calm_in mode.Footer) h)
       (λ i. splits (b == 62 && not (is_some s.lexical.quote)) (tag_closes (whole items)) more
       (λ j h. let is = eqb-true b 62 (and_parts (b == 62) (not (is_some s.lexical.quote)) j).0 in
       let token_is : s.token ++ b ∷ [] ≡ codes "<>" = ap (λ l. l ++ b ∷ []) one ∙ ap (λ d. 60 ∷ d ∷ []) is in
-      let n = told s.places.token_at why.NotWellFormed at w (sym (nothing_closes (whole items) (is_some s.here) refl token_is) ∙ h) in
+      let n = told s.positions.token_at why.NotWellFormed at w (sym (nothing_closes (whole items) (is_some s.here) refl token_is) ∙ h) in
       (n.0, no_name s b w is n.1))
       (λ j h. calm more.state refl h))))
 
@@ -307,10 +307,10 @@ module _ (s : State) (b at : ℕ) (w : Why) (none : s.fault ≡ None) where
   run_held : r.pending ≡ s.pending
   run_held = cond_both s.lexical.in_run c (run_begun c) (λ (v : State). v.pending ≡ s.pending) (λ e. refl) (λ e. refl)
 
-  run_place : r.places.token_at ≡ (if not s.lexical.in_run then s.places.at else s.places.token_at)
-  run_place = placed s.lexical.in_run
+  run_position : r.positions.token_at ≡ (if not s.lexical.in_run then s.positions.at else s.positions.token_at)
+  run_position = placed s.lexical.in_run
     where
-      placed : (x : Bool) → (if x then c else run_begun c).places.token_at ≡ (if not x then s.places.at else s.places.token_at)
+      placed : (x : Bool) → (if x then c else run_begun c).positions.token_at ≡ (if not x then s.positions.at else s.positions.token_at)
       placed true = refl
       placed false = refl
 
@@ -321,16 +321,16 @@ module _ (s : State) (b at : ℕ) (w : Why) (none : s.fault ≡ None) where
   markup_calm : (markup_begun c).fault ≡ s.fault
   markup_calm =
       let t = token_begun c mode.Opening in
-      cond_both (is_some s.here) t (record t { places = record t.places { item_at = t.places.at; used = 1 } }) (λ (v : State). (gathered v 60).fault ≡ s.fault) (λ e. refl) (λ e. refl)
+      cond_both (is_some s.here) t (record t { positions = record t.positions { item_at = t.positions.at; used = 1 } }) (λ (v : State). (gathered v 60).fault ≡ s.fault) (λ e. refl) (λ e. refl)
 
   begun_calm : (character_begun r).fault ≡ s.fault
-  begun_calm = cond_both (is_empty r.pending) (record r { places = record r.places { item_at = r.places.at } }) r (λ (v : State). v.fault ≡ s.fault) (λ e. run_calm) (λ e. run_calm)
+  begun_calm = cond_both (is_empty r.pending) (record r { positions = record r.positions { item_at = r.positions.at } }) r (λ (v : State). v.fault ≡ s.fault) (λ e. run_calm) (λ e. run_calm)
 
   module _ (text : s.lexical.mode ≡ mode.Text) where
-    at_text : at ≡ r.places.token_at → at ≡ token_place s
-    at_text e = e ∙ (run_place ∙ sym (placed s.lexical.mode text))
+    at_text : at ≡ r.positions.token_at → at ≡ token_position s
+    at_text e = e ∙ (run_position ∙ sym (placed s.lexical.mode text))
       where
-        placed : (m : Mode) → m ≡ mode.Text → (if is_text m && not s.lexical.in_run then s.places.at else s.places.token_at) ≡ (if not s.lexical.in_run then s.places.at else s.places.token_at)
+        placed : (m : Mode) → m ≡ mode.Text → (if is_text m && not s.lexical.in_run then s.positions.at else s.positions.token_at) ≡ (if not s.lexical.in_run then s.positions.at else s.positions.token_at)
         placed m is = rw is refl
 
     inside_text_row : is_some s.here ≡ true → Found (inside c b) → TextRow s b at w
@@ -343,7 +343,7 @@ module _ (s : State) (b at : ℕ) (w : Why) (none : s.fault ≡ None) where
         (λ f. split (ends_character s.pending b) (judged_text r b) r
         (λ i. split (is_forbidden r b || ends_section r b) fault (character_taken r b)
         (λ j h.
-        let n = told r.places.token_at why.NotWellFormed at w h in
+        let n = told r.positions.token_at why.NotWellFormed at w h in
         ⊎_elim
         (λ (k : is_forbidden r b ≡ true).
         let same : is_forbidden s b ≡ true = ap (λ l. ends_forbidden_character l b) (sym run_held) ∙ k in
@@ -356,12 +356,12 @@ module _ (s : State) (b at : ℕ) (w : Why) (none : s.fault ≡ None) where
     outside_text_row : is_some s.here ≡ false → Found (between c b) → TextRow s b at w
     unfolding between text_outside
     outside_text_row outer =
-        let fault = fails c s.places.at why.NotWellFormed in
+        let fault = fails c s.positions.at why.NotWellFormed in
         split (b == 60) (markup_begun c) (if b == 38 then fault else text_outside c b) (λ e h. calm (markup_begun c) markup_calm h)
-        (λ e. split (b == 38) fault (text_outside c b) (λ f h. let n = told s.places.at why.NotWellFormed at w h in reference_outside s b at w outer (eqb-true b 38 f) n.0 n.1)
+        (λ e. split (b == 38) fault (text_outside c b) (λ f h. let n = told s.positions.at why.NotWellFormed at w h in reference_outside s b at w outer (eqb-true b 38 f) n.0 n.1)
         (λ f. split (ends_character s.pending b) (judged_outside r b) (character_begun r)
         (λ i. split (is_white b) r (token_fails r why.NotWellFormed) (λ j h. calm r run_calm h)
-        (λ j h. let n = told r.places.token_at why.NotWellFormed at w h in rows.text_outside s b at w outer (eqb-false b 60 e) (eqb-false b 38 f) i j (at_text n.0) n.1))
+        (λ j h. let n = told r.positions.token_at why.NotWellFormed at w h in rows.text_outside s b at w outer (eqb-false b 60 e) (eqb-false b 38 f) i j (at_text n.0) n.1))
         (λ i h. calm (character_begun r) begun_calm h)))
 
     text_row : Found (in_text c b) → TextRow s b at w
@@ -386,12 +386,12 @@ pub decides_row : (t : Turn) (b at : ℕ) (w : Why) → t.state.fault ≡ None �
     → Decides t b at w → Row t.state b at w
 decides_row t b at w none alone d =
     let s = t.state in
-    ⊎_elim (λ (far : is_too_long s b ≡ true). let n = told s.places.item_at why.TooLong at w (sym (long t b none far) ∙ d) in too_long s b at w none far n.0 n.1)
+    ⊎_elim (λ (far : is_too_long s b ≡ true). let n = told s.positions.item_at why.TooLong at w (sym (long t b none far) ∙ d) in too_long s b at w none far n.0 n.1)
     (λ (near : is_too_long s b ≡ false).
     ⊎_elim
     (λ (good : continues s.pending b ≡ true).
     let k : Takes s s.lexical.mode b = record { no_fault = none; mode_is = refl; short = near; is_text = good } in
     by_mode s b at w none s.lexical.mode t.items k alone (ap (λ (u : Turn). u.state.fault) (sym (goes t s.lexical.mode b k)) ∙ d))
-    (λ (bad : continues s.pending b ≡ false). let n = told (token_place s) why.Encoding at w (sym (broken t b none near bad) ∙ d) in no_utf8 s b at w none near bad n.0 n.1)
+    (λ (bad : continues s.pending b ≡ false). let n = told (token_position s) why.Encoding at w (sym (broken t b none near bad) ∙ d) in no_utf8 s b at w none near bad n.0 n.1)
     (cases_Bool (continues s.pending b)))
     (cases_Bool (is_too_long s b))

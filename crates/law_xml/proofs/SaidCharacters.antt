@@ -9,15 +9,15 @@ use Rattle.std.specs.Option.{option_and_then}
 use Rattle.std.specs.Str.{IsUtf8, chars, is_utf8}
 use lib.Utf8.{encode}
 use Rattle.xml_tokens.proofs.CharacterLaws.{characters_are_those}
-use Rattle.xml_tokens.proofs.Splits.{behind-append, front-append}
+use Rattle.xml_tokens.proofs.Splits.{following-append, front-append}
 use Rattle.xml_tokens.proofs.Utf8Runs.{runs_are_text, text_runs}
 use Rattle.xml_tokens.proofs.ValueSpellings.{said_is_text}
 use Rattle.xml_tokens.proofs.ValueTexts.{Runs, ascii_step, begins_anew, leads, legal_scalar, reference_names, runs_append}
-use Rattle.xml_tokens.specs.Characters.{are_characters, are_characters_behind, ends_forbidden, is_character, is_white}
-use Rattle.xml_tokens.specs.Fronts.{front, behind}
-use Rattle.xml_tokens.specs.Lines.{IsCharacters, line_ends, line_ends_behind}
+use Rattle.xml_tokens.specs.Characters.{are_characters, are_characters_after, ends_forbidden, is_character, is_white}
+use Rattle.xml_tokens.specs.Fronts.{front, following}
+use Rattle.xml_tokens.specs.Lines.{IsCharacters, line_ends, line_ends_after}
 use Rattle.xml_tokens.specs.References.{referred}
-use Rattle.xml_tokens.specs.Tags.{has_parts, is_behind_colon, is_qualified}
+use Rattle.xml_tokens.specs.Tags.{has_parts, is_after_colon, is_qualified}
 use Rattle.xml_tokens.specs.Characters.{is_name, is_named}
 use Rattle.xml_tokens.specs.Utf8.{is_lead, utf8_next, utf8_run}
 use Rattle.xml_tokens.specs.ValueGrammar.{IsValue, SpellsValue, data_alone, with_reference, spaces}
@@ -38,7 +38,7 @@ record Forgets (b : ℕ) : Type 0 where
 low_forgets : (b : ℕ) → b < 128 → Forgets b
 low_forgets b low = record { no_first = grind (arith, nat_tests); no_second = grind (arith, nat_tests) }
 
-first_forgotten : (c x : ℕ) (xs : List ℕ) → eqb c 239 ≡ false → are_characters_behind c x xs ≡ are_characters_behind 0 x xs
+first_forgotten : (c x : ℕ) (xs : List ℕ) → eqb c 239 ≡ false → are_characters_after c x xs ≡ are_characters_after 0 x xs
 first_forgotten c x [] h = refl
 first_forgotten c x (y ∷ ys) h = rw h refl
 
@@ -48,14 +48,14 @@ quiet a c x k = let e : (eqb a 239 && eqb c 191) ≡ false = rw k (and-false (eq
 both_same : (p q r s : Bool) → p ≡ q → r ≡ s → (p && r) ≡ (q && s)
 both_same p q r s e f = rw (e, f) refl
 
-forgotten : (a c : ℕ) (xs : List ℕ) → Forgets c → are_characters_behind a c xs ≡ are_characters_behind 0 0 xs
+forgotten : (a c : ℕ) (xs : List ℕ) → Forgets c → are_characters_after a c xs ≡ are_characters_after 0 0 xs
 forgotten a c [] h = refl
 forgotten a c (x ∷ xs) h =
-    both_same (not (ends_forbidden a c x)) (not (ends_forbidden 0 0 x)) (are_characters_behind c x xs) (are_characters_behind 0 x xs)
+    both_same (not (ends_forbidden a c x)) (not (ends_forbidden 0 0 x)) (are_characters_after c x xs) (are_characters_after 0 x xs)
     (ap not (quiet a c x h.no_second)) (first_forgotten c x xs h.no_first)
 
 -- the same after any two bytes that are forgotten
-same_after : (a c u v : ℕ) (xs : List ℕ) → Forgets c → Forgets v → are_characters_behind a c xs ≡ are_characters_behind u v xs
+same_after : (a c u v : ℕ) (xs : List ℕ) → Forgets c → Forgets v → are_characters_after a c xs ≡ are_characters_after u v xs
 same_after a c u v xs h k = forgotten a c xs h ∙ sym (forgotten u v xs k)
 
 -- ---- where a character begins
@@ -82,23 +82,23 @@ no_second b (inr high) = grind (arith, nat_tests)
 second_quiet : (a u b x : ℕ) → eqb b 191 ≡ false → ends_forbidden a b x ≡ ends_forbidden u b x
 second_quiet a u b x k = quiet a b x k ∙ sym (quiet u b x k)
 
-second_anew : (c u b : ℕ) (xs : List ℕ) → eqb b 191 ≡ false → are_characters_behind c b xs ≡ are_characters_behind u b xs
+second_anew : (c u b : ℕ) (xs : List ℕ) → eqb b 191 ≡ false → are_characters_after c b xs ≡ are_characters_after u b xs
 second_anew c u b [] k = refl
-second_anew c u b (x ∷ xs) k = ap (λ t. not t && are_characters_behind b x xs) (second_quiet c u b x k)
+second_anew c u b (x ∷ xs) k = ap (λ t. not t && are_characters_after b x xs) (second_quiet c u b x k)
 
 -- a whole text may stand after anything
-anew : (a c : ℕ) (bs : List ℕ) → Runs [] bs → are_characters_behind a c bs ≡ are_characters_behind 0 0 bs
+anew : (a c : ℕ) (bs : List ℕ) → Runs [] bs → are_characters_after a c bs ≡ are_characters_after 0 0 bs
 anew a c [] h = refl
 anew a c (b ∷ bs) h =
     let l = leads [] b bs h in
     let starts = begins_low b [] l.next refl l.is in
-    both_same (not (ends_forbidden a c b)) (not (ends_forbidden 0 0 b)) (are_characters_behind c b bs) (are_characters_behind 0 b bs) (ap not (no_third a c b starts)) (second_anew c 0 b bs (no_second b starts))
+    both_same (not (ends_forbidden a c b)) (not (ends_forbidden 0 0 b)) (are_characters_after c b bs) (are_characters_after 0 b bs) (ap not (no_third a c b starts)) (second_anew c 0 b bs (no_second b starts))
 
 -- ---- whole texts of XML's characters
 
 pub record Whole (bs : List ℕ) : Type 0 where
   pub runs : Runs [] bs
-  pub characters : are_characters_behind 0 0 bs ≡ true
+  pub characters : are_characters_after 0 0 bs ≡ true
 
 pub whole_of : (bs : List ℕ) → IsCharacters bs → Whole bs
 unfolding are_characters
@@ -108,7 +108,7 @@ pub from_whole : (bs : List ℕ) → Whole bs → IsCharacters bs
 unfolding are_characters
 from_whole bs h = record { utf8 = runs_are_text [] bs tt h.runs; characters = h.characters }
 
-append_characters : (a c : ℕ) (xs ys : List ℕ) → are_characters_behind a c xs ≡ true → Whole ys → are_characters_behind a c (xs ++ ys) ≡ true
+append_characters : (a c : ℕ) (xs ys : List ℕ) → are_characters_after a c xs ≡ true → Whole ys → are_characters_after a c (xs ++ ys) ≡ true
 append_characters a c [] ys h k = anew a c ys k.runs ∙ k.characters
 append_characters a c (x ∷ xs) ys h k = let f = first_allowed a c x xs h in rw f.0 (append_characters c x xs ys f.1 k)
 
@@ -154,14 +154,14 @@ whole_parts b xs ys low h =
 
 -- ---- line ends and spaces
 
-lines_run : (bs : List ℕ) (returned : Bool) (held : List ℕ) → Runs held bs → Runs held (line_ends_behind returned bs)
+lines_run : (bs : List ℕ) (returned : Bool) (held : List ℕ) → Runs held bs → Runs held (line_ends_after returned bs)
 lines_run [] returned held h = h
 lines_run (b ∷ bs) returned held h =
     ⊎_elim
     (λ (n13 : eqb b 13 ≡ true).
     let low : b < 128 = grind (arith, nat_tests) in
     let a = ascii_stands b held bs low h in
-    rw (n13, a.nothing) (ascii_step 10 (line_ends_behind true bs) (omega arith) ∙ lines_run bs true [] a.goes))
+    rw (n13, a.nothing) (ascii_step 10 (line_ends_after true bs) (omega arith) ∙ lines_run bs true [] a.goes))
     (λ (n13 : eqb b 13 ≡ false).
     ⊎_elim
     (λ (joins : (returned && eqb b 10) ≡ true).
@@ -171,14 +171,14 @@ lines_run (b ∷ bs) returned held h =
     rw (n13, joins, a.nothing) (lines_run bs false [] a.goes))
     (λ (unjoined : (returned && eqb b 10) ≡ false).
     let l = leads held b bs h in
-    rw (n13, unjoined) (ap (option_and_then (λ next. utf8_run next (line_ends_behind false bs))) l.is ∙ lines_run bs false l.next l.goes))
+    rw (n13, unjoined) (ap (option_and_then (λ next. utf8_run next (line_ends_after false bs))) l.is ∙ lines_run bs false l.next l.goes))
     (cases_Bool (returned && eqb b 10)))
     (cases_Bool (eqb b 13))
 
 feed_allowed : (a c : ℕ) → ends_forbidden a c 10 ≡ false
 feed_allowed a c = and-false (eqb a 239 && eqb c 191)
 
-lines_characters : (bs : List ℕ) (returned : Bool) (a c : ℕ) → (returned ≡ true → Forgets c) → are_characters_behind a c bs ≡ true → are_characters_behind a c (line_ends_behind returned bs) ≡ true
+lines_characters : (bs : List ℕ) (returned : Bool) (a c : ℕ) → (returned ≡ true → Forgets c) → are_characters_after a c bs ≡ true → are_characters_after a c (line_ends_after returned bs) ≡ true
 lines_characters [] returned a c low h = refl
 lines_characters (b ∷ bs) returned a c low h =
     let f = first_allowed a c b bs h in
@@ -187,7 +187,7 @@ lines_characters (b ∷ bs) returned a c low h =
     let is13 : b ≡ 13 = eqb-true b 13 n13 in
     let forgets = low_forgets b (omega (arith, is13)) in
     let ih = lines_characters bs true c b (λ t. forgets) f.1 in
-    rw (n13, feed_allowed a c) (same_after c 10 c b (line_ends_behind true bs) (low_forgets 10 (omega arith)) forgets ∙ ih))
+    rw (n13, feed_allowed a c) (same_after c 10 c b (line_ends_after true bs) (low_forgets 10 (omega arith)) forgets ∙ ih))
     (λ (n13 : eqb b 13 ≡ false).
     ⊎_elim
     (λ (joins : (returned && eqb b 10) ≡ true).
@@ -195,7 +195,7 @@ lines_characters (b ∷ bs) returned a c low h =
     let is10 : b ≡ 10 = eqb-true b 10 p.1 in
     let forgets = low_forgets b (omega (arith, is10)) in
     let ih = lines_characters bs false c b (λ t. forgets) f.1 in
-    rw (n13, joins) (same_after a c c b (line_ends_behind false bs) (low p.0) forgets ∙ ih))
+    rw (n13, joins) (same_after a c c b (line_ends_after false bs) (low p.0) forgets ∙ ih))
     (λ (unjoined : (returned && eqb b 10) ≡ false).
     rw (n13, unjoined, f.0) (lines_characters bs false c b (λ t. absurd cc) f.1))
     (cases_Bool (returned && eqb b 10)))
@@ -207,7 +207,7 @@ whole_lines bs h = record { runs = lines_run bs false [] h.runs; characters = li
 space_allowed : (a c : ℕ) → ends_forbidden a c 32 ≡ false
 space_allowed a c = and-false (eqb a 239 && eqb c 191)
 
-spaces_characters : (bs : List ℕ) (a c : ℕ) → are_characters_behind a c bs ≡ true → are_characters_behind a c (spaces bs) ≡ true
+spaces_characters : (bs : List ℕ) (a c : ℕ) → are_characters_after a c bs ≡ true → are_characters_after a c (spaces bs) ≡ true
 spaces_characters [] a c h = refl
 spaces_characters (b ∷ bs) a c h =
     let f = first_allowed a c b bs h in
@@ -252,13 +252,13 @@ text_whole bytes says (texts.with_section _ _ plain inside rest more data_is no_
 pub text_says_characters : (bytes says : List ℕ) → IsText bytes says → IsCharacters says
 text_says_characters bytes says h = from_whole says (text_whole bytes says h.spelled (whole_of bytes h.characters))
 
-value_characters : (raw says : List ℕ) → SpellsValue raw says → Whole raw → are_characters_behind 0 0 says ≡ true
-value_characters raw says (data_alone _ _ plain is) h = subst (λ l. are_characters_behind 0 0 l ≡ true) (sym is) (spaces_characters (line_ends raw) 0 0 (whole_lines raw h).characters)
+value_characters : (raw says : List ℕ) → SpellsValue raw says → Whole raw → are_characters_after 0 0 says ≡ true
+value_characters raw says (data_alone _ _ plain is) h = subst (λ l. are_characters_after 0 0 l ≡ true) (sym is) (spaces_characters (line_ends raw) 0 0 (whole_lines raw h).characters)
 value_characters raw says (with_reference _ _ plain name rest more c data_is known spelled are is) h =
     let p = whole_parts 38 plain (name ++ (59 ∷ rest)) (omega arith) (subst Whole are h) in
     let q = whole_parts 59 name rest (omega arith) p.second in
     let said : Whole more = record { runs = text_runs more (said_is_text rest more spelled (from_whole rest q.second).utf8); characters = value_characters rest more spelled q.second } in
-    subst (λ l. are_characters_behind 0 0 l ≡ true) (sym is)
+    subst (λ l. are_characters_after 0 0 l ≡ true) (sym is)
     (append_characters 0 0 (spaces (line_ends plain)) (encode_utf8 c ++ more) (spaces_characters (line_ends plain) 0 0 (whole_lines plain p.first).characters)
     (whole_append (encode_utf8 c) more (referred_whole name c known) said))
 
@@ -278,12 +278,12 @@ pub local_is_plain : (name prefix local : List ℕ) → is_qualified name ≡ tr
 unfolding is_qualified
 local_is_plain name prefix local q (inl (is, uncolon)) =
     let p = and_parts (has_parts name) (is_utf8 name) q in
-    let parts = and_parts (is_name (front uncolonned name)) (is_behind_colon (behind uncolonned name)) p.0 in
-    let after : behind uncolonned name ≡ 58 ∷ local = ap (behind uncolonned) is ∙ behind-append uncolonned prefix (58 ∷ local) uncolon refl in
+    let parts = and_parts (is_name (front uncolonned name)) (is_after_colon (following uncolonned name)) p.0 in
+    let after : following uncolonned name ≡ 58 ∷ local = ap (following uncolonned) is ∙ following-append uncolonned prefix (58 ∷ local) uncolon refl in
     let runs = run_parts 58 prefix local [] (omega arith) (ap (utf8_run []) (sym is) ∙ text_runs name (IsUtf8-from_is_utf8 name p.1)) in
-    plain_from local (sym (ap is_behind_colon after) ∙ parts.1) (runs_are_text [] local tt runs.second)
+    plain_from local (sym (ap is_after_colon after) ∙ parts.1) (runs_are_text [] local tt runs.second)
 local_is_plain name prefix local q (inr (is, none, uncolon)) =
     let p = and_parts (has_parts name) (is_utf8 name) q in
-    let parts = and_parts (is_name (front uncolonned name)) (is_behind_colon (behind uncolonned name)) p.0 in
+    let parts = and_parts (is_name (front uncolonned name)) (is_after_colon (following uncolonned name)) p.0 in
     let all : front uncolonned name ≡ local = ap (front uncolonned) (is ∙ sym (append-nil local)) ∙ front-append uncolonned local [] uncolon refl in
     plain_from local (sym (ap is_name all) ∙ parts.0) (subst IsUtf8 is (IsUtf8-from_is_utf8 name p.1))

@@ -7,7 +7,7 @@ use Rattle.law_xml.proofs.SpelledTexts.{alone}
 use Rattle.law_xml.proofs.TextBytes.{Reads, brackets_same, says}
 use Rattle.xml_framer.specs.Machine.{passed}
 use Rattle.xml_framer.specs.States.{OpenElement, State, counted, token_ended, token_fails}
-use Rattle.xml_framer.specs.TextSteps.{bracket_taken, brackets_behind, ends_section, in_section, is_forbidden, judged_section, kept_back, other_taken, section_taken}
+use Rattle.xml_framer.specs.TextSteps.{bracket_taken, brackets_after, ends_section, in_section, is_forbidden, judged_section, kept_back, other_taken, section_taken}
 use Rattle.xml_framer.specs.declared.fault.Why.TheVariants.{NotWellFormed}
 use Rattle.xml_framer.specs.declared.states.Mode.TheVariants as mode
 
@@ -17,22 +17,22 @@ so_far s = s.chars ++ kept_back s.lexical.brackets
 
 -- behind a byte that ends a character
 pub record SectionByte (s u : State) (o : OpenElement) (c n b : ℕ) : Type 0 where
-  pub reads : Reads u mode.Section o c b (brackets_behind n b) (eqb b 13)
+  pub reads : Reads u mode.Section o c b (brackets_after n b) (eqb b 13)
   pub kept : Kept s u 1
   pub few : u.lexical.brackets ≤ 2
-  pub counts : u.lexical.brackets ≡ brackets_behind s.lexical.brackets b
+  pub counts : u.lexical.brackets ≡ brackets_after s.lexical.brackets b
   pub text : so_far u ≡ so_far s ++ says s.lexical.returned s.pending b
   pub held : u.pending ≡ []
 
-few_behind : (m b : ℕ) → brackets_behind m b ≤ 2
-few_behind m b =
+few_after : (m b : ℕ) → brackets_after m b ≤ 2
+few_after m b =
     ⊎_elim (λ (bracket : eqb b 93 ≡ true). ⊎_elim (λ (none : eqb m 0 ≡ true). rw (bracket, none) (omega arith)) (λ (some : eqb m 0 ≡ false). rw (bracket, some) (omega arith)) (cases_Bool (eqb m 0)))
     (λ (other : eqb b 93 ≡ false). rw other (omega arith)) (cases_Bool (eqb b 93))
 
-kept_more : (m : ℕ) → m ≤ 2 → eqb m 2 ≡ false → kept_back (brackets_behind m 93) ≡ kept_back m ++ 93 ∷ []
+kept_more : (m : ℕ) → m ≤ 2 → eqb m 2 ≡ false → kept_back (brackets_after m 93) ≡ kept_back m ++ 93 ∷ []
 kept_more m few other =
-    ⊎_elim (λ (none : m < 1). let is : m ≡ 0 = omega arith in subst (λ k. kept_back (brackets_behind k 93) ≡ kept_back k ++ 93 ∷ []) (sym is) refl)
-    (λ (some : 1 ≤ m). ⊎_elim (λ (one : m < 2). let is : m ≡ 1 = omega arith in subst (λ k. kept_back (brackets_behind k 93) ≡ kept_back k ++ 93 ∷ []) (sym is) refl)
+    ⊎_elim (λ (none : m < 1). let is : m ≡ 0 = omega arith in subst (λ k. kept_back (brackets_after k 93) ≡ kept_back k ++ 93 ∷ []) (sym is) refl)
+    (λ (some : 1 ≤ m). ⊎_elim (λ (one : m < 2). let is : m ≡ 1 = omega arith in subst (λ k. kept_back (brackets_after k 93) ≡ kept_back k ++ 93 ∷ []) (sym is) refl)
     (λ (two : 2 ≤ m). let is : m ≡ 2 = omega arith in absurd (two_differs (sym (ap (λ k. eqb k 2) is) ∙ other))) (cases_lt m 2))
     (cases_lt m 1)
   where
@@ -49,7 +49,7 @@ abbrev third : State → State
 third s = record s { chars = s.chars ++ 93 ∷ []; lexical = record s.lexical { returned = false } }
 
 abbrev second : State → State
-second s = record s { lexical = record s.lexical { returned = false; brackets = brackets_behind s.lexical.brackets 93 } }
+second s = record s { lexical = record s.lexical { returned = false; brackets = brackets_after s.lexical.brackets 93 } }
 
 module _ (s : State) (o : OpenElement) (a c n : ℕ) (r : Bool) (h : Reads s mode.Section o a c n r) (few : s.lexical.brackets ≤ 2) where
   held_none : (b : ℕ) → utf8_next s.pending b ≡ Some [] → unwrap_or (utf8_next s.pending b) s.pending ≡ []
@@ -61,7 +61,7 @@ module _ (s : State) (o : OpenElement) (a c n : ℕ) (r : Bool) (h : Reads s mod
   third_is : eqb s.lexical.brackets 2 ≡ true → utf8_next s.pending 93 ≡ Some [] → SectionByte s (passed (third (counted s)) 93) o c n 93
   third_is two e =
       let is : s.lexical.brackets ≡ 2 = eqb-true s.lexical.brackets 2 two in
-      let same : s.lexical.brackets ≡ brackets_behind s.lexical.brackets 93 = is ∙ sym (ap (λ m. brackets_behind m 93) is) in
+      let same : s.lexical.brackets ≡ brackets_after s.lexical.brackets 93 = is ∙ sym (ap (λ m. brackets_after m 93) is) in
       let more : kept_back s.lexical.brackets ≡ 93 ∷ 93 ∷ [] = ap kept_back is in
       record {
         reads = record {
@@ -71,7 +71,7 @@ module _ (s : State) (o : OpenElement) (a c n : ℕ) (r : Bool) (h : Reads s mod
           no_token = h.no_token;
           no_quote = h.no_quote;
           not_spoiled = h.not_spoiled;
-          counted = one_more_low s.places.used;
+          counted = one_more_low s.positions.used;
           follows = rw e tt;
           brackets = λ none. same ∙ brackets_same s.pending [] 93 s.lexical.brackets n e h.brackets;
           returned = λ none. refl;
@@ -94,13 +94,13 @@ module _ (s : State) (o : OpenElement) (a c n : ℕ) (r : Bool) (h : Reads s mod
           no_token = h.no_token;
           no_quote = h.no_quote;
           not_spoiled = h.not_spoiled;
-          counted = one_more_low s.places.used;
+          counted = one_more_low s.positions.used;
           follows = rw e tt;
           brackets = λ none. brackets_same s.pending [] 93 s.lexical.brackets n e h.brackets;
           returned = λ none. refl;
         };
         kept = kept_one s (passed (second (counted s)) 93) (record { limits = refl; here = refl; below = refl; scopes = refl; name = refl; phase = refl; spent = refl }) refl refl;
-        few = few_behind s.lexical.brackets 93;
+        few = few_after s.lexical.brackets 93;
         counts = refl;
         text = ap (λ l. s.chars ++ l) (kept_more s.lexical.brackets few other) ∙ sym (append_assoc s.chars (kept_back s.lexical.brackets) (93 ∷ [])) ∙ ap (λ l. so_far s ++ l) (sym (says_bracket e));
         held = held_none 93 e;
@@ -108,7 +108,7 @@ module _ (s : State) (o : OpenElement) (a c n : ℕ) (r : Bool) (h : Reads s mod
 
   other_is : (b : ℕ) → eqb b 93 ≡ false → utf8_next s.pending b ≡ Some [] → SectionByte s (passed (other_taken (counted s) b) b) o c n b
   other_is b other e =
-      let none_kept : 0 ≡ brackets_behind s.lexical.brackets b = rw other refl in
+      let none_kept : 0 ≡ brackets_after s.lexical.brackets b = rw other refl in
       record {
         reads = record {
           no_fault = h.no_fault;
@@ -117,7 +117,7 @@ module _ (s : State) (o : OpenElement) (a c n : ℕ) (r : Bool) (h : Reads s mod
           no_token = h.no_token;
           no_quote = h.no_quote;
           not_spoiled = h.not_spoiled;
-          counted = one_more_low s.places.used;
+          counted = one_more_low s.positions.used;
           follows = rw e tt;
           brackets = λ none. none_kept ∙ brackets_same s.pending [] b s.lexical.brackets n e h.brackets;
           returned = λ none. refl;

@@ -3,7 +3,7 @@ use Rattle.std.proofs.Common.{◌≡◌, ℕ, ◌+◌, ◌≤◌, ⊎_elim, Bool
 use Rattle.std.proofs.lemmas.Bool.{and_parts, and_right, cases_Bool, cond-true, ltb-true, not-true, or_parts, true≢false}
 use Rattle.std.proofs.lemmas.List.{append_cancel_right}
 use Rattle.std.specs.Option.{is_some}
-use Rattle.xml_tokens.specs.Characters.{are_characters_behind}
+use Rattle.xml_tokens.specs.Characters.{are_characters_after}
 use Rattle.xml_tokens.specs.Utf8.{utf8_next, utf8_run}
 use Rattle.law_xml.proofs.ByteSteps.{Goes, InToken, Room, first_room, gathered_kept, goes_first, goes_none, goes_one, goes_then, in_token_more, kept_one, kept_room, one_more_low, takes}
 use Rattle.law_xml.proofs.DataRuns.{in_front}
@@ -13,14 +13,14 @@ use Rattle.law_xml.proofs.Quiet.{IsQuiet}
 use Rattle.law_xml.proofs.ReferenceRuns.{Fresh}
 use Rattle.law_xml.proofs.SectionBytes.{bracket_says, section_byte, section_ends, section_takes, section_waits, so_far}
 use Rattle.law_xml.proofs.SpelledTexts.{leads, one_some}
-use Rattle.law_xml.proofs.TextBytes.{Reads, ending_says, ends_it, ends_none, fine, going_kept, going_says, no_end, reads_going, says}
+use Rattle.law_xml.proofs.TextBytes.{Reads, bounded, ending_says, ends_it, ends_none, going_kept, going_says, no_end, reads_going, says}
 use Rattle.xml_framer.specs.Machine.{passed, step}
 use Rattle.xml_framer.specs.MarkupSteps.{in_bang, section_opened}
 use Rattle.xml_framer.specs.States.{OpenElement, State, counted, gathered, gathered_in, in_mode, moved, token_begun, token_ended, token_fails, turn}
 use Rattle.xml_framer.specs.TagSteps.{in_opening}
 use Rattle.law_xml.specs.Texts.{has_section_end}
-use Rattle.xml_tokens.specs.Lines.{line_ends, line_ends_behind}
-use Rattle.xml_framer.specs.TextSteps.{brackets_behind, in_text, inside, is_forbidden, kept_back, section_taken}
+use Rattle.xml_tokens.specs.Lines.{line_ends, line_ends_after}
+use Rattle.xml_framer.specs.TextSteps.{brackets_after, in_text, inside, is_forbidden, kept_back, section_taken}
 use Rattle.xml_framer.specs.declared.fault.Why.TheVariants as why
 use Rattle.xml_framer.specs.declared.items.Item.{Item}
 use Rattle.xml_framer.specs.declared.states.Mode.{Mode}
@@ -55,7 +55,7 @@ less_goes s items o q here room =
         no_quote = q.no_quote;
         not_spoiled = q.not_spoiled;
         chars_are = refl;
-        counted = one_more_low s.places.used;
+        counted = one_more_low s.positions.used;
       };
       brackets = refl;
       returned = refl;
@@ -63,7 +63,7 @@ less_goes s items o q here room =
 
 mark_is : (s : State) (items : List Item) (o : OpenElement) → s.here ≡ Some o → in_opening (turn s items) 33 ≡ turn (gathered (in_mode s mode.Bang) 33) items
 unfolding in_opening
-mark_is s items o here = ap (λ u. turn (gathered_in u mode.Bang 33) items) (cond-true (is_some s.here) s (record s { places = record s.places { used = 0 } }) (ap is_some here))
+mark_is s items o here = ap (λ u. turn (gathered_in u mode.Bang 33) items) (cond-true (is_some s.here) s (record s { positions = record s.positions { used = 0 } }) (ap is_some here))
 
 mark_goes : (s : State) (items : List Item) (o : OpenElement) (text : List ℕ) → Opens s mode.Opening (60 ∷ []) text → s.here ≡ Some o → Room s 1 → Goes s items (33 ∷ []) (λ t. Opens t mode.Bang (60 ∷ 33 ∷ []) text)
 mark_goes s items o text h here room =
@@ -83,7 +83,7 @@ mark_goes s items o text h here room =
         no_quote = i.no_quote;
         not_spoiled = i.not_spoiled;
         chars_are = i.chars_are;
-        counted = one_more_low s.places.used;
+        counted = one_more_low s.positions.used;
       };
       brackets = h.brackets;
       returned = h.returned;
@@ -149,7 +149,7 @@ bracket_goes s items o token text a c h eight here room =
           no_token = refl;
           no_quote = i.no_quote;
           not_spoiled = i.not_spoiled;
-          counted = one_more_low s.places.used;
+          counted = one_more_low s.positions.used;
           follows = subst (Follows a c) (sym held) tt;
           brackets = λ none. h.brackets;
           returned = λ none. h.returned;
@@ -198,47 +198,47 @@ reads_again s o a c n r h held = record {
 }
 
 abbrev SectionGoes : State → List Item → OpenElement → Bool → List ℕ → Type 0
-SectionGoes s items o r bs = Goes s items bs (λ t. Holds t o ((so_far s ++ s.pending) ++ line_ends_behind r bs))
+SectionGoes s items o r bs = Goes s items bs (λ t. Holds t o ((so_far s ++ s.pending) ++ line_ends_after r bs))
 
-abbrev SectionBehind : List Item → OpenElement → ℕ → ℕ → ℕ → Bool → List ℕ → List ℕ → Type 0
-SectionBehind items o a c n r bs held = (u : State) → Reads u mode.Section o a c n r → u.lexical.brackets ≤ 2 → Room u (length bs) → u.pending ≡ held → SectionGoes u items o r bs
+abbrev SectionAfter : List Item → OpenElement → ℕ → ℕ → ℕ → Bool → List ℕ → List ℕ → Type 0
+SectionAfter items o a c n r bs held = (u : State) → Reads u mode.Section o a c n r → u.lexical.brackets ≤ 2 → Room u (length bs) → u.pending ≡ held → SectionGoes u items o r bs
 
 module _ (s : State) (items : List Item) (o : OpenElement) (a c n b : ℕ) (r : Bool) (bs : List ℕ) (h : Reads s mode.Section o a c n r) (few : s.lexical.brackets ≤ 2) (room : Room s (length (b ∷ bs)))
-    (none : ends_within n (b ∷ bs) ≡ false) (all : are_characters_behind a c (b ∷ bs) ≡ true) where
-  section_ended : utf8_next s.pending b ≡ Some [] → SectionBehind items o c b (brackets_behind n b) (eqb b 13) bs [] → SectionGoes s items o r (b ∷ bs)
+    (none : ends_within n (b ∷ bs) ≡ false) (all : are_characters_after a c (b ∷ bs) ≡ true) where
+  section_ended : utf8_next s.pending b ≡ Some [] → SectionAfter items o c b (brackets_after n b) (eqb b 13) bs [] → SectionGoes s items o r (b ∷ bs)
   section_ended is more =
       let u : State = passed (section_taken (counted s) b) b in
       let w = section_byte s o a c n b r h few is in
       let stepped : step (turn s items) b ≡ turn u items =
       goes (turn s items) mode.Section b (takes s mode.Section b (length bs) [] h.no_fault h.mode_is room is)
-      ∙ ap (λ v. turn (passed v b) items) (section_takes (counted s) b (ends_it s b is) (fine s mode.Section o a c n b r bs h all) (no_end s mode.Section o a c n b r bs [] h is none)) in
-      let same : (so_far u ++ u.pending) ++ line_ends_behind (eqb b 13) bs ≡ (so_far s ++ s.pending) ++ line_ends_behind r (b ∷ bs) =
-      in_front (so_far u ++ u.pending) (so_far s) s.pending (says s.lexical.returned s.pending b) (line_ends_behind (eqb b 13) bs) (line_ends_behind r (b ∷ bs))
+      ∙ ap (λ v. turn (passed v b) items) (section_takes (counted s) b (ends_it s b is) (bounded s mode.Section o a c n b r bs h all) (no_end s mode.Section o a c n b r bs [] h is none)) in
+      let same : (so_far u ++ u.pending) ++ line_ends_after (eqb b 13) bs ≡ (so_far s ++ s.pending) ++ line_ends_after r (b ∷ bs) =
+      in_front (so_far u ++ u.pending) (so_far s) s.pending (says s.lexical.returned s.pending b) (line_ends_after (eqb b 13) bs) (line_ends_after r (b ∷ bs))
       (ap (λ l. so_far u ++ l) w.held ∙ append-nil (so_far u) ∙ w.text) (ending_says s.lexical.returned r s.pending b bs is h.returned) in
-      goes_first s u items b bs (λ t. Holds t o ((so_far s ++ s.pending) ++ line_ends_behind r (b ∷ bs))) stepped w.kept
+      goes_first s u items b bs (λ t. Holds t o ((so_far s ++ s.pending) ++ line_ends_after r (b ∷ bs))) stepped w.kept
       (subst (λ l. Goes u items bs (λ t. Holds t o l)) same
       (more u w.reads w.few (kept_room s u 1 (length bs) (length (b ∷ bs)) (omega arith) w.kept room) w.held))
 
-  section_going : (x : ℕ) (xs : List ℕ) → utf8_next s.pending b ≡ Some (x ∷ xs) → SectionBehind items o c b (brackets_behind n b) (eqb b 13) bs (x ∷ xs) → SectionGoes s items o r (b ∷ bs)
+  section_going : (x : ℕ) (xs : List ℕ) → utf8_next s.pending b ≡ Some (x ∷ xs) → SectionAfter items o c b (brackets_after n b) (eqb b 13) bs (x ∷ xs) → SectionGoes s items o r (b ∷ bs)
   section_going x xs is more =
       let u : State = passed (counted s) b in
       let held : u.pending ≡ x ∷ xs = ap (λ (l : Option (List ℕ)). unwrap_or l s.pending) is in
       let stepped : step (turn s items) b ≡ turn u items =
       goes (turn s items) mode.Section b (takes s mode.Section b (length bs) (x ∷ xs) h.no_fault h.mode_is room is)
       ∙ ap (λ v. turn (passed v b) items) (section_waits (counted s) b (ends_none s b x xs is)) in
-      let same : (so_far u ++ u.pending) ++ line_ends_behind (eqb b 13) bs ≡ (so_far s ++ s.pending) ++ line_ends_behind r (b ∷ bs) =
-      in_front (so_far u ++ u.pending) (so_far s) s.pending (x ∷ xs) (line_ends_behind (eqb b 13) bs) (line_ends_behind r (b ∷ bs))
+      let same : (so_far u ++ u.pending) ++ line_ends_after (eqb b 13) bs ≡ (so_far s ++ s.pending) ++ line_ends_after r (b ∷ bs) =
+      in_front (so_far u ++ u.pending) (so_far s) s.pending (x ∷ xs) (line_ends_after (eqb b 13) bs) (line_ends_after r (b ∷ bs))
       (ap (λ l. so_far u ++ l) held) (going_says r s.pending b x xs bs is) in
-      goes_first s u items b bs (λ t. Holds t o ((so_far s ++ s.pending) ++ line_ends_behind r (b ∷ bs))) stepped (going_kept s b)
+      goes_first s u items b bs (λ t. Holds t o ((so_far s ++ s.pending) ++ line_ends_after r (b ∷ bs))) stepped (going_kept s b)
       (subst (λ l. Goes u items bs (λ t. Holds t o l)) same
       (more u (reads_going s mode.Section o a c n b x r xs h is) few (kept_room s u 1 (length bs) (length (b ∷ bs)) (omega arith) (going_kept s b) room) held))
 
-  section_next : (next : List ℕ) → utf8_next s.pending b ≡ Some next → SectionBehind items o c b (brackets_behind n b) (eqb b 13) bs next → SectionGoes s items o r (b ∷ bs)
+  section_next : (next : List ℕ) → utf8_next s.pending b ≡ Some next → SectionAfter items o c b (brackets_after n b) (eqb b 13) bs next → SectionGoes s items o r (b ∷ bs)
   section_next [] is more = section_ended is more
   section_next (x ∷ xs) is more = section_going x xs is more
 
 inside_goes : (bs : List ℕ) (s : State) (items : List Item) (o : OpenElement) (a c n : ℕ) (r : Bool) → Reads s mode.Section o a c n r → s.lexical.brackets ≤ 2 → Room s (length bs)
-    → ends_within n bs ≡ false → are_characters_behind a c bs ≡ true → utf8_run s.pending bs ≡ Some [] → SectionGoes s items o r bs
+    → ends_within n bs ≡ false → are_characters_after a c bs ≡ true → utf8_run s.pending bs ≡ Some [] → SectionGoes s items o r bs
 inside_goes [] s items o a c n r h few room none all utf8 =
     let held : s.pending ≡ [] = one_some s.pending [] utf8 in
     goes_none s items (λ t. Holds t o ((so_far s ++ s.pending) ++ [])) (record {
@@ -249,9 +249,9 @@ inside_goes [] s items o a c n r h few room none all utf8 =
     })
 inside_goes (b ∷ bs) s items o a c n r h few room none all utf8 =
     let l = leads (utf8_next s.pending b) (λ next. utf8_run next bs) utf8 in
-    let q = or_parts (eqb n 2 && eqb b 62) (ends_within (brackets_behind n b) bs) none in
+    let q = or_parts (eqb n 2 && eqb b 62) (ends_within (brackets_after n b) bs) none in
     section_next s items o a c n b r bs h few room none all l.next l.is
-    (λ u reads fits within held. inside_goes bs u items o c b (brackets_behind n b) (eqb b 13) reads fits within q.1 (first_allowed a c b bs all).1 (ap (λ g. utf8_run g bs) held ∙ l.goes))
+    (λ u reads fits within held. inside_goes bs u items o c b (brackets_after n b) (eqb b 13) reads fits within q.1 (first_allowed a c b bs all).1 (ap (λ g. utf8_run g bs) held ∙ l.goes))
 
 -- ---- its end
 
@@ -262,7 +262,7 @@ says_there : (q : Bool) (held : List ℕ) → held ≡ [] → says q held 93 ≡
 says_there q held none = ap (λ l. says q l 93) none ∙ bracket_says q
 
 -- a `]` behind what the section holds so far
-closing_goes : (s : State) (items : List Item) (o : OpenElement) (text : List ℕ) → Holds s o text → Room s 1 → Goes s items (93 ∷ []) (λ t. Holds t o (text ++ 93 ∷ []) × (t.lexical.brackets ≡ brackets_behind s.lexical.brackets 93))
+closing_goes : (s : State) (items : List Item) (o : OpenElement) (text : List ℕ) → Holds s o text → Room s 1 → Goes s items (93 ∷ []) (λ t. Holds t o (text ++ 93 ∷ []) × (t.lexical.brackets ≡ brackets_after s.lexical.brackets 93))
 closing_goes s items o text h room =
     let i = h.reads in
     let is : utf8_next s.pending 93 ≡ Some [] = ap (λ x. utf8_next x 93) h.held ∙ low_next 93 (omega arith) in
@@ -271,15 +271,15 @@ closing_goes s items o text h room =
     let stepped : step (turn s items) 93 ≡ turn u items =
     goes (turn s items) mode.Section 93 (takes s mode.Section 93 0 [] i.no_fault i.mode_is room is)
     ∙ ap (λ v. turn (passed v 93) items) (section_takes (counted s) 93 (ends_it s 93 is) (allowed_here s 93 h.held) (and_right (eqb s.lexical.brackets 2) false refl)) in
-    goes_one s u items 93 (λ t. Holds t o (text ++ 93 ∷ []) × (t.lexical.brackets ≡ brackets_behind s.lexical.brackets 93)) stepped w.kept (
-      record { reads = reads_again u o 0 93 (brackets_behind s.lexical.brackets 93) false w.reads w.held; few = w.few; held = w.held; text_is = w.text ∙ ap (λ l. so_far s ++ l) (says_there s.lexical.returned s.pending h.held) ∙ ap (λ l. l ++ 93 ∷ []) h.text_is },
+    goes_one s u items 93 (λ t. Holds t o (text ++ 93 ∷ []) × (t.lexical.brackets ≡ brackets_after s.lexical.brackets 93)) stepped w.kept (
+      record { reads = reads_again u o 0 93 (brackets_after s.lexical.brackets 93) false w.reads w.held; few = w.few; held = w.held; text_is = w.text ∙ ap (λ l. so_far s ++ l) (says_there s.lexical.returned s.pending h.held) ∙ ap (λ l. l ++ 93 ∷ []) h.text_is },
       w.counts,
     )
 
-two_behind : (m n : ℕ) → n ≡ brackets_behind m 93 → brackets_behind n 93 ≡ 2
-two_behind m n e =
-    ap (λ k. brackets_behind k 93) e
-    ∙ ⊎_elim (λ (none : eqb m 0 ≡ true). ap (λ x. brackets_behind (cond x 1 2) 93) none) (λ (some : eqb m 0 ≡ false). ap (λ x. brackets_behind (cond x 1 2) 93) some) (cases_Bool (eqb m 0))
+two_after : (m n : ℕ) → n ≡ brackets_after m 93 → brackets_after n 93 ≡ 2
+two_after m n e =
+    ap (λ k. brackets_after k 93) e
+    ∙ ⊎_elim (λ (none : eqb m 0 ≡ true). ap (λ x. brackets_after (cond x 1 2) 93) none) (λ (some : eqb m 0 ≡ false). ap (λ x. brackets_after (cond x 1 2) 93) some) (cases_Bool (eqb m 0))
 
 greater_goes : (s : State) (items : List Item) (o : OpenElement) (text : List ℕ) → Holds s o ((text ++ 93 ∷ []) ++ 93 ∷ []) → s.lexical.brackets ≡ 2 → Room s 1 → Goes s items (62 ∷ []) (λ t. Fresh t text)
 greater_goes s items o text h two room =
@@ -300,7 +300,7 @@ greater_goes s items o text h two room =
           no_pending = ap (λ (l : Option (List ℕ)). unwrap_or l s.pending) is;
           no_quote = refl;
           not_spoiled = refl;
-          counted = one_more_low s.places.used;
+          counted = one_more_low s.positions.used;
           uncounted = λ none. absurd (true≢false (sym (ap is_some i.here) ∙ none));
         };
         no_run = refl;
@@ -311,15 +311,15 @@ greater_goes s items o text h two room =
 -- `]]>` behind what the section holds
 ending_goes : (s : State) (items : List Item) (o : OpenElement) (text : List ℕ) → Holds s o text → Room s 3 → Goes s items (codes "]]>") (λ t. Fresh t text)
 ending_goes s items o text h room =
-    goes_then s items (93 ∷ []) (93 ∷ 62 ∷ []) (λ t. Holds t o (text ++ 93 ∷ []) × (t.lexical.brackets ≡ brackets_behind s.lexical.brackets 93)) (λ t. Fresh t text) (closing_goes s items o text h (first_room s 1 2 room))
+    goes_then s items (93 ∷ []) (93 ∷ 62 ∷ []) (λ t. Holds t o (text ++ 93 ∷ []) × (t.lexical.brackets ≡ brackets_after s.lexical.brackets 93)) (λ t. Fresh t text) (closing_goes s items o text h (first_room s 1 2 room))
     (λ t kept first.
     let left : Room t 2 = kept_room s t 1 2 3 refl kept room in
-    goes_then t items (93 ∷ []) (62 ∷ []) (λ u. Holds u o ((text ++ 93 ∷ []) ++ 93 ∷ []) × (u.lexical.brackets ≡ brackets_behind t.lexical.brackets 93)) (λ u. Fresh u text) (closing_goes t items o (text ++ 93 ∷ []) first.0 (first_room t 1 1 left))
-    (λ u kept_u second. greater_goes u items o text second.0 (second.1 ∙ two_behind s.lexical.brackets t.lexical.brackets first.1) (kept_room t u 1 1 2 refl kept_u left)))
+    goes_then t items (93 ∷ []) (62 ∷ []) (λ u. Holds u o ((text ++ 93 ∷ []) ++ 93 ∷ []) × (u.lexical.brackets ≡ brackets_after t.lexical.brackets 93)) (λ u. Fresh u text) (closing_goes t items o (text ++ 93 ∷ []) first.0 (first_room t 1 1 left))
+    (λ u kept_u second. greater_goes u items o text second.0 (second.1 ∙ two_after s.lexical.brackets t.lexical.brackets first.1) (kept_room t u 1 1 2 refl kept_u left)))
 
 -- a CDATA section in an element, from its `<` to its `>`
 pub section_runs : (s : State) (items : List Item) (o : OpenElement) (a c : ℕ) (held : List ℕ) → IsQuiet s → s.here ≡ Some o → Room s (length (codes "<![CDATA[" ++ (held ++ codes "]]>"))) → has_section_end held ≡ false
-    → are_characters_behind a c held ≡ true → utf8_run [] held ≡ Some [] → Goes s items (codes "<![CDATA[" ++ (held ++ codes "]]>")) (λ t. Fresh t (s.chars ++ line_ends held))
+    → are_characters_after a c held ≡ true → utf8_run [] held ≡ Some [] → Goes s items (codes "<![CDATA[" ++ (held ++ codes "]]>")) (λ t. Fresh t (s.chars ++ line_ends held))
 section_runs s items o a c held q here room none all utf8 =
     let count : length (codes "<![CDATA[" ++ (held ++ codes "]]>")) ≡ 9 + (length held + 3) = omega (arith, length-append held (codes "]]>")) in
     let fits : Room s (9 + (length held + 3)) = subst (Room s) count room in

@@ -75,15 +75,15 @@ by_attributes P done none xml foreign n (a ∷ more) =
 
 -- ---- each can be read
 
-pub record Fine (a : tokens.Attribute) : Type 0 where
+pub record Bounded (a : tokens.Attribute) : Type 0 where
   pub name : is_qualified a.name ≡ true
   pub value : IsCharacters a.value
 
 abbrev pub ArePlain : List Attribute → Type 0
 ArePlain attrs = AllByRecursion IsPlainAttribute attrs
 
-pub all_fine : (n : ℕ) (attrs : List Attribute) → ArePlain attrs → AllByRecursion Fine (spelled_attributes n attrs)
-all_fine n attrs = by_attributes (λ n attrs xs. ArePlain attrs → AllByRecursion Fine xs)
+pub all_bounded : (n : ℕ) (attrs : List Attribute) → ArePlain attrs → AllByRecursion Bounded (spelled_attributes n attrs)
+all_bounded n attrs = by_attributes (λ n attrs xs. ArePlain attrs → AllByRecursion Bounded xs)
     (λ n h. tt)
     (λ n a more xs e ih h. (record { name = name_qualified a.name h.0.name; value = h.0.value }, ih h.1))
     (λ n a more xs e ih h. (record { name = prefixed_qualified (codes "xml") a.name xml_plain h.0.name; value = h.0.value }, ih h.1))

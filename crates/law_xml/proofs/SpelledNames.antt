@@ -11,10 +11,10 @@ use Rattle.std.specs.Int.Digits.{digits_of, AllBelowBase}
 use Rattle.std.specs.List.{AllByRecursion}
 use Rattle.std.specs.Str.{IsUtf8, is_utf8, chars}
 use lib.Utf8.{encode}
-use Rattle.xml_tokens.proofs.Splits.{front-append, behind-append}
-use Rattle.xml_tokens.specs.Characters.{is_name, is_named, is_name_byte, is_name_start, go_on, is_control, ends_forbidden, are_characters, are_characters_behind}
-use Rattle.xml_tokens.specs.Fronts.{front, behind}
-use Rattle.xml_tokens.specs.Tags.{is_qualified, is_behind_colon}
+use Rattle.xml_tokens.proofs.Splits.{front-append, following-append}
+use Rattle.xml_tokens.specs.Characters.{is_name, is_named, is_name_byte, is_name_start, go_on, is_control, ends_forbidden, are_characters, are_characters_after}
+use Rattle.xml_tokens.specs.Fronts.{front, following}
+use Rattle.xml_tokens.specs.Tags.{is_qualified, is_after_colon}
 use Rattle.xml_names.proofs.NameLaws.{parts_of}
 use Rattle.xml_names.specs.Names.{IsName, no_colon, prefix_of, local_of}
 use Rattle.xml_writer.specs.Canon.{number_text}
@@ -40,8 +40,8 @@ unfolding is_qualified
 name_qualified name h =
     let plain = name_no_colon name h.is_name in
     let f : front (λ b. not (eqb b 58)) name ≡ name = ap (front (λ b. not (eqb b 58))) (sym (append-nil name)) ∙ front-append (λ b. not (eqb b 58)) name [] plain refl in
-    let b : behind (λ b. not (eqb b 58)) name ≡ [] = ap (behind (λ b. not (eqb b 58))) (sym (append-nil name)) ∙ behind-append (λ b. not (eqb b 58)) name [] plain refl in
-    and_from _ _ (and_from _ _ (ap is_name f ∙ h.is_name) (ap is_behind_colon b)) (is_utf8-from_IsUtf8 name h.characters.utf8)
+    let b : following (λ b. not (eqb b 58)) name ≡ [] = ap (following (λ b. not (eqb b 58))) (sym (append-nil name)) ∙ following-append (λ b. not (eqb b 58)) name [] plain refl in
+    and_from _ _ (and_from _ _ (ap is_name f ∙ h.is_name) (ap is_after_colon b)) (is_utf8-from_IsUtf8 name h.characters.utf8)
 
 one_utf8 : (b : ℕ) → b < 128 → IsUtf8 (b ∷ [])
 one_utf8 b h = IsUtf8-from_ascii (b ∷ []) (IsAscii-from_all (b ∷ []) (All-from_recursion (λ x. x < 128) (b ∷ []) (h, tt)))
@@ -51,9 +51,9 @@ unfolding is_qualified
 prefixed_qualified prefix name p h =
     let plain = name_no_colon prefix p.is_name in
     let f : front (λ b. not (eqb b 58)) (prefix ++ (58 ∷ name)) ≡ prefix = front-append (λ b. not (eqb b 58)) prefix (58 ∷ name) plain refl in
-    let b : behind (λ b. not (eqb b 58)) (prefix ++ (58 ∷ name)) ≡ 58 ∷ name = behind-append (λ b. not (eqb b 58)) prefix (58 ∷ name) plain refl in
+    let b : following (λ b. not (eqb b 58)) (prefix ++ (58 ∷ name)) ≡ 58 ∷ name = following-append (λ b. not (eqb b 58)) prefix (58 ∷ name) plain refl in
     let text = IsUtf8-append prefix (58 ∷ name) p.characters.utf8 (IsUtf8-append (58 ∷ []) name (one_utf8 58 (omega arith)) h.characters.utf8) in
-    and_from _ _ (and_from _ _ (ap is_name f ∙ p.is_name) (ap is_behind_colon b ∙ h.is_name)) (is_utf8-from_IsUtf8 (prefix ++ (58 ∷ name)) text)
+    and_from _ _ (and_from _ _ (ap is_name f ∙ p.is_name) (ap is_after_colon b ∙ h.is_name)) (is_utf8-from_IsUtf8 (prefix ++ (58 ∷ name)) text)
 
 -- ---- numbered prefixes
 
@@ -82,7 +82,7 @@ figure_allowed a b d h =
     none true = refl
     none false = refl
 
-figures_characters : (a b : ℕ) (ds : List ℕ) → AllBelowBase 10 ds → are_characters_behind a b (figures ds) ≡ true
+figures_characters : (a b : ℕ) (ds : List ℕ) → AllBelowBase 10 ds → are_characters_after a b (figures ds) ≡ true
 figures_characters a b [] h = refl
 figures_characters a b (d ∷ ds) h = and_from _ _ (figure_allowed a b d h.0) (figures_characters b (48 + d) ds h.1)
 
@@ -90,7 +90,7 @@ figures_plain : (ds : List ℕ) → AllBelowBase 10 ds → IsPlainName (97 ∷ f
 unfolding are_characters
 figures_plain ds h =
     let text = IsUtf8-from_ascii (97 ∷ figures ds) (IsAscii-from_all (97 ∷ figures ds) (All-from_recursion (λ x. x < 128) (97 ∷ figures ds) (omega arith, figures_ascii ds h))) in
-    let all : are_characters_behind 0 0 (97 ∷ figures ds) ≡ true = figures_characters 0 97 ds h in
+    let all : are_characters_after 0 0 (97 ∷ figures ds) ≡ true = figures_characters 0 97 ds h in
     record { characters = record { utf8 = text; characters = all }; is_name = and_from _ _ (figures_go_on ds h) all }
 
 pub numbered_plain : (n : ℕ) → IsPlainName (numbered_prefix n)

@@ -17,7 +17,7 @@ use Rattle.xml_tokens.specs.Spelling.{text_byte, is_text_plain, spelled_text}
 use Rattle.xml_tokens.specs.Utf8.{is_second, is_tail, utf8_next, utf8_run}
 use Rattle.xml_tokens.specs.declared.references.Reference.TheVariants.{Character}
 use Rattle.law_xml.specs.Texts.{IsCharacterData, IsText, SpellsText, data_alone, with_reference, begins_section_end, has_section_end}
-use Rattle.xml_tokens.specs.Lines.{IsCharacters, line_ends, line_ends_behind}
+use Rattle.xml_tokens.specs.Lines.{IsCharacters, line_ends, line_ends_after}
 
 -- ---- a run of plain bytes
 
@@ -53,7 +53,7 @@ no_end : (bs : List ℕ) → list_all is_text_plain bs ≡ true → has_section_
 no_end [] h = refl
 no_end (b ∷ bs) h = rw (no_end_here (b ∷ bs) h) (no_end bs (and_parts (is_text_plain b) (list_all is_text_plain bs) h).1)
 
-same_ends : (bs : List ℕ) → list_all is_text_plain bs ≡ true → line_ends_behind false bs ≡ bs
+same_ends : (bs : List ℕ) → list_all is_text_plain bs ≡ true → line_ends_after false bs ≡ bs
 same_ends [] h = refl
 same_ends (b ∷ bs) h = let p = and_parts (is_text_plain b) (list_all is_text_plain bs) h in rw (plain_no_return b p.0) (ap (λ l. b ∷ l) (same_ends bs p.1))
 

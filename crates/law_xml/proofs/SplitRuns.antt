@@ -45,14 +45,14 @@ before_all lost s bytes items t n none hand all =
     }
 
 -- the run of an item, and then of what is behind it
-run_behind : (s next now : State) (first done : List ℕ) (i : Item) (items : List Item) → run (turn s []) first ≡ turn next (i ∷ []) → run (turn next []) done ≡ turn now items
+run_after : (s next now : State) (first done : List ℕ) (i : Item) (items : List Item) → run (turn s []) first ≡ turn next (i ∷ []) → run (turn next []) done ≡ turn now items
     → run (turn s []) (first ++ done) ≡ turn now (i ∷ items)
-run_behind s next now first done i items one rest =
+run_after s next now first done i items one rest =
     run_append (turn s []) first done ∙ ap (λ u. run u done) one ∙ given_before next (i ∷ []) done ∙ ap (λ (u : Turn). turn u.state ((i ∷ []) ++ u.items)) rest
 
-behind_one : (lost : Bool) (s : State) (first rest : List ℕ) (i : Item) (more : List Item) (next t : State) (k : ℕ) → GivesOne s first i next → Split lost next rest more t k
+after_one : (lost : Bool) (s : State) (first rest : List ℕ) (i : Item) (more : List Item) (next t : State) (k : ℕ) → GivesOne s first i next → Split lost next rest more t k
     → Split lost s (first ++ rest) (i ∷ more) t (length first + k)
-behind_one lost s first rest i more next t k g h =
+after_one lost s first rest i more next t k g h =
     let front : take (length first + k) (first ++ rest) ≡ first ++ take k rest = take-append-add first rest k in
     let back : drop (length first + k) (first ++ rest) ≡ drop k rest = drop-append-add first rest k in
     record {
@@ -63,7 +63,7 @@ behind_one lost s first rest i more next t k g h =
       hand = h.hand;
       items_are = ap (λ l. i ∷ l) h.items_are;
       bytes_are = front ∙ ap (λ l. first ++ l) h.bytes_are ∙ sym (append_assoc first h.done h.hand);
-      run_is = run_behind s next h.now first h.done i h.first g.run_is h.run_is;
+      run_is = run_after s next h.now first h.done i h.first g.run_is h.run_is;
       hand_is = h.hand_is;
       left = subst (λ l. AreItems lost h.now (h.hand ++ l) h.others t) (sym back) h.left;
       stay = one_more true s (take (length first + k) (first ++ rest)) (i ∷ h.first) h.now first (take k rest) i h.first next g h.stay front refl;
@@ -84,7 +84,7 @@ split lost s bytes items t n none (one_more _ _ _ _ _ first rest i more next g a
     ⊎_elim
     (λ (whole : leb (length first) n ≡ true).
     let sum : length first + (n - length first) ≡ n = grind (arith, nat_tests) in
-    let h = behind_one lost s first rest i more next t (n - length first) g (split lost next rest more t (n - length first) g.no_fault after) in
+    let h = after_one lost s first rest i more next t (n - length first) g (split lost next rest more t (n - length first) g.no_fault after) in
     subst (Split lost s bytes items t) sum (subst (λ l. Split lost s bytes l t (length first + (n - length first))) (sym items_are)
     (subst (λ l. Split lost s l (i ∷ more) t (length first + (n - length first))) (sym bytes_are) h)))
     (λ (cut : leb (length first) n ≡ false).

@@ -194,18 +194,18 @@ pub start_whole : (bytes name : List ℕ) (attributes : List Attribute) (empty :
 start_whole bytes name attributes empty h =
     let begun = qualified_begins name h.name_is in
     let inside = attributes_front attributes h.inside (h.space ++ tag_end empty) h.inside_is in
-    let behind = inside.front ++ (h.space ++ end_slash empty) in
-    let whole : h.inside ≡ behind ++ 62 ∷ [] =
+    let following = inside.front ++ (h.space ++ end_slash empty) in
+    let whole : h.inside ≡ following ++ 62 ∷ [] =
     inside.bytes_are ∙ ap (λ l. inside.front ++ (h.space ++ l)) (end_is empty) ∙ sym (simp append_assoc refl) in
-    let name_is : name ++ behind ≡ begun.first ∷ (begun.others ++ behind) = ap (λ l. l ++ behind) begun.name_is in
-    let part : IsPart (name ++ behind) =
-    part_append name behind (name_part name h.name_is) (part_append inside.front _ inside.part (part_append h.space (end_slash empty) (white_part h.space h.space_white) (end_part empty))) in
+    let name_is : name ++ following ≡ begun.first ∷ (begun.others ++ following) = ap (λ l. l ++ following) begun.name_is in
+    let part : IsPart (name ++ following) =
+    part_append name following (name_part name h.name_is) (part_append inside.front _ inside.part (part_append h.space (end_slash empty) (white_part h.space h.space_white) (end_part empty))) in
     record {
       first = begun.first;
       starts = begun.starts;
       whole = record {
-        others = begun.others ++ behind;
-        bytes_are = h.bytes_are ∙ ap (λ l. 60 ∷ (name ++ l)) whole ∙ ap (λ l. 60 ∷ l) (sym (append_assoc name behind (62 ∷ [])) ∙ ap (λ l. l ++ 62 ∷ []) name_is);
+        others = begun.others ++ following;
+        bytes_are = h.bytes_are ∙ ap (λ l. 60 ∷ (name ++ l)) whole ∙ ap (λ l. 60 ∷ l) (sym (append_assoc name following (62 ∷ [])) ∙ ap (λ l. l ++ 62 ∷ []) name_is);
         part = subst IsPart name_is part;
       };
     }

@@ -25,7 +25,7 @@ use Rattle.xml_tokens.proofs.ValueTexts.{leads}
 use Rattle.law_xml.specs.FaultRows.{Takes}
 use Rattle.xml_framer.specs.Machine.{behind_byte, is_too_long, passed, run, step}
 use Rattle.xml_framer.specs.ManyBytes.{quote_after}
-use Rattle.xml_framer.specs.States.{State, Turn, counted, gathered, moved, next_place, token_begun, turn}
+use Rattle.xml_framer.specs.States.{State, Turn, counted, gathered, moved, next_position, token_begun, turn}
 use Rattle.xml_framer.specs.TagSteps.{in_opening, in_tag, tag_closes, tag_gathered}
 use Rattle.xml_framer.specs.TextSteps.{between, in_text, inside}
 use Rattle.xml_framer.specs.declared.items.Item.{Item}
@@ -44,11 +44,11 @@ pub record InMarkup (s t : State) (m : Mode) (token : List ℕ) (quote : Option 
   pub not_spoiled : t.lexical.spoiled ≡ false
   pub token_is : t.token ≡ token
   pub held_is : t.pending ≡ held
-  pub token_at : t.places.token_at ≡ s.places.at
-  pub item_at : is_some s.here ≡ false → t.places.item_at ≡ s.places.at
+  pub token_at : t.positions.token_at ≡ s.positions.at
+  pub item_at : is_some s.here ≡ false → t.positions.item_at ≡ s.positions.at
 
-pub alike_behind : (s t u : State) → AreAlike s t → AreAlike t u → AreAlike s u
-alike_behind s t u h k = record {
+pub alike_after : (s t u : State) → AreAlike s t → AreAlike t u → AreAlike s u
+alike_after s t u h k = record {
   limits = k.limits ∙ h.limits;
   here = k.here ∙ h.here;
   below = k.below ∙ h.below;
@@ -84,48 +84,48 @@ takes s t m token held next quote b h e short =
 
 -- behind so many bytes
 record Counts (s t : State) (n : ℕ) : Type 0 where
-  used : t.places.used ≤ s.places.used + n
-  small : t.places.used < 2 ^ 64
+  used : t.positions.used ≤ s.positions.used + n
+  small : t.positions.used < 2 ^ 64
 
 -- the count behind a byte
 abbrev pub after : ℕ → ℕ
-after n = if eqb n 0 then 0 else next_place n
+after n = if eqb n 0 then 0 else next_position n
 
 after_most : (n : ℕ) → after n ≤ n + 1
 after_most n = either (eqb n 0)
   where
-    either : (b : Bool) → (if b then 0 else next_place n) ≤ n + 1
+    either : (b : Bool) → (if b then 0 else next_position n) ≤ n + 1
     either true = omega arith
     either false = omega arith
 
 after_small : (n : ℕ) → after n < 2 ^ 64
 after_small n = either (eqb n 0)
   where
-    either : (b : Bool) → (if b then 0 else next_place n) < 2 ^ 64
+    either : (b : Bool) → (if b then 0 else next_position n) < 2 ^ 64
     either true = omega arith
     either false = omega arith
 
-counts_more : (s t u : State) (n : ℕ) → u.places.used ≡ after t.places.used → Counts s t n → Counts s u (n + 1)
+counts_more : (s t u : State) (n : ℕ) → u.positions.used ≡ after t.positions.used → Counts s t n → Counts s u (n + 1)
 counts_more s t u n is h =
-    let most = after_most t.places.used in
-    let small = after_small t.places.used in
+    let most = after_most t.positions.used in
+    let small = after_small t.positions.used in
     let before = h.used in
     record { used = omega (arith, is, most, before); small = omega (arith, is, small) }
 
 -- the limit admits so many bytes more
 abbrev HasRoomFor : State → ℕ → Type 0
-HasRoomFor s n = (s.places.used + n ≤ s.limits.bytes) ⊎ (2 ^ 64 ≤ s.limits.bytes)
+HasRoomFor s n = (s.positions.used + n ≤ s.limits.bytes) ⊎ (2 ^ 64 ≤ s.limits.bytes)
 
-fits : (s t : State) (n total : ℕ) → HasRoomFor s total → AreAlike s t → Counts s t n → n < total → t.places.used < t.limits.bytes
+fits : (s t : State) (n total : ℕ) → HasRoomFor s total → AreAlike s t → Counts s t n → n < total → t.positions.used < t.limits.bytes
 fits s t n total room alike count less =
     let same = ap (λ l. l.bytes) alike.limits in
     let used = count.used in
     let small = count.small in
-    ⊎_elim (λ (some : s.places.used + total ≤ s.limits.bytes). omega (arith, same, used, less, some)) (λ (all : 2 ^ 64 ≤ s.limits.bytes). omega (arith, same, small, all)) room
+    ⊎_elim (λ (some : s.positions.used + total ≤ s.limits.bytes). omega (arith, same, used, less, some)) (λ (all : 2 ^ 64 ≤ s.limits.bytes). omega (arith, same, small, all)) room
 
-is_short : (t : State) (b : ℕ) → t.places.used < t.limits.bytes → is_too_long t b ≡ false
+is_short : (t : State) (b : ℕ) → t.positions.used < t.limits.bytes → is_too_long t b ≡ false
 unfolding is_too_long
-is_short t b less = and_right (ltb 0 t.places.used) _ (and_left (leb t.limits.bytes t.places.used) _ (above t.limits.bytes t.places.used less))
+is_short t b less = and_right (ltb 0 t.positions.used) _ (and_left (leb t.limits.bytes t.positions.used) _ (above t.limits.bytes t.positions.used less))
   where
     above : (m n : ℕ) → n < m → leb m n ≡ false
     above m n h = grind (arith, nat_tests)
@@ -138,7 +138,7 @@ after_byte t b = passed (tag_gathered (counted t) b) b
 gathered_one : (s t : State) (m : Mode) (token held next : List ℕ) (quote : Option ℕ) (b : ℕ) → InMarkup s t m token quote held → utf8_next held b ≡ Some next
     → InMarkup s (after_byte t b) mode.Tag (token ++ b ∷ []) (quote_behind quote b) next
 gathered_one s t m token held next quote b h e = record {
-  alike = alike_behind s t (after_byte t b) h.alike (record { limits = refl; here = refl; below = refl; scopes = refl; name = refl; phase = refl; spent = refl });
+  alike = alike_after s t (after_byte t b) h.alike (record { limits = refl; here = refl; below = refl; scopes = refl; name = refl; phase = refl; spent = refl });
   no_fault = h.no_fault;
   chars = h.chars;
   mode_is = refl;
@@ -178,15 +178,15 @@ opening_step t items b h bang question footer e =
 
 -- behind bytes
 record Gathers (s t : State) (items : List Item) (bytes token : List ℕ) (quote : Option ℕ) (n : ℕ) : Type 0 where
-  behind : State
-  goes_on : run (turn t items) bytes ≡ turn behind items
-  markup : InMarkup s behind mode.Tag token quote []
-  count : Counts s behind n
+  following : State
+  goes_on : run (turn t items) bytes ≡ turn following items
+  markup : InMarkup s following mode.Tag token quote []
+  count : Counts s following n
 
 gathers : (s t : State) (items : List Item) (bs token held : List ℕ) (quote : Option ℕ) (n end total : ℕ) → HasRoomFor s total → n + length bs ≡ end → end < total → InMarkup s t mode.Tag token quote held → Counts s t n
     → none_ends quote bs ≡ true → utf8_run held bs ≡ Some [] → Gathers s t items bs (token ++ bs) (quote_after quote bs) end
 gathers s t items [] token held quote n end total room is less h count e r = record {
-  behind = t;
+  following = t;
   goes_on = refl;
   markup = retold s t mode.Tag token (token ++ []) held [] quote quote h (sym (append-nil token)) refl (same_Some held [] r);
   count = subst (λ m. Counts s t m) (omega (arith, is)) count;
@@ -199,9 +199,9 @@ gathers s t items (b ∷ bs) token held quote n end total room is less h count e
     let next = gathered_one s t mode.Tag token held l.next quote b h l.is in
     let rest = gathers s (after_byte t b) items bs (token ++ b ∷ []) l.next (quote_behind quote b) (n + 1) end total room (omega (arith, is)) less next (counts_more s t (after_byte t b) n refl count) p.1 l.goes in
     record {
-      behind = rest.behind;
+      following = rest.following;
       goes_on = ap (λ u. run u bs) (tag_step t items b first stays) ∙ rest.goes_on;
-      markup = retold s rest.behind mode.Tag ((token ++ b ∷ []) ++ bs) (token ++ b ∷ bs) [] [] (quote_after (quote_behind quote b) bs) (quote_after (quote_behind quote b) bs) rest.markup (append_assoc token (b ∷ []) bs) refl refl;
+      markup = retold s rest.following mode.Tag ((token ++ b ∷ []) ++ bs) (token ++ b ∷ bs) [] [] (quote_after (quote_behind quote b) bs) (quote_after (quote_behind quote b) bs) rest.markup (append_assoc token (b ∷ []) bs) refl refl;
       count = rest.count;
     }
 
@@ -211,7 +211,7 @@ gathers s t items (b ∷ bs) token held quote n end total room is less h count e
 abbrev pub opened : Bool → State → State
 opened inner s =
     let begun = token_begun (counted s) mode.Opening in
-    passed (gathered (if inner then begun else record begun { places = record begun.places { item_at = begun.places.at; used = 1 } }) 60) 60
+    passed (gathered (if inner then begun else record begun { positions = record begun.positions { item_at = begun.positions.at; used = 1 } }) 60) 60
 
 open_step : (s : State) (items : List Item) (inner : Bool) → Takes s mode.Text 60 → is_some s.here ≡ inner → step (turn s items) 60 ≡ turn (opened inner s) items
 unfolding in_text inside between
@@ -253,7 +253,7 @@ opened_is s false h e = record {
 }
 
 opened_counts : (s : State) (inner : Bool) → Counts s (opened inner s) 1
-opened_counts s true = record { used = after_most s.places.used; small = after_small s.places.used }
+opened_counts s true = record { used = after_most s.positions.used; small = after_small s.positions.used }
 opened_counts s false = record { used = omega arith; small = omega arith }
 
 -- ---- a whole tag
@@ -264,10 +264,10 @@ DecidesLast s items bytes = (front : List ℕ) × (bytes ≡ front ++ 62 ∷ [])
 
 -- The whole tag is in hand at its `>`.
 pub record Reads (s : State) (items : List Item) (bytes : List ℕ) : Type 0 where
-  pub behind : State
-  pub closes : run (turn s items) bytes ≡ behind_byte (tag_closes (turn behind items)) 62
-  pub in_hand : HasInHand s behind bytes
-  pub item_at : is_some s.here ≡ false → behind.places.item_at ≡ s.places.at
+  pub following : State
+  pub closes : run (turn s items) bytes ≡ behind_byte (tag_closes (turn following items)) 62
+  pub in_hand : HasInHand s following bytes
+  pub item_at : is_some s.here ≡ false → following.positions.item_at ≡ s.positions.at
   pub last : DecidesLast s items bytes
 
 -- the `>` itself
@@ -279,7 +279,7 @@ closing s t items token bytes n room h count less is =
     let more = counts_more s t (gathered (counted t) 62) n refl count in
     let used = more.used in
     let whole : HasInHand s (gathered (counted t) 62) bytes = record {
-      alike = alike_behind s t (gathered (counted t) 62) h.alike (record { limits = refl; here = refl; below = refl; scopes = refl; name = refl; phase = refl; spent = refl });
+      alike = alike_after s t (gathered (counted t) 62) h.alike (record { limits = refl; here = refl; below = refl; scopes = refl; name = refl; phase = refl; spent = refl });
       no_fault = h.no_fault;
       chars = h.chars;
       token = ap (λ l. l ++ 62 ∷ []) h.token_is ∙ is;
@@ -322,12 +322,12 @@ module _ (s : State) (items : List Item) (bytes : List ℕ) (quiet : IsQuiet s) 
       let two = second first b (not-true _ p.0) l.next l.is (omega (arith, size)) in
       let t = after_byte (opened (is_some s.here) s) first in
       let more = gathers s t items others (60 ∷ first ∷ []) l.next (quote_behind None first) 2 (length others + 2) (length bytes) room (omega arith) (omega (arith, size)) two.1 two.2 p.1 l.goes in
-      let u = more.behind in
+      let u = more.following in
       let open_none = retold s u mode.Tag ((60 ∷ first ∷ []) ++ others) (60 ∷ first ∷ others) [] [] (quote_after (quote_behind None first) others) None more.markup refl w.part.unquoted refl in
       let last = closing s u items (60 ∷ first ∷ others) bytes (length others + 2) room open_none more.count (omega (arith, size)) (sym w.bytes_are) in
       let front : run (turn s items) (60 ∷ first ∷ others) ≡ turn u items = ap (λ v. run v others) two.0 ∙ more.goes_on in
       record {
-        behind = gathered (counted u) 62;
+        following = gathered (counted u) 62;
         closes = ap (run (turn s items)) w.bytes_are ∙ run_append (turn s items) (60 ∷ first ∷ others) (62 ∷ []) ∙ ap (λ v. run v (62 ∷ [])) front ∙ last.0;
         in_hand = last.1;
         item_at = open_none.item_at;
@@ -350,19 +350,19 @@ name_begins s first h = record {
 }
 
 pub start_run : (s : State) (items : List Item) (scope : Scope) (bytes : List ℕ) (raw : List tokens.Attribute) (tag : Tag) → IsQuiet s → HasRoom s bytes → IsStart scope bytes raw tag
-    → (h : State) × (run (turn s items) bytes ≡ behind_byte (tag_closes (turn h items)) 62) × HasInHand s h bytes × (is_end h.token ≡ false) × (is_some s.here ≡ false → h.places.item_at ≡ s.places.at) × DecidesLast s items bytes
+    → (h : State) × (run (turn s items) bytes ≡ behind_byte (tag_closes (turn h items)) 62) × HasInHand s h bytes × (is_end h.token ≡ false) × (is_some s.here ≡ false → h.positions.item_at ≡ s.positions.at) × DecidesLast s items bytes
 start_run s items scope bytes raw tag quiet room start =
     let w = start_whole bytes tag.spelled raw tag.empty start.spelled in
     let r = reads s items bytes quiet room w.first w.whole (name_begins s w.first w.starts) in
     let whole : is_end bytes ≡ false = ap is_end w.whole.bytes_are ∙ no_slash w.first w.starts in
-    (r.behind, r.closes, r.in_hand, ap is_end r.in_hand.token ∙ whole, r.item_at, r.last)
+    (r.following, r.closes, r.in_hand, ap is_end r.in_hand.token ∙ whole, r.item_at, r.last)
 
 pub end_run : (s : State) (items : List Item) (bytes name : List ℕ) → IsQuiet s → is_some s.here ≡ true → HasRoom s bytes → IsTag bytes (end_tag name)
     → (h : State) × (run (turn s items) bytes ≡ behind_byte (tag_closes (turn h items)) 62) × HasInHand s h bytes × (is_end h.token ≡ true) × DecidesLast s items bytes
 end_run s items bytes name quiet inner room is =
     let w = end_whole bytes name is in
     let r = reads s items bytes quiet room 47 w (record { no_bang = refl; no_question = refl; no_footer = ap not inner }) in
-    (r.behind, r.closes, r.in_hand, ap is_end r.in_hand.token ∙ ap is_end w.bytes_are, r.last)
+    (r.following, r.closes, r.in_hand, ap is_end r.in_hand.token ∙ ap is_end w.bytes_are, r.last)
 
 -- ---- what the whole tag says
 

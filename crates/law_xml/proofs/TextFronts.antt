@@ -9,25 +9,25 @@ use Rattle.xml_tokens.specs.Utf8.{IsPending, ended_character, ends_character, is
 use Rattle.xml_tokens.specs.declared.references.Reference.TheVariants.{Character}
 use Rattle.law_xml.proofs.ReadCharacters.{second_high, tail_high}
 use Rattle.law_xml.specs.Texts.{IsCharacterData, SpellsText, begins_section_end, data_alone, has_section_end, with_reference, with_section}
-use Rattle.xml_tokens.specs.Lines.{line_ends, line_ends_behind}
-use Rattle.xml_framer.specs.TextSteps.{brackets_behind}
+use Rattle.xml_tokens.specs.Lines.{line_ends, line_ends_after}
+use Rattle.xml_framer.specs.TextSteps.{brackets_after}
 
 -- ---- `]]>`, with the `]` in front counted
 
 -- whether the last byte is a carriage return
-abbrev pub returned_behind : Bool → List ℕ → Bool
-returned_behind r [] = r
-returned_behind r (b ∷ bs) = returned_behind (b == 13) bs
+abbrev pub returned_after : Bool → List ℕ → Bool
+returned_after r [] = r
+returned_after r (b ∷ bs) = returned_after (b == 13) bs
 
 -- how many `]` stand last, up to 2
 abbrev pub counted_behind : ℕ → List ℕ → ℕ
 counted_behind n [] = n
-counted_behind n (b ∷ bs) = counted_behind (brackets_behind n b) bs
+counted_behind n (b ∷ bs) = counted_behind (brackets_after n b) bs
 
 -- `]]>` ends somewhere
-abbrev pub ends_behind : ℕ → List ℕ → Bool
-ends_behind n [] = false
-ends_behind n (b ∷ bs) = (n == 2 && b == 62) || ends_behind (brackets_behind n b) bs
+abbrev pub ends_after : ℕ → List ℕ → Bool
+ends_after n [] = false
+ends_after n (b ∷ bs) = (n == 2 && b == 62) || ends_after (brackets_after n b) bs
 
 by_test : {P : Type 0} (b : Bool) → (b ≡ true → P) → (b ≡ false → P) → P
 by_test true t f = t refl
@@ -41,25 +41,25 @@ or_none : (x : Bool) → (x || false) ≡ x
 or_none true = refl
 or_none false = refl
 
-returned-append : (r : Bool) (xs ys : List ℕ) → returned_behind r (xs ++ ys) ≡ returned_behind (returned_behind r xs) ys
+returned-append : (r : Bool) (xs ys : List ℕ) → returned_after r (xs ++ ys) ≡ returned_after (returned_after r xs) ys
 returned-append r [] ys = refl
 returned-append r (x ∷ xs) ys = returned-append (x == 13) xs ys
 
 pub counted-append : (n : ℕ) (xs ys : List ℕ) → counted_behind n (xs ++ ys) ≡ counted_behind (counted_behind n xs) ys
 counted-append n [] ys = refl
-counted-append n (x ∷ xs) ys = counted-append (brackets_behind n x) xs ys
+counted-append n (x ∷ xs) ys = counted-append (brackets_after n x) xs ys
 
-pub ends-append : (n : ℕ) (xs ys : List ℕ) → ends_behind n (xs ++ ys) ≡ (ends_behind n xs || ends_behind (counted_behind n xs) ys)
+pub ends-append : (n : ℕ) (xs ys : List ℕ) → ends_after n (xs ++ ys) ≡ (ends_after n xs || ends_after (counted_behind n xs) ys)
 ends-append n [] ys = refl
 ends-append n (x ∷ xs) ys =
-    ap (λ t. (n == 2 && x == 62) || t) (ends-append (brackets_behind n x) xs ys)
-    ∙ sym (or_assoc (n == 2 && x == 62) (ends_behind (brackets_behind n x) xs) (ends_behind (counted_behind (brackets_behind n x) xs) ys))
+    ap (λ t. (n == 2 && x == 62) || t) (ends-append (brackets_after n x) xs ys)
+    ∙ sym (or_assoc (n == 2 && x == 62) (ends_after (brackets_after n x) xs) (ends_after (counted_behind (brackets_after n x) xs) ys))
 
 -- a front of what has no `]]>` has none
-pub ends_parted : (xs ys : List ℕ) → ends_behind 0 (xs ++ ys) ≡ false → ends_behind 0 xs ≡ false
-ends_parted xs ys e = (or_parts (ends_behind 0 xs) (ends_behind (counted_behind 0 xs) ys) (sym (ends-append 0 xs ys) ∙ e)).0
+pub ends_parted : (xs ys : List ℕ) → ends_after 0 (xs ++ ys) ≡ false → ends_after 0 xs ≡ false
+ends_parted xs ys e = (or_parts (ends_after 0 xs) (ends_after (counted_behind 0 xs) ys) (sym (ends-append 0 xs ys) ∙ e)).0
 
-line_ends-append : (r : Bool) (xs ys : List ℕ) → line_ends_behind r (xs ++ ys) ≡ line_ends_behind r xs ++ line_ends_behind (returned_behind r xs) ys
+line_ends-append : (r : Bool) (xs ys : List ℕ) → line_ends_after r (xs ++ ys) ≡ line_ends_after r xs ++ line_ends_after (returned_after r xs) ys
 line_ends-append r [] ys = refl
 line_ends-append r (x ∷ xs) ys =
     by_test (x == 13)
@@ -69,13 +69,13 @@ line_ends-append r (x ∷ xs) ys =
     (λ f. rw (e, f) (ap (λ l. x ∷ l) (line_ends-append false xs ys))))
 
 pub line_ends_bracket : (xs : List ℕ) → line_ends (xs ++ 93 ∷ []) ≡ line_ends xs ++ 93 ∷ []
-line_ends_bracket xs = line_ends-append false xs (93 ∷ []) ∙ ap (λ l. line_ends xs ++ l) (one (returned_behind false xs))
+line_ends_bracket xs = line_ends-append false xs (93 ∷ []) ∙ ap (λ l. line_ends xs ++ l) (one (returned_after false xs))
   where
-    one : (r : Bool) → line_ends_behind r (93 ∷ []) ≡ 93 ∷ []
+    one : (r : Bool) → line_ends_after r (93 ∷ []) ≡ 93 ∷ []
     one true = refl
     one false = refl
 
-no_bracket : (n b : ℕ) → (b == 93) ≡ false → brackets_behind n b ≡ 0
+no_bracket : (n b : ℕ) → (b == 93) ≡ false → brackets_after n b ≡ 0
 no_bracket n b e = rw e refl
 
 no_greater : (n b : ℕ) → (b == 93) ≡ true → (n == 2 && b == 62) ≡ false
@@ -92,25 +92,25 @@ begins_one b (c ∷ cs) e = rw e refl
 
 -- the count in front stands for the `]` themselves
 mutual
-  pub section_end_0 : (bs : List ℕ) → has_section_end bs ≡ ends_behind 0 bs
+  pub section_end_0 : (bs : List ℕ) → has_section_end bs ≡ ends_after 0 bs
   section_end_0 [] = refl
   section_end_0 (b ∷ bs) =
       by_test (b == 93)
-      (λ e. subst (λ c. has_section_end (c ∷ bs) ≡ ends_behind 0 (c ∷ bs)) (sym (eqb-true b 93 e)) (section_end_1 bs))
+      (λ e. subst (λ c. has_section_end (c ∷ bs) ≡ ends_after 0 (c ∷ bs)) (sym (eqb-true b 93 e)) (section_end_1 bs))
       (λ e. rw (begins_no b bs e, e) (section_end_0 bs))
 
-  section_end_1 : (bs : List ℕ) → has_section_end (93 ∷ bs) ≡ ends_behind 1 bs
+  section_end_1 : (bs : List ℕ) → has_section_end (93 ∷ bs) ≡ ends_after 1 bs
   section_end_1 [] = refl
   section_end_1 (b ∷ bs) =
       by_test (b == 93)
-      (λ e. subst (λ c. has_section_end (93 ∷ c ∷ bs) ≡ ends_behind 1 (c ∷ bs)) (sym (eqb-true b 93 e)) (section_end_2 bs))
+      (λ e. subst (λ c. has_section_end (93 ∷ c ∷ bs) ≡ ends_after 1 (c ∷ bs)) (sym (eqb-true b 93 e)) (section_end_2 bs))
       (λ e. rw (begins_one b bs e, begins_no b bs e, e) (section_end_0 bs))
 
-  section_end_2 : (bs : List ℕ) → has_section_end (93 ∷ 93 ∷ bs) ≡ ends_behind 2 bs
+  section_end_2 : (bs : List ℕ) → has_section_end (93 ∷ 93 ∷ bs) ≡ ends_after 2 bs
   section_end_2 [] = refl
   section_end_2 (b ∷ bs) =
       by_test (b == 93)
-      (λ e. subst (λ c. has_section_end (93 ∷ 93 ∷ c ∷ bs) ≡ ends_behind 2 (c ∷ bs)) (sym (eqb-true b 93 e)) (section_end_2 bs))
+      (λ e. subst (λ c. has_section_end (93 ∷ 93 ∷ c ∷ bs) ≡ ends_after 2 (c ∷ bs)) (sym (eqb-true b 93 e)) (section_end_2 bs))
       (λ e. by_test (b == 62)
       (λ f. rw f refl)
       (λ f. rw (f, begins_one b bs e, begins_no b bs e, e) (section_end_0 bs)))
@@ -118,8 +118,8 @@ mutual
 -- ---- a character more
 
 -- what the machine says of a byte that ends a character
-abbrev pub said_behind : Bool → List ℕ → ℕ → List ℕ
-said_behind r held b = if r && b == 10 then [] else (if b == 13 then 10 ∷ [] else ended_character held b)
+abbrev pub said_after : Bool → List ℕ → ℕ → List ℕ
+said_after r held b = if r && b == 10 then [] else (if b == 13 then 10 ∷ [] else ended_character held b)
 
 abbrev are_high : List ℕ → Bool
 are_high bs = list_all (λ b. leb 128 b) bs
@@ -130,7 +130,7 @@ high_mark b h = grind (arith, nat_tests)
 high_apart : (b c : ℕ) → leb 128 b ≡ true → c < 128 → (b == c) ≡ false
 high_apart b c h low = ne_eqb b c (λ e. let least = leb-true 128 b h in omega (arith, e, least, low))
 
-high_ends : (bs : List ℕ) (r : Bool) → are_high bs ≡ true → line_ends_behind r bs ≡ bs
+high_ends : (bs : List ℕ) (r : Bool) → are_high bs ≡ true → line_ends_after r bs ≡ bs
 high_ends [] r h = refl
 high_ends (b ∷ bs) r h =
     let p = and_parts (leb 128 b) (are_high bs) h in
@@ -142,10 +142,10 @@ high_marks : (bs : List ℕ) → are_high bs ≡ true → list_all (λ b. not (b
 high_marks [] h = refl
 high_marks (b ∷ bs) h = let p = and_parts (leb 128 b) (are_high bs) h in and_from _ _ (high_mark b p.0) (high_marks bs p.1)
 
-high_no_end : (bs : List ℕ) (n : ℕ) → are_high bs ≡ true → ends_behind n bs ≡ false
+high_no_end : (bs : List ℕ) (n : ℕ) → are_high bs ≡ true → ends_after n bs ≡ false
 high_no_end [] n h = refl
 high_no_end (b ∷ bs) n h =
-    let p = and_parts (leb 128 b) (are_high bs) h in or_from _ _ (and_right (n == 2) (b == 62) (high_apart b 62 p.0 (omega arith))) (high_no_end bs (brackets_behind n b) p.1)
+    let p = and_parts (leb 128 b) (are_high bs) h in or_from _ _ (and_right (n == 2) (b == 62) (high_apart b 62 p.0 (omega arith))) (high_no_end bs (brackets_after n b) p.1)
 
 lead_high : (x : ℕ) → is_lead x ≡ true → leb 128 x ≡ true
 lead_high x h = grind (arith, nat_tests)
@@ -171,12 +171,12 @@ high-append xs b h e = list_all-append (λ c. leb 128 c) xs (b ∷ []) ∙ and_f
 
 -- what a whole character does to a text, of which these numbers are known
 record IsCharacter (r : Bool) (n : ℕ) (held : List ℕ) (b : ℕ) : Type 0 where
-  returned : returned_behind r (held ++ b ∷ []) ≡ (b == 13)
-  counted : counted_behind n (held ++ b ∷ []) ≡ brackets_behind n b
-  ends : ends_behind n (held ++ b ∷ []) ≡ (n == 2 && b == 62)
-  says : line_ends_behind r (held ++ b ∷ []) ≡ said_behind r held b
+  returned : returned_after r (held ++ b ∷ []) ≡ (b == 13)
+  counted : counted_behind n (held ++ b ∷ []) ≡ brackets_after n b
+  ends : ends_after n (held ++ b ∷ []) ≡ (n == 2 && b == 62)
+  says : line_ends_after r (held ++ b ∷ []) ≡ said_after r held b
 
-one_says : (r : Bool) (b : ℕ) → ends_character [] b ≡ true → line_ends_behind r (b ∷ []) ≡ said_behind r [] b
+one_says : (r : Bool) (b : ℕ) → ends_character [] b ≡ true → line_ends_after r (b ∷ []) ≡ said_after r [] b
 one_says r b e =
     by_test (b == 13)
     (λ t. let none : (r && b == 10) ≡ false = and_right r (b == 10) (ap (λ c. c == 10) (eqb-true b 13 t)) in rw (t, none) refl)
@@ -201,8 +201,8 @@ character r n (x ∷ xs) b p e =
 
 -- bytes without `]]>`, what stands last in them, and what they say
 pub record Gathered (bytes said : List ℕ) (returned : Bool) (brackets : ℕ) : Type 0 where
-  pub no_end : ends_behind 0 bytes ≡ false
-  pub returned_is : returned_behind false bytes ≡ returned
+  pub no_end : ends_after 0 bytes ≡ false
+  pub returned_is : returned_after false bytes ≡ returned
   pub brackets_are : counted_behind 0 bytes ≡ brackets
   pub says : line_ends bytes ≡ said
 
@@ -210,14 +210,14 @@ pub nothing_gathered : Gathered [] [] false 0
 nothing_gathered = record { no_end = refl; returned_is = refl; brackets_are = refl; says = refl }
 
 pub character_gathered : (bytes said : List ℕ) (r : Bool) (n : ℕ) (held : List ℕ) (b : ℕ) → Gathered bytes said r n → IsPending held → ends_character held b ≡ true → (n == 2 && b == 62) ≡ false
-    → Gathered (bytes ++ (held ++ b ∷ [])) (said ++ said_behind r held b) (b == 13) (brackets_behind n b)
+    → Gathered (bytes ++ (held ++ b ∷ [])) (said ++ said_after r held b) (b == 13) (brackets_after n b)
 character_gathered bytes said r n held b h p e open_end =
-    let c = character (returned_behind false bytes) (counted_behind 0 bytes) held b p e in
+    let c = character (returned_after false bytes) (counted_behind 0 bytes) held b p e in
     record {
       no_end = ends-append 0 bytes (held ++ b ∷ []) ∙ or_from _ _ h.no_end (c.ends ∙ (ap (λ m. m == 2 && b == 62) h.brackets_are ∙ open_end));
       returned_is = returned-append false bytes (held ++ b ∷ []) ∙ c.returned;
-      brackets_are = counted-append 0 bytes (held ++ b ∷ []) ∙ (c.counted ∙ ap (λ m. brackets_behind m b) h.brackets_are);
-      says = line_ends-append false bytes (held ++ b ∷ []) ∙ (ap (λ l. l ++ line_ends_behind (returned_behind false bytes) (held ++ b ∷ [])) h.says ∙ ap (λ l. said ++ l) (c.says ∙ ap (λ t. said_behind t held b) h.returned_is));
+      brackets_are = counted-append 0 bytes (held ++ b ∷ []) ∙ (c.counted ∙ ap (λ m. brackets_after m b) h.brackets_are);
+      says = line_ends-append false bytes (held ++ b ∷ []) ∙ (ap (λ l. l ++ line_ends_after (returned_after false bytes) (held ++ b ∷ [])) h.says ∙ ap (λ l. said ++ l) (c.says ∙ ap (λ t. said_after t held b) h.returned_is));
     }
 
 -- ---- a text so far
@@ -269,7 +269,7 @@ module _ (text says : List ℕ) (r : Bool) (n : ℕ) (h : Seen text says r n) wh
       (with_reference _ _ h.plain name rest more c data_is is t refl (ap (λ l. l ++ (encode_utf8 c ++ more)) (sym h.gathered.says))))
 
   -- a CDATA section behind it
-  pub section_front : (inside : List ℕ) (said : List ℕ) → ends_behind 0 inside ≡ false → line_ends inside ≡ said → IsFront (text ++ (codes "<![CDATA[" ++ (inside ++ codes "]]>"))) (says ++ said)
+  pub section_front : (inside : List ℕ) (said : List ℕ) → ends_after 0 inside ≡ false → line_ends inside ≡ said → IsFront (text ++ (codes "<![CDATA[" ++ (inside ++ codes "]]>"))) (says ++ said)
   section_front inside said none is rest more t =
       spelled_as (h.front ++ (h.plain ++ (codes "<![CDATA[" ++ (inside ++ (codes "]]>" ++ rest))))) _ (h.front_says ++ (h.plain_says ++ (said ++ more))) _
       (rw (h.text_is) (simp (append_assoc))) (rw (h.says_is) (simp (append_assoc)))
@@ -279,15 +279,15 @@ module _ (text says : List ℕ) (r : Bool) (n : ℕ) (h : Seen text says r n) wh
 
   -- a character behind it
   pub character_seen : (held : List ℕ) (b : ℕ) → IsPending held → ends_character held b ≡ true → (b == 60 || b == 38) ≡ false → (n == 2 && b == 62) ≡ false
-      → Seen (text ++ (held ++ b ∷ [])) (says ++ said_behind r held b) (b == 13) (brackets_behind n b)
+      → Seen (text ++ (held ++ b ∷ [])) (says ++ said_after r held b) (b == 13) (brackets_after n b)
   character_seen held b p e mark open_end = record {
     front = h.front;
     front_says = h.front_says;
     is_front = h.is_front;
     plain = h.plain ++ (held ++ b ∷ []);
-    plain_says = h.plain_says ++ said_behind r held b;
+    plain_says = h.plain_says ++ said_after r held b;
     gathered = character_gathered h.plain h.plain_says r n held b h.gathered p e open_end;
     no_markup = list_all-append (λ c. not (c == 60 || c == 38)) h.plain (held ++ b ∷ []) ∙ and_from _ _ h.no_markup (list_all-append (λ c. not (c == 60 || c == 38)) held (b ∷ []) ∙ and_from _ _ (high_marks held (pending_high held p)) (rw mark refl));
     text_is = ap (λ l. l ++ (held ++ b ∷ [])) h.text_is ∙ append_assoc h.front h.plain (held ++ b ∷ []);
-    says_is = ap (λ l. l ++ said_behind r held b) h.says_is ∙ append_assoc h.front_says h.plain_says (said_behind r held b);
+    says_is = ap (λ l. l ++ said_after r held b) h.says_is ∙ append_assoc h.front_says h.plain_says (said_after r held b);
   }

@@ -11,10 +11,10 @@ use Rattle.xml_tokens.specs.Utf8.{continues, ends_character, ends_forbidden_char
 use Rattle.xml_tokens.specs.declared.references.Reference.{Reference}
 use Rattle.xml_tokens.specs.declared.references.Reference.TheVariants as reference
 use Rattle.law_xml.proofs.ReadSoFar.{MarkIn, OpensSection, SectionIn, TextIn}
-use Rattle.law_xml.proofs.TextFronts.{Gathered, Seen, character_gathered, character_seen, ends_behind, ends_parted, front_seen, line_ends_bracket, nothing_gathered, reference_front, said_behind, section_front, seen_text}
+use Rattle.law_xml.proofs.TextFronts.{Gathered, Seen, character_gathered, character_seen, ends_after, ends_parted, front_seen, line_ends_bracket, nothing_gathered, reference_front, said_after, section_front, seen_text}
 use Rattle.law_xml.proofs.ReadCharacters.{Judged, are_plain, ascii_alone, byte_judged, ended_after, grown_after, judged_characters, plain-append, plain_judged}
 use Rattle.law_xml.specs.Texts.{IsText}
-use Rattle.xml_framer.specs.TextSteps.{brackets_behind, kept_back}
+use Rattle.xml_framer.specs.TextSteps.{brackets_after, kept_back}
 
 pub four-append : (x y z w v : List ℕ) → (x ++ (y ++ (z ++ w))) ++ v ≡ x ++ (y ++ (z ++ (w ++ v)))
 four-append x y z w v = append_assoc x (y ++ (z ++ w)) v ∙ ap (λ l. x ++ l) (append_assoc y (z ++ w) v ∙ ap (λ l. y ++ l) (append_assoc z w v))
@@ -45,7 +45,7 @@ mark_begun hand pending chars r n b h none = record {
 }
 
 pub text_grows : (hand pending chars : List ℕ) (r : Bool) (n b : ℕ) → TextIn hand pending chars true r n → continues pending b ≡ true → ends_character pending b ≡ true → ends_forbidden_character pending b ≡ false
-    → (b == 60 || b == 38) ≡ false → (n == 2 && b == 62) ≡ false → TextIn (hand ++ b ∷ []) (held_after pending b) (chars ++ said_behind r pending b) true (b == 13) (brackets_behind n b)
+    → (b == 60 || b == 38) ≡ false → (n == 2 && b == 62) ≡ false → TextIn (hand ++ b ∷ []) (held_after pending b) (chars ++ said_after r pending b) true (b == 13) (brackets_after n b)
 text_grows hand pending chars r n b h c e free mark open_end = record {
   whole = h.whole ++ (pending ++ b ∷ []);
   hand_is =
@@ -200,7 +200,7 @@ section_waits hand pending chars r n b h c e = record {
   hand_is = ap (λ l. l ++ b ∷ []) h.hand_is ∙ four-append h.text (codes "<![CDATA[") h.whole pending (b ∷ []) ∙ ap (λ p. h.text ++ (codes "<![CDATA[" ++ (h.whole ++ p))) (sym (grown_after pending b c e));
 }
 
-kept_more : (n : ℕ) → n < 2 → (kept_back n ++ 93 ∷ [] ≡ kept_back (brackets_behind n 93)) × (brackets_behind n 93 ≤ 2)
+kept_more : (n : ℕ) → n < 2 → (kept_back n ++ 93 ∷ [] ≡ kept_back (brackets_after n 93)) × (brackets_after n 93 ≤ 2)
 kept_more zero h = (refl, omega arith)
 kept_more (suc zero) h = (refl, omega arith)
 kept_more (suc (suc n)) h = absurd (omega (arith, h))
@@ -217,7 +217,7 @@ module _ (hand pending chars : List ℕ) (r : Bool) (n b : ℕ) (h : SectionIn h
       let is = eqb-true b 62 p.1 in
       let none = ascii_alone pending b (omega (arith, is)) c in
       let whole_is : h.whole ≡ h.inside ++ (93 ∷ 93 ∷ []) = h.whole_is ∙ ap (λ m. h.inside ++ kept_back m) two in
-      let no_end = ends_parted h.inside (93 ∷ 93 ∷ []) (ap (ends_behind 0) (sym whole_is) ∙ h.gathered.no_end) in
+      let no_end = ends_parted h.inside (93 ∷ 93 ∷ []) (ap (ends_after 0) (sym whole_is) ∙ h.gathered.no_end) in
       let all : hand ++ b ∷ [] ≡ h.text ++ (codes "<![CDATA[" ++ (h.inside ++ codes "]]>")) =
       ap (λ l. l ++ b ∷ []) (h.hand_is ∙ ap (λ q. h.text ++ (codes "<![CDATA[" ++ (h.whole ++ q))) none.0 ∙ ap (λ w. h.text ++ (codes "<![CDATA[" ++ (w ++ []))) whole_is)
       ∙ ap (λ d. (h.text ++ (codes "<![CDATA[" ++ ((h.inside ++ (93 ∷ 93 ∷ [])) ++ []))) ++ d ∷ []) is ∙ simp (append_assoc) in
@@ -232,19 +232,19 @@ module _ (hand pending chars : List ℕ) (r : Bool) (n b : ℕ) (h : SectionIn h
   abbrev next : List ℕ
   next = h.whole ++ (pending ++ b ∷ [])
 
-  next_gathered : (n == 2 && b == 62) ≡ false → Gathered next (h.whole_said ++ said_behind r pending b) (b == 13) (brackets_behind n b)
+  next_gathered : (n == 2 && b == 62) ≡ false → Gathered next (h.whole_said ++ said_after r pending b) (b == 13) (brackets_after n b)
   next_gathered open_end = character_gathered h.whole h.whole_said r n pending b h.gathered h.judged.begun e open_end
 
   next_hand : hand ++ b ∷ [] ≡ h.text ++ (codes "<![CDATA[" ++ (next ++ held_after pending b))
   next_hand = ap (λ l. l ++ b ∷ []) h.hand_is ∙ four-append h.text (codes "<![CDATA[") h.whole pending (b ∷ []) ∙ ap (λ q. h.text ++ (codes "<![CDATA[" ++ q)) (sym (append-nil next) ∙ ap (λ q. next ++ q) (sym (ended_after pending b e)))
 
   -- a byte other than `]`
-  pub section_other : (n == 2 && b == 62) ≡ false → (b == 93) ≡ false → SectionIn (hand ++ b ∷ []) (held_after pending b) ((chars ++ kept_back n) ++ said_behind r pending b) (b == 13) 0
+  pub section_other : (n == 2 && b == 62) ≡ false → (b == 93) ≡ false → SectionIn (hand ++ b ∷ []) (held_after pending b) ((chars ++ kept_back n) ++ said_after r pending b) (b == 13) 0
   section_other open_end other =
-      let none : brackets_behind n b ≡ 0 = rw other refl in
-      let g : Gathered next (h.whole_said ++ said_behind r pending b) (b == 13) 0 = subst (Gathered next (h.whole_said ++ said_behind r pending b) (b == 13)) none (next_gathered open_end) in
-      let said = (h.said ++ kept_back n) ++ said_behind r pending b in
-      let same : h.whole_said ++ said_behind r pending b ≡ said = ap (λ l. l ++ said_behind r pending b) h.whole_says in
+      let none : brackets_after n b ≡ 0 = rw other refl in
+      let g : Gathered next (h.whole_said ++ said_after r pending b) (b == 13) 0 = subst (Gathered next (h.whole_said ++ said_after r pending b) (b == 13)) none (next_gathered open_end) in
+      let said = (h.said ++ kept_back n) ++ said_after r pending b in
+      let same : h.whole_said ++ said_after r pending b ≡ said = ap (λ l. l ++ said_after r pending b) h.whole_says in
       record {
         text = h.text;
         says = h.says;
@@ -254,13 +254,13 @@ module _ (hand pending chars : List ℕ) (r : Bool) (n b : ℕ) (h : SectionIn h
         inside = next;
         said = said;
         whole = next;
-        whole_said = h.whole_said ++ said_behind r pending b;
+        whole_said = h.whole_said ++ said_after r pending b;
         whole_is = sym (append-nil next);
         gathered = g;
         inside_says = g.says ∙ same;
         whole_says = same ∙ sym (append-nil said);
         few = omega arith;
-        chars_are = ap (λ l. (l ++ kept_back n) ++ said_behind r pending b) h.chars_are ∙ simp (append_assoc);
+        chars_are = ap (λ l. (l ++ kept_back n) ++ said_after r pending b) h.chars_are ∙ simp (append_assoc);
         judged = judged_on;
         hand_is = next_hand;
       }
@@ -269,11 +269,11 @@ module _ (hand pending chars : List ℕ) (r : Bool) (n b : ℕ) (h : SectionIn h
     alone : pending ≡ []
     alone = let is = eqb-true b 93 bracket in (ascii_alone pending b (omega (arith, is)) c).0
 
-    says_bracket : said_behind r pending b ≡ 93 ∷ []
+    says_bracket : said_after r pending b ≡ 93 ∷ []
     unfolding utf8_next
-    says_bracket = ap (λ q. said_behind r q b) alone ∙ ap (said_behind r []) (eqb-true b 93 bracket) ∙ one r
+    says_bracket = ap (λ q. said_after r q b) alone ∙ ap (said_after r []) (eqb-true b 93 bracket) ∙ one r
       where
-        one : (r : Bool) → said_behind r [] 93 ≡ 93 ∷ []
+        one : (r : Bool) → said_after r [] 93 ≡ 93 ∷ []
         one true = refl
         one false = refl
 
@@ -283,14 +283,14 @@ module _ (hand pending chars : List ℕ) (r : Bool) (n b : ℕ) (h : SectionIn h
     no_end : (n == 2 && b == 62) ≡ false
     no_end = and_right (n == 2) (b == 62) (ap (λ d. d == 62) (eqb-true b 93 bracket))
 
-    bracket_gathered : Gathered next (h.whole_said ++ 93 ∷ []) false (brackets_behind n 93)
+    bracket_gathered : Gathered next (h.whole_said ++ 93 ∷ []) false (brackets_after n 93)
     bracket_gathered =
         let is = eqb-true b 93 bracket in
         let g = next_gathered no_end in
         record {
           no_end = g.no_end;
           returned_is = g.returned_is ∙ ap (λ d. d == 13) is;
-          brackets_are = g.brackets_are ∙ ap (brackets_behind n) is;
+          brackets_are = g.brackets_are ∙ ap (brackets_after n) is;
           says = g.says ∙ ap (λ l. h.whole_said ++ l) says_bracket;
         }
 
@@ -298,7 +298,7 @@ module _ (hand pending chars : List ℕ) (r : Bool) (n b : ℕ) (h : SectionIn h
     pub section_third : (n == 2) ≡ true → SectionIn (hand ++ b ∷ []) (held_after pending b) (chars ++ 93 ∷ []) false n
     section_third third =
         let two = eqb-true n 2 third in
-        let counted : brackets_behind n 93 ≡ n = ap (λ m. brackets_behind m 93) two ∙ sym two in
+        let counted : brackets_after n 93 ≡ n = ap (λ m. brackets_after m 93) two ∙ sym two in
         let shifted : kept_back n ++ 93 ∷ [] ≡ (93 ∷ []) ++ kept_back n = ap (λ m. kept_back m ++ 93 ∷ []) two ∙ ap (λ m. (93 ∷ []) ++ kept_back m) (sym two) in
         record {
           text = h.text;
@@ -321,7 +321,7 @@ module _ (hand pending chars : List ℕ) (r : Bool) (n b : ℕ) (h : SectionIn h
         }
 
     -- the first or the second
-    pub section_bracket : (n == 2) ≡ false → SectionIn (hand ++ b ∷ []) (held_after pending b) chars false (brackets_behind n 93)
+    pub section_bracket : (n == 2) ≡ false → SectionIn (hand ++ b ∷ []) (held_after pending b) chars false (brackets_after n 93)
     section_bracket short =
         let counted = kept_more n (let l = h.few in let other = eqb-false n 2 short in omega (arith, l, other)) in
         record {

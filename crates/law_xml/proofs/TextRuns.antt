@@ -3,7 +3,7 @@ use Rattle.std.proofs.Common.{◌≡◌, ℕ, ◌+◌, true, false, List, [], �
 use Rattle.std.specs.List.{list_all}
 use Rattle.std.specs.Option.{is_some}
 use Rattle.xml_tokens.proofs.Utf8Runs as runs
-use Rattle.xml_tokens.specs.Characters.{are_characters, are_characters_behind, is_white}
+use Rattle.xml_tokens.specs.Characters.{are_characters, are_characters_after, is_white}
 use Rattle.xml_tokens.specs.References.{referred}
 use Rattle.xml_tokens.specs.Utf8.{utf8_next, utf8_run}
 use Rattle.xml_tokens.specs.declared.references.Reference.TheVariants.{Character}
@@ -29,7 +29,7 @@ section held = codes "<![CDATA[" ++ (held ++ codes "]]>")
 
 -- bytes say this, from each state behind a token in an element
 abbrev IsRead : List ℕ → List ℕ → Type 0
-IsRead bytes says = (s : State) (items : List Item) (o : OpenElement) (a c : ℕ) → IsFresh s → s.here ≡ Some o → Room s (length bytes) → are_characters_behind a c bytes ≡ true → utf8_run [] bytes ≡ Some []
+IsRead bytes says = (s : State) (items : List Item) (o : OpenElement) (a c : ℕ) → IsFresh s → s.here ≡ Some o → Room s (length bytes) → are_characters_after a c bytes ≡ true → utf8_run [] bytes ≡ Some []
     → Goes s items bytes (λ t. Said t (s.chars ++ says))
 
 -- no character is in hand behind `![CDATA[`, nor behind `]>`
@@ -44,8 +44,8 @@ closing_utf8 rest = refl
 -- character data, one reference or section, and a text
 then_reads : (plain token rest said more : List ℕ) → IsCharacterData plain → IsRead rest more
     → utf8_run [] (plain ++ (token ++ rest)) ≡ Some [] → utf8_run [] plain ≡ Some [] → utf8_run [] rest ≡ Some []
-    → ((t : State) (items : List Item) (o : OpenElement) (a c : ℕ) → IsQuiet t → t.here ≡ Some o → Room t (length token) → are_characters_behind a c token ≡ true → Goes t items token (λ u. Fresh u (t.chars ++ said)))
-    → (s : State) (items : List Item) (o : OpenElement) (a c : ℕ) → IsFresh s → s.here ≡ Some o → Room s (length (plain ++ (token ++ rest))) → are_characters_behind a c (plain ++ (token ++ rest)) ≡ true
+    → ((t : State) (items : List Item) (o : OpenElement) (a c : ℕ) → IsQuiet t → t.here ≡ Some o → Room t (length token) → are_characters_after a c token ≡ true → Goes t items token (λ u. Fresh u (t.chars ++ said)))
+    → (s : State) (items : List Item) (o : OpenElement) (a c : ℕ) → IsFresh s → s.here ≡ Some o → Room s (length (plain ++ (token ++ rest))) → are_characters_after a c (plain ++ (token ++ rest)) ≡ true
     → Goes s items (plain ++ (token ++ rest)) (λ v. Said v (s.chars ++ (line_ends plain ++ (said ++ more))))
 then_reads plain token rest said more good ih utf8 utf8_plain utf8_rest reads s items o a c fresh here fits all =
     let text = s.chars ++ (line_ends plain ++ (said ++ more)) in

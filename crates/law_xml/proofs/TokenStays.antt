@@ -40,20 +40,20 @@ run_same s = one s s (run_begun s) s.lexical.in_run refl refl
 markup_same : (s : State) → Same s (markup_begun s)
 markup_same s =
     let t = token_begun s mode.Opening in
-    one s t (record t { places = record t.places { item_at = t.places.at; used = 1 } }) (is_some t.here) refl refl
+    one s t (record t { positions = record t.positions { item_at = t.positions.at; used = 1 } }) (is_some t.here) refl refl
 
 outside_same : (s : State) (b : ℕ) → Same s (text_outside s b)
 unfolding text_outside
 outside_same s b =
     let t = in_run s in
     let judged : Same s (judged_outside t b) = one s t (token_fails t why.NotWellFormed) (is_white b) (run_same s) (run_same s) in
-    let begun : Same s (character_begun t) = one s (record t { places = record t.places { item_at = t.places.at } }) t (is_empty t.pending) (run_same s) (run_same s) in
+    let begun : Same s (character_begun t) = one s (record t { positions = record t.positions { item_at = t.positions.at } }) t (is_empty t.pending) (run_same s) (run_same s) in
     one s (judged_outside t b) (character_begun t) (ends_character s.pending b) judged begun
 
 between_same : (s : State) (b : ℕ) → Same s (between s b)
 unfolding between
 between_same s b =
-    let fault = fails s s.places.at why.NotWellFormed in
+    let fault = fails s s.positions.at why.NotWellFormed in
     one s (markup_begun s) (if b == 38 then fault else text_outside s b) (b == 60) (markup_same s) (one s fault (text_outside s b) (b == 38) refl (outside_same s b))
 
 inside_same : (s : State) (b : ℕ) → Same s (inside s b)
@@ -151,9 +151,9 @@ tag_goes t b =
 footer_same : (s : State) (b : ℕ) → Same s (footer_gathered s b)
 footer_same s b =
     let spoiled = record s { lexical = record s.lexical { spoiled = true } } in
-    let behind = if is_white b then s else spoiled in
-    one s _ (if nat_lt (length s.token) (length s.name + 2) then gathered s b else behind) (is_some s.lexical.quote || is_quote b) refl
-    (one s (gathered s b) behind (nat_lt (length s.token) (length s.name + 2)) refl (one s s spoiled (is_white b) refl refl))
+    let following = if is_white b then s else spoiled in
+    one s _ (if nat_lt (length s.token) (length s.name + 2) then gathered s b else following) (is_some s.lexical.quote || is_quote b) refl
+    (one s (gathered s b) following (nat_lt (length s.token) (length s.name + 2)) refl (one s s spoiled (is_white b) refl refl))
 
 footer_goes : (t : Turn) (b : ℕ) → GoesTurn t.state (in_footer t b)
 unfolding in_footer
@@ -163,7 +163,7 @@ footer_goes t b =
     (ended t.state (footer_closes whole).state (footer_close whole)) (kept t.state (footer_gathered t.state b) (footer_same t.state b))
 
 unlimited_same : (s : State) → Same s (unlimited s)
-unlimited_same s = one s s (record s { places = record s.places { used = 0 } }) (is_some s.here) refl refl
+unlimited_same s = one s s (record s { positions = record s.positions { used = 0 } }) (is_some s.here) refl refl
 
 opening_goes : (t : Turn) (b : ℕ) → GoesTurn t.state (in_opening t b)
 unfolding in_opening

@@ -50,7 +50,7 @@ declares = record { prefix = []; ns = codes "a" }
 -- ---- a header
 
 abbrev in_header : State
-in_header = record first { places = record { at = 12; item_at = 0; token_at = 0; used = 12 }; lexical = record first.lexical { mode = mode.Tag }; token = codes "<s xmlns='a'" }
+in_header = record first { positions = record { at = 12; item_at = 0; token_at = 0; used = 12 }; lexical = record first.lexical { mode = mode.Tag }; token = codes "<s xmlns='a'" }
 
 abbrev header_says : Tag
 header_says = record { spelled = codes "s"; ns = codes "a"; name = codes "s"; attributes = []; bindings = declares ∷ []; empty = false }
@@ -60,7 +60,7 @@ header = record { ns = codes "a"; name = codes "s"; content = codes "a"; to = No
 
 abbrev headed : State
 headed = record first {
-  places = record { at = 13; item_at = 0; token_at = 0; used = 0 };
+  positions = record { at = 13; item_at = 0; token_at = 0; used = 0 };
   lexical = record first.lexical { phase = phase.Between };
   scopes = (declares ∷ []) ∷ [];
   name = codes "s";
@@ -88,7 +88,7 @@ header_gives =
 -- ---- a declaration before it
 
 abbrev in_declaration_bytes : State
-in_declaration_bytes = record first { places = record { at = 14; item_at = 0; token_at = 0; used = 14 }; lexical = record first.lexical { mode = mode.Declaration }; token = codes "<?xml version=" }
+in_declaration_bytes = record first { positions = record { at = 14; item_at = 0; token_at = 0; used = 14 }; lexical = record first.lexical { mode = mode.Declaration }; token = codes "<?xml version=" }
 
 -- cut in the declaration nothing is given
 declaration_cut : run (turn first []) (codes "<?xml version=") ≡ turn in_declaration_bytes []
@@ -96,7 +96,7 @@ unfolding goes_on taken is_too_long utf8_next in_text between in_opening in_ques
 declaration_cut = refl
 
 abbrev declared : State
-declared = record first { places = record { at = 21; item_at = 0; token_at = 0; used = 0 }; lexical = record first.lexical { phase = phase.FirstDeclared } }
+declared = record first { positions = record { at = 21; item_at = 0; token_at = 0; used = 0 }; lexical = record first.lexical { phase = phase.FirstDeclared } }
 
 declaration_is : declaration_of (codes "<?xml version='1.0'?>") ≡ good.Good
 unfolding declaration_of has_other is_good is_utf8_label spelled_at is_qualified are_characters is_utf8 chars encode
@@ -130,12 +130,12 @@ unfolding start_of parted_tag attributes_in element_ns bound prefix_of local_of 
 start_is l = refl
 
 abbrev in_start_tag : State
-in_start_tag = record headed { places = record { at = 15; item_at = 13; token_at = 13; used = 2 }; lexical = record headed.lexical { mode = mode.Tag }; token = codes "<b" }
+in_start_tag = record headed { positions = record { at = 15; item_at = 13; token_at = 13; used = 2 }; lexical = record headed.lexical { mode = mode.Tag }; token = codes "<b" }
 
 -- `<b>` is open
 abbrev opened : State
 opened = record headed {
-  places = record { at = 16; item_at = 13; token_at = 13; used = 3 };
+  positions = record { at = 16; item_at = 13; token_at = 13; used = 3 };
   here = Some (record { spelled = codes "b"; element = element (codes "a") (codes "b") [] no_nodes });
   scopes = [] ∷ scope ∷ [];
 }
@@ -150,7 +150,7 @@ start_tag_ends = rw (start_is largest_limits, start_is (tag_limits limits)) refl
 
 abbrev in_words : State
 in_words = record opened {
-  places = record { at = 17; item_at = 13; token_at = 16; used = 4 };
+  positions = record { at = 17; item_at = 13; token_at = 16; used = 4 };
   lexical = record opened.lexical { in_run = true };
   chars = codes "x";
 }
@@ -161,7 +161,7 @@ text_cut = refl
 
 abbrev in_entity : State
 in_entity = record opened {
-  places = record { at = 20; item_at = 13; token_at = 17; used = 7 };
+  positions = record { at = 20; item_at = 13; token_at = 17; used = 7 };
   lexical = record opened.lexical { mode = mode.Reference };
   token = codes "am";
   chars = codes "x";
@@ -173,7 +173,7 @@ reference_cut = refl
 
 abbrev in_end_tag : State
 in_end_tag = record opened {
-  places = record { at = 25; item_at = 13; token_at = 22; used = 12 };
+  positions = record { at = 25; item_at = 13; token_at = 22; used = 12 };
   lexical = record opened.lexical { mode = mode.Tag };
   token = codes "</b";
   chars = codes "x&";
@@ -190,10 +190,10 @@ end_tag_is = refl
 abbrev says : Item
 says = item.Element (element (codes "a") (codes "b") [] (text (codes "x&") no_nodes))
 
-abbrev behind : State
-behind = record headed { places = record { at = 26; item_at = 13; token_at = 22; used = 0 } }
+abbrev following : State
+following = record headed { positions = record { at = 26; item_at = 13; token_at = 22; used = 0 } }
 
-end_tag_ends : run (turn in_end_tag []) (codes ">") ≡ turn behind (says ∷ [])
+end_tag_ends : run (turn in_end_tag []) (codes ">") ≡ turn following (says ∷ [])
 unfolding goes_on taken is_too_long utf8_next in_tag tag_closes tag_inside ends closed
 end_tag_ends = rw end_tag_is refl
 
@@ -209,9 +209,9 @@ to_reference = run_append (turn headed []) (codes "<b>x") (codes "&am") ∙ ap (
 to_end_tag : run (turn headed []) (codes "<b>x&amp;</b") ≡ turn in_end_tag []
 to_end_tag = run_append (turn headed []) (codes "<b>x&am") (codes "p;</b") ∙ ap (λ t. run t (codes "p;</b")) to_reference ∙ end_tag_cut
 
-element_gives : GivesOne headed (codes "<b>x&amp;</b>") says behind
+element_gives : GivesOne headed (codes "<b>x&amp;</b>") says following
 element_gives =
-    by_last_byte headed (codes "<b>x&amp;</b") 62 says behind
+    by_last_byte headed (codes "<b>x&amp;</b") 62 says following
     (run_append (turn headed []) (codes "<b>x&amp;</b") (codes ">") ∙ ap (λ t. run t (codes ">")) to_end_tag ∙ end_tag_ends)
     (ap (λ (t : Turn). t.items) to_end_tag) refl
 
@@ -220,12 +220,12 @@ element_gives =
 abbrev pipe : Pipe
 pipe = entered (codes "<s xmlns='a'><b>x&amp;</b>") empty_pipe
 
-both : Carries first [] pipe (item.Header 0 header ∷ says ∷ []) behind
+both : Carries first [] pipe (item.Header 0 header ∷ says ∷ []) following
 both = record {
   no_fault = refl;
   none_given = refl;
-  are_items = one_more false first pipe.bytes (item.Header 0 header ∷ says ∷ []) behind (codes "<s xmlns='a'>") (codes "<b>x&amp;</b>") (item.Header 0 header) (says ∷ []) headed header_gives
-      (one_more false headed (codes "<b>x&amp;</b>") (says ∷ []) behind (codes "<b>x&amp;</b>") [] says [] behind element_gives (no_more false behind [] [] behind refl refl refl) refl refl) refl refl;
+  are_items = one_more false first pipe.bytes (item.Header 0 header ∷ says ∷ []) following (codes "<s xmlns='a'>") (codes "<b>x&amp;</b>") (item.Header 0 header) (says ∷ []) headed header_gives
+      (one_more false headed (codes "<b>x&amp;</b>") (says ∷ []) following (codes "<b>x&amp;</b>") [] says [] following element_gives (no_more false following [] [] following refl refl refl) refl refl) refl refl;
 }
 
 in_the_header : Carries first [] (cut_to 12 pipe) [] first
@@ -241,7 +241,7 @@ in_the_element n front more kept all some = record {
   no_fault = refl;
   none_given = refl;
   are_items = one_more true first (take n pipe.bytes) (item.Header 0 header ∷ []) headed (codes "<s xmlns='a'>") front (item.Header 0 header) [] headed header_gives
-      (no_more true headed front [] headed (inr (front_of headed front more says behind (subst (λ l. GivesOne headed l says behind) all element_gives) some)) refl refl) kept refl;
+      (no_more true headed front [] headed (inr (front_of headed front more says following (subst (λ l. GivesOne headed l says following) all element_gives) some)) refl refl) kept refl;
 }
 
 in_the_start_tag : Carries first [] (cut_to 15 pipe) (item.Header 0 header ∷ []) headed

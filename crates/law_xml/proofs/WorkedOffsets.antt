@@ -5,16 +5,16 @@ use Rattle.law_xml.proofs.OneOffset.{one_offset}
 use Rattle.law_xml.specs.Offsets.{AreBefore, AreTokens, IsAtToken, a_markup, a_reference, a_text, no_token, one_more, open_section, open_tag, whole_reference, whole_section, whole_tag}
 
 -- after a start tag
-behind_tag : AreTokens (codes "<a>")
-behind_tag = one_more (codes "<a>") [] [] (codes "<a>") (no_token [] refl) refl (whole_tag (codes "<a>") (codes "a") refl refl refl refl) refl
+after_tag : AreTokens (codes "<a>")
+after_tag = one_more (codes "<a>") [] [] (codes "<a>") (no_token [] refl) refl (whole_tag (codes "<a>") (codes "a") refl refl refl refl) refl
 
 ahead : AreBefore (codes "<a>")
-ahead = record { front = codes "<a>"; text = []; tokens = behind_tag; is_run = refl; whole = refl; before_is = refl }
+ahead = record { front = codes "<a>"; text = []; tokens = after_tag; is_run = refl; whole = refl; before_is = refl }
 
 -- ---- a control character in a text has the offset of the text
 
 control : IsAtToken (codes "<a>x") 1 3
-control = record { before = codes "<a>"; token = codes "x"; bytes_are = refl; at_is = refl; is_token = a_text (codes "<a>") (codes "x") 1 behind_tag refl (inl refl) }
+control = record { before = codes "<a>"; token = codes "x"; bytes_are = refl; at_is = refl; is_token = a_text (codes "<a>") (codes "x") 1 after_tag refl (inl refl) }
 
 -- not its own
 not_its_own : ¬ (IsAtToken (codes "<a>x") 1 4)
@@ -40,8 +40,8 @@ not_in_the_section h = let e = one_offset (codes "<a><![CDATA[<&") 1 3 12 sectio
 
 -- ---- after a section, its `<` is past
 
-behind_section : AreTokens (codes "<a><![CDATA[x]]>")
-behind_section = one_more (codes "<a><![CDATA[x]]>") (codes "<a>") [] (codes "<![CDATA[x]]>") behind_tag refl (whole_section (codes "<![CDATA[x]]>") (codes "x") refl refl) refl
+after_section : AreTokens (codes "<a><![CDATA[x]]>")
+after_section = one_more (codes "<a><![CDATA[x]]>") (codes "<a>") [] (codes "<![CDATA[x]]>") after_tag refl (whole_section (codes "<![CDATA[x]]>") (codes "x") refl refl) refl
 
 past_section : IsAtToken (codes "<a><![CDATA[x]]>") 1 16
 past_section = record {
@@ -49,7 +49,7 @@ past_section = record {
   token = [];
   bytes_are = refl;
   at_is = refl;
-  is_token = a_text (codes "<a><![CDATA[x]]>") [] 1 behind_section refl (inl refl);
+  is_token = a_text (codes "<a><![CDATA[x]]>") [] 1 after_section refl (inl refl);
 }
 
 not_the_section : ¬ (IsAtToken (codes "<a><![CDATA[x]]>") 1 3)
@@ -57,14 +57,14 @@ not_the_section h = let e = one_offset (codes "<a><![CDATA[x]]>") 1 16 3 past_se
 
 -- ---- a `>` or a `;` in a text ends no token
 
-behind_reference : AreTokens (codes "<a>&lt;")
-behind_reference = one_more (codes "<a>&lt;") (codes "<a>") [] (codes "&lt;") behind_tag refl (whole_reference (codes "&lt;") (codes "lt") refl refl) refl
+after_reference : AreTokens (codes "<a>&lt;")
+after_reference = one_more (codes "<a>&lt;") (codes "<a>") [] (codes "&lt;") after_tag refl (whole_reference (codes "&lt;") (codes "lt") refl refl) refl
 
 long_text : IsAtToken (codes "<a>&lt;x;y>") 1 7
-long_text = record { before = codes "<a>&lt;"; token = codes "x;y>"; bytes_are = refl; at_is = refl; is_token = a_text (codes "<a>&lt;") (codes "x;y>") 1 behind_reference refl (inl refl) }
+long_text = record { before = codes "<a>&lt;"; token = codes "x;y>"; bytes_are = refl; at_is = refl; is_token = a_text (codes "<a>&lt;") (codes "x;y>") 1 after_reference refl (inl refl) }
 
-not_behind_it : ¬ (IsAtToken (codes "<a>&lt;x;y>") 1 11)
-not_behind_it h = let e = one_offset (codes "<a>&lt;x;y>") 1 7 11 long_text h in omega (arith, e)
+not_after_it : ¬ (IsAtToken (codes "<a>&lt;x;y>") 1 11)
+not_after_it h = let e = one_offset (codes "<a>&lt;x;y>") 1 7 11 long_text h in omega (arith, e)
 
 -- ---- a `<` in a value begins nothing, and neither does a `>` there end the tag
 
@@ -75,7 +75,7 @@ value = record {
   token = codes "<b c='<>";
   bytes_are = refl;
   at_is = refl;
-  is_token = a_markup (codes "<a>\n") (codes "<b c='<>") 39 (codes "b c='<>") (record { front = codes "<a>"; text = codes "\n"; tokens = behind_tag; is_run = refl; whole = refl; before_is = refl }) refl
+  is_token = a_markup (codes "<a>\n") (codes "<b c='<>") 39 (codes "b c='<>") (record { front = codes "<a>"; text = codes "\n"; tokens = after_tag; is_run = refl; whole = refl; before_is = refl }) refl
       (open_tag (codes "b c='<>") refl refl);
 }
 

@@ -39,12 +39,12 @@ first = from_start limits
 
 -- between tokens: the last one began at a place, and this is the next byte's place
 abbrev stands : State → ℕ → ℕ → State
-stands s begun next = record s { places = record { at = next; item_at = begun; token_at = begun; used = 0 } }
+stands s begun next = record s { positions = record { at = next; item_at = begun; token_at = begun; used = 0 } }
 
 -- in a token outside elements: of so many bytes, counted or not, these are kept
 abbrev has_in_hand : State → Mode → ℕ → ℕ → ℕ → List ℕ → State
 has_in_hand s m begun next counted token = record s {
-  places = record { at = next; item_at = begun; token_at = begun; used = counted };
+  positions = record { at = next; item_at = begun; token_at = begun; used = counted };
   lexical = record s.lexical { mode = m };
   token = token;
 }
@@ -159,7 +159,7 @@ start_is l = refl
 -- `<b>` is open
 abbrev begun_element : ℕ → State
 begun_element n = record (headed phase.Between) {
-  places = record { at = 20 + n; item_at = 20; token_at = 20; used = n };
+  positions = record { at = 20 + n; item_at = 20; token_at = 20; used = n };
   here = Some (record { spelled = codes "b"; element = element (codes "a") (codes "b") [] no_nodes });
   scopes = [] ∷ scope ∷ [];
 }
@@ -175,7 +175,7 @@ start_ends items = rw (start_is largest_limits, start_is (tag_limits limits)) re
 -- a tag in it is in hand
 abbrev inner_in_hand : ℕ → ℕ → List ℕ → State
 inner_in_hand next counted token = record (begun_element 3) {
-  places = record { at = next; item_at = 20; token_at = 23; used = counted };
+  positions = record { at = next; item_at = 20; token_at = 23; used = counted };
   lexical = record first.lexical { phase = phase.Between; mode = mode.Tag };
   token = token;
 }

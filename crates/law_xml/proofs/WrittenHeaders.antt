@@ -50,7 +50,7 @@ pub next_header_within : (limits : Limits) (scope : Scope) (h : Header) (p : IsP
 next_header_within limits scope h p fits few short = record { head = head_within limits h fits; attributes_fit = few; names_fit = short }
 
 abbrev pub GivesHeader : State → List Item → Header → Type 0
-GivesHeader s items h = Gives s items (written_header h) (item.Header s.places.at (as_written h)) phase.Between written_scope (codes "stream:stream")
+GivesHeader s items h = Gives s items (written_header h) (item.Header s.positions.at (as_written h)) phase.Between written_scope (codes "stream:stream")
 
 pub first_header_is_read : (s : State) (items : List Item) (scope : Scope) (name : List ℕ) (h : Header) → IsPlainHeader h → HeaderFits s.limits h → StandsOutside s phase.First scope name → GivesHeader s items h
 first_header_is_read s items scope name h p fits stands =
@@ -63,9 +63,9 @@ first_declared_header_is_read s items scope name h p fits stands =
 pub next_header_is_read : (s : State) (items : List Item) (scope : Scope) (name : List ℕ) (h : Header) → IsPlainHeader h → HeaderFits s.limits h → s.limits.attributes < 2 ^ 32 → s.limits.namespace_bytes < 2 ^ 32
     → StandsOutside s phase.Between scope name → GivesHeader s items h
 next_header_is_read s items scope name h p fits few short stands =
-    let i = item.Header s.places.at (as_written h) in
+    let i = item.Header s.positions.at (as_written h) in
     item_gives s items scope name (written_header h) i
-    (a_header scope name (written_header h) i (codes "stream:stream") written_scope s.places.at (as_written h) (next_header_by scope h p) refl)
+    (a_header scope name (written_header h) i (codes "stream:stream") written_scope s.positions.at (as_written h) (next_header_by scope h p) refl)
     stands (next_header_within s.limits scope h p fits few short)
 
 pub declared_header_is_read : (s : State) (items : List Item) (scope : Scope) (name : List ℕ) (h : Header) → IsPlainHeader h → HeaderFits s.limits h → s.limits.attributes < 2 ^ 32 → s.limits.namespace_bytes < 2 ^ 32

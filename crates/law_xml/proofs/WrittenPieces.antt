@@ -16,10 +16,10 @@ use Rattle.xml_framer.specs.declared.states.Phase.{Phase}
 use Rattle.xml_framer.specs.declared.states.Phase.TheVariants as phase
 use Rattle.law_xml.specs.Spells.{as_written, placed, written_scope}
 use Rattle.law_xml.specs.Standing.{Gives, StandsOutside}
-use Rattle.law_xml.specs.Streams.{place_of}
+use Rattle.law_xml.specs.Streams.{position_of}
 use Rattle.law_xml.specs.WrittenStreams.{ItemFits, MayFollow, MayStand, phase_after, read_item, read_items, whole_items, written_item, written_items}
-use Rattle.law_xml.proofs.RunPlaces.{no_fault_before}
-use Rattle.law_xml.proofs.StreamRuns.{place_there}
+use Rattle.law_xml.proofs.RunPositions.{no_fault_before}
+use Rattle.law_xml.proofs.StreamRuns.{position_there}
 use Rattle.law_xml.proofs.WrittenFits.{written_element_is_read}
 use Rattle.law_xml.proofs.WrittenHeaders.{first_header_is_read, footer_is_read, next_header_is_read}
 use Rattle.law_xml.proofs.WrittenRuns.{AreLimits, IsAfterHeader, is_after}
@@ -27,22 +27,22 @@ use Rattle.law_xml.proofs.WrittenRuns.{AreLimits, IsAfterHeader, is_after}
 -- ---- one item
 
 abbrev read_at : ℕ → Item → Item
-read_at place (item.Header at h) = item.Header place (as_written h)
-read_at place (item.Element e) = item.Element e
-read_at place item.Footer = item.Footer
+read_at position (item.Header at h) = item.Header position (as_written h)
+read_at position (item.Element e) = item.Element e
+read_at position item.Footer = item.Footer
 
-placed_there : (place : ℕ) (i : Item) → placed place (read_at place i) ≡ read_at place i
-placed_there place (item.Header at h) = refl
-placed_there place (item.Element e) = refl
-placed_there place item.Footer = refl
+placed_there : (position : ℕ) (i : Item) → placed position (read_at position i) ≡ read_at position i
+placed_there position (item.Header at h) = refl
+placed_there position (item.Element e) = refl
+placed_there position item.Footer = refl
 
-read_there : (offset : ℕ) (i : Item) → read_at (place_of offset) i ≡ read_item offset i
+read_there : (offset : ℕ) (i : Item) → read_at (position_of offset) i ≡ read_item offset i
 read_there offset (item.Header at h) = refl
 read_there offset (item.Element e) = refl
 read_there offset item.Footer = refl
 
 abbrev GivesItem : State → List Item → Item → Type 0
-GivesItem s said i = Gives s said (written_item i) (read_at s.places.at i) (phase_after i) written_scope (codes "stream:stream")
+GivesItem s said i = Gives s said (written_item i) (read_at s.positions.at i) (phase_after i) written_scope (codes "stream:stream")
 
 first_item : (s : State) (said : List Item) (i : Item) → StandsOutside s phase.First [] [] → MayStand phase.First i → ItemFits s.limits i → GivesItem s said i
 first_item s said (item.Header at h) stands may fits = first_header_is_read s said [] [] h fits.0 fits.1 stands
@@ -74,7 +74,7 @@ nothing_more s said none = record { items = sym (append-nil said); no_fault = no
 -- before the last byte of an item nothing is given
 before_last : (s : State) (said : List Item) (bytes : List ℕ) (i : Item) (p : Phase) (g : Gives s said bytes i p written_scope (codes "stream:stream")) (n : ℕ) → n < length bytes → Gave s said (take n bytes) []
 before_last s said bytes i p g n less =
-    let whole : run (run (turn s said) (take n bytes)) (drop n bytes) ≡ turn g.behind (said ++ placed s.places.at i ∷ []) =
+    let whole : run (run (turn s said) (take n bytes)) (drop n bytes) ≡ turn g.following (said ++ placed s.positions.at i ∷ []) =
     sym (run_append (turn s said) (take n bytes) (drop n bytes)) ∙ ap (run (turn s said)) (take-append-drop n bytes) ∙ g.run_is in
     record {
       items = g.none_before n less ∙ sym (append-nil said);
@@ -94,32 +94,32 @@ after_item s t said first rest i more runs h =
 abbrev Pieces : State → List Item → ℕ → List Item → ℕ → Type 0
 Pieces s said offset items n = Gave s said (take n (written_items items)) (read_items offset (whole_items n items))
 
-one_more : (s : State) (said : List Item) (offset : ℕ) (i : Item) (more : List Item) (n : ℕ) → s.places.at ≡ place_of offset → (g : GivesItem s said i)
-    → ((t : State) (items : List Item) (k : ℕ) → StandsOutside t (phase_after i) written_scope (codes "stream:stream") → t.limits ≡ s.limits → t.places.at ≡ place_of (offset + length (written_item i))
+one_more : (s : State) (said : List Item) (offset : ℕ) (i : Item) (more : List Item) (n : ℕ) → s.positions.at ≡ position_of offset → (g : GivesItem s said i)
+    → ((t : State) (items : List Item) (k : ℕ) → StandsOutside t (phase_after i) written_scope (codes "stream:stream") → t.limits ≡ s.limits → t.positions.at ≡ position_of (offset + length (written_item i))
     → Pieces t items (offset + length (written_item i)) more k)
     → Pieces s said offset (i ∷ more) n
 one_more s said offset i more n at g others =
     let w = written_item i in
     let rest = written_items more in
-    let item_is : placed s.places.at (read_at s.places.at i) ≡ read_item offset i = placed_there s.places.at i ∙ ap (λ m. read_at m i) at ∙ read_there offset i in
-    let runs : run (turn s said) w ≡ turn g.behind (said ++ read_item offset i ∷ []) = g.run_is ∙ ap (λ j. turn g.behind (said ++ j ∷ [])) item_is in
+    let item_is : placed s.positions.at (read_at s.positions.at i) ≡ read_item offset i = placed_there s.positions.at i ∙ ap (λ m. read_at m i) at ∙ read_there offset i in
+    let runs : run (turn s said) w ≡ turn g.following (said ++ read_item offset i ∷ []) = g.run_is ∙ ap (λ j. turn g.following (said ++ j ∷ [])) item_is in
     ⊎_elim
     (λ (fits : leb (length w) n ≡ true).
     let k = n - length w in
     let sum : n ≡ length w + (n - length w) = grind (arith, nat_tests) in
     let bytes_are : take n (w ++ rest) ≡ w ++ take k rest = ap (λ m. take m (w ++ rest)) sum ∙ take-append-add w rest k in
-    let there = place_there s g.behind said (said ++ read_item offset i ∷ []) w offset at runs g.stands.no_fault in
-    let after = others g.behind (said ++ read_item offset i ∷ []) k g.stands g.same_limits there in
+    let there = position_there s g.following said (said ++ read_item offset i ∷ []) w offset at runs g.stands.no_fault in
+    let after = others g.following (said ++ read_item offset i ∷ []) k g.stands g.same_limits there in
     let items_are : whole_items n (i ∷ more) ≡ i ∷ whole_items k more = cond-true (leb (length w) n) (i ∷ whole_items k more) [] fits in
     subst (λ l. Gave s said (take n (w ++ rest)) (read_items offset l)) (sym items_are)
     (subst (λ l. Gave s said l (read_items offset (i ∷ whole_items k more))) (sym bytes_are)
-    (after_item s g.behind said w (take k rest) (read_item offset i) (read_items (offset + length w) (whole_items k more)) runs after)))
+    (after_item s g.following said w (take k rest) (read_item offset i) (read_items (offset + length w) (whole_items k more)) runs after)))
     (λ (cut : leb (length w) n ≡ false).
     let less : n < length w = grind (arith, nat_tests) in
     let bytes_are : take n (w ++ rest) ≡ take n w = take-append-le n w rest (omega (arith, less)) in
     let items_are : whole_items n (i ∷ more) ≡ [] = cond-false (leb (length w) n) (i ∷ whole_items (n - length w) more) [] cut in
     subst (λ l. Gave s said (take n (w ++ rest)) (read_items offset l)) (sym items_are)
-    (subst (λ l. Gave s said l []) (sym bytes_are) (before_last s said w (read_at s.places.at i) (phase_after i) g n less)))
+    (subst (λ l. Gave s said l []) (sym bytes_are) (before_last s said w (read_at s.positions.at i) (phase_after i) g n less)))
     (cases_Bool (leb (length w) n))
 
 none_taken : (n : ℕ) → take {A = ℕ} n [] ≡ []
@@ -127,12 +127,12 @@ none_taken zero = refl
 none_taken (suc n) = refl
 
 pieces_from : (limits : Limits) (p : Phase) (s : State) (said : List Item) (offset : ℕ) (items : List Item) (n : ℕ) → AreLimits limits → IsAfterHeader p → s.limits ≡ limits
-    → StandsOutside s p written_scope (codes "stream:stream") → s.places.at ≡ place_of offset → MayFollow p items → AllByRecursion (ItemFits limits) items → Pieces s said offset items n
+    → StandsOutside s p written_scope (codes "stream:stream") → s.positions.at ≡ position_of offset → MayFollow p items → AllByRecursion (ItemFits limits) items → Pieces s said offset items n
 pieces_from limits p s said offset [] n limited after same stands at may fits = subst (λ l. Gave s said l []) (sym (none_taken n)) (nothing_more s said stands.no_fault)
 pieces_from limits p s said offset (i ∷ more) n limited after same stands at may fits =
     one_more s said offset i more n at
     (next_item s said p i (subst AreLimits (sym same) limited) after stands may.0 (subst (λ l. ItemFits l i) (sym same) fits.0))
-    (λ t items k there limits_are at_place. pieces_from limits (phase_after i) t items (offset + length (written_item i)) more k limited (is_after i) (limits_are ∙ same) there at_place may.1 fits.1)
+    (λ t items k there limits_are at_position. pieces_from limits (phase_after i) t items (offset + length (written_item i)) more k limited (is_after i) (limits_are ∙ same) there at_position may.1 fits.1)
 
 stands_first : (limits : Limits) → StandsOutside (from_start limits) phase.First [] []
 stands_first limits =
@@ -142,7 +142,7 @@ all_pieces : (limits : Limits) (items : List Item) (n : ℕ) → AreLimits limit
 all_pieces limits [] n limited may fits = subst (λ l. Gave (from_start limits) [] l []) (sym (none_taken n)) (nothing_more (from_start limits) [] refl)
 all_pieces limits (i ∷ more) n limited may fits =
     one_more (from_start limits) [] 0 i more n refl (first_item (from_start limits) [] i (stands_first limits) may.0 fits.0)
-    (λ t items k there limits_are at_place. pieces_from limits (phase_after i) t items (0 + length (written_item i)) more k limited (is_after i) limits_are there at_place may.1 fits.1)
+    (λ t items k there limits_are at_position. pieces_from limits (phase_after i) t items (0 + length (written_item i)) more k limited (is_after i) limits_are there at_position may.1 fits.1)
 
 pub pieces_are_read : (limits : Limits) (items : List Item) (n : ℕ) → limits.attributes < 2 ^ 32 → limits.namespace_bytes < 2 ^ 32 → MayFollow phase.First items → All (ItemFits limits) items
     → ((run (turn (from_start limits) []) (take n (written_items items))).items ≡ read_items 0 (whole_items n items)) × ((run (turn (from_start limits) []) (take n (written_items items))).state.fault ≡ None)

@@ -12,7 +12,7 @@ use Rattle.xml_framer.specs.declared.states.Phase.TheVariants as phase
 use Rattle.xml_writer.specs.Canon.{canon, written_footer, written_header}
 use Rattle.law_xml.specs.Spells.{as_written, written_scope}
 use Rattle.law_xml.specs.StreamLimits.{IsReadAs, IsStreamWithin}
-use Rattle.law_xml.specs.Streams.{InForce, IsStream, StreamTo, ended, headed, nothing, place_of, with_element}
+use Rattle.law_xml.specs.Streams.{InForce, IsStream, StreamTo, ended, headed, nothing, position_of, with_element}
 use Rattle.law_xml.specs.WrittenStreams.{ItemFits, MayFollow, MayStand, at_start, in_force, now_after, phase_after, read_item, read_items, written_item, written_items}
 use Rattle.law_xml.proofs.CanonLaws.{in_header}
 use Rattle.law_xml.proofs.HeaderLaws.{footer_spelled, header_by}
@@ -39,7 +39,7 @@ started limits = record { stream = nothing at_start [] [] refl refl refl refl re
 first_item : (limits : Limits) (bytes : List ℕ) (said : List Item) (i : Item) → SoFar limits at_start bytes said → MayStand phase.First i → ItemFits limits i → Grown limits i bytes said
 first_item limits bytes said (item.Header at h) s may fits =
     record {
-      stream = headed (in_force phase.Between) (bytes ++ written_header h) (said ++ item.Header (place_of (length bytes)) (as_written h) ∷ []) at_start bytes (written_header h) said (as_written h)
+      stream = headed (in_force phase.Between) (bytes ++ written_header h) (said ++ item.Header (position_of (length bytes)) (as_written h) ∷ []) at_start bytes (written_header h) said (as_written h)
           s.stream (header_by h fits.0) refl refl refl;
       within = (s.within, header_within limits h fits.0 fits.1);
     }
@@ -49,7 +49,7 @@ first_item limits bytes said item.Footer s may fits = absurd may
 between : (limits : Limits) (bytes : List ℕ) (said : List Item) (i : Item) → AreLimits limits → SoFar limits (in_force phase.Between) bytes said → ItemFits limits i → Grown limits i bytes said
 between limits bytes said (item.Header at h) limited s fits =
     record {
-      stream = headed (in_force phase.Between) (bytes ++ written_header h) (said ++ item.Header (place_of (length bytes)) (as_written h) ∷ []) (in_force phase.Between) bytes (written_header h) said (as_written h)
+      stream = headed (in_force phase.Between) (bytes ++ written_header h) (said ++ item.Header (position_of (length bytes)) (as_written h) ∷ []) (in_force phase.Between) bytes (written_header h) said (as_written h)
           s.stream (next_header_by written_scope h fits.0) refl refl refl;
       within = (s.within, next_header_within limits written_scope h fits.0 fits.1 limited.few limited.short);
     }

@@ -13,7 +13,7 @@ use Rattle.xml_framer.specs.declared.fault.Why.{Why}
 use Rattle.xml_framer.specs.declared.fault.Why.TheVariants as why
 use Rattle.xml_framer.specs.declared.limits.Limits.{Limits}
 use Rattle.law_xml.specs.Offsets.{AreBefore, IsAtToken, character_left, has_declaration_end, is_no_end}
-use Rattle.law_xml.specs.Streams.{place_of}
+use Rattle.law_xml.specs.Streams.{position_of}
 
 -- One byte more isn't told as past the limit on bytes, which is told before all else.
 abbrev pub IsNotTooLong : Limits → List ℕ → ℕ → Type 0
@@ -34,16 +34,16 @@ pub record EndInMarkup (bytes before more : List ℕ) : Type 0 where
 
 -- `<!`, and what has come of `<![CDATA[`, but not all
 pub record OpensSection (more : List ℕ) : Type 0 where
-  pub behind : List ℕ
-  pub more_is : more ≡ 33 ∷ behind
+  pub following : List ℕ
+  pub more_is : more ≡ 33 ∷ following
   pub next : ℕ
   pub rest : List ℕ
   pub due : codes "![CDATA[" ≡ more ++ next ∷ rest
 
 -- `<?`, and what has come of `<?xml`
 pub record OpensDeclaration (more : List ℕ) : Type 0 where
-  pub behind : List ℕ
-  pub more_is : more ≡ 63 ∷ behind
+  pub following : List ℕ
+  pub more_is : more ≡ 63 ∷ following
   pub rest : List ℕ
   pub due : codes "?xml" ≡ more ++ rest
 
@@ -88,10 +88,10 @@ pub data DeclarationByteRow : List ℕ → ℕ → Why → Type 0 where
 pub data ByteRow : List ℕ → ℕ → ℕ → Why → Type 0 where
   broken_character : (bytes : List ℕ) (b at : ℕ) (w : Why) → continues (character_left [] bytes) b ≡ false → IsAtToken bytes b at → w ≡ why.Encoding → ByteRow bytes b at w
   after_reference : (bytes : List ℕ) (b at : ℕ) (w : Why) (before name : List ℕ) → continues (character_left [] bytes) b ≡ true → EndInReference bytes before name
-      → at ≡ place_of (length before) → ReferenceByteRow name b w → ByteRow bytes b at w
+      → at ≡ position_of (length before) → ReferenceByteRow name b w → ByteRow bytes b at w
   after_bang : (bytes : List ℕ) (b at : ℕ) (w : Why) (before more : List ℕ) → continues (character_left [] bytes) b ≡ true → EndInMarkup bytes before more → OpensSection more
-      → at ≡ place_of (length before) → BangByteRow (60 ∷ more) b w → ByteRow bytes b at w
+      → at ≡ position_of (length before) → BangByteRow (60 ∷ more) b w → ByteRow bytes b at w
   after_question : (bytes : List ℕ) (b at : ℕ) (w : Why) (before more : List ℕ) → continues (character_left [] bytes) b ≡ true → EndInMarkup bytes before more → OpensDeclaration more
-      → at ≡ place_of (length before) → QuestionByteRow (60 ∷ more) b w → ByteRow bytes b at w
+      → at ≡ position_of (length before) → QuestionByteRow (60 ∷ more) b w → ByteRow bytes b at w
   after_declaration : (bytes : List ℕ) (b at : ℕ) (w : Why) (before more : List ℕ) → continues (character_left [] bytes) b ≡ true → EndInMarkup bytes before more → InDeclaration more
-      → at ≡ place_of (length before) → DeclarationByteRow (60 ∷ more) b w → ByteRow bytes b at w
+      → at ≡ position_of (length before) → DeclarationByteRow (60 ∷ more) b w → ByteRow bytes b at w

@@ -3,7 +3,7 @@ use Rattle.std.specs.Prelude.{◌≡◌, ℕ, Bool, true, false, not, ◌&&◌, 
 use Rattle.std.specs.Option.{is_some}
 use Rattle.xml_tokens.specs.Utf8.{continues}
 use Rattle.xml_framer.specs.Machine.{is_too_long, step}
-use Rattle.xml_framer.specs.States.{State, Turn, gathered, is_text, next_place}
+use Rattle.xml_framer.specs.States.{State, Turn, gathered, is_text, next_position}
 use Rattle.xml_framer.specs.declared.fault.Why.{Why}
 use Rattle.xml_framer.specs.declared.states.Mode.{Mode}
 use Rattle.xml_framer.specs.declared.states.Mode.TheVariants as mode
@@ -58,5 +58,5 @@ has_limit s = is_some s.here || is_limited s.lexical.mode
 
 -- one byte more is counted, of what began at the same place
 pub record Counts (s t : State) : Type 0 where
-  pub used : t.places.used ≡ next_place s.places.used
-  pub item_at : t.places.item_at ≡ s.places.item_at
+  pub used : t.positions.used ≡ next_position s.positions.used
+  pub item_at : t.positions.item_at ≡ s.positions.item_at

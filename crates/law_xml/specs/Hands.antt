@@ -6,9 +6,9 @@ use Rattle.std.specs.Option.{is_some}
 use Rattle.xml_tokens.specs.Characters.{is_white}
 use Rattle.xml_tokens.specs.Tags.{is_empty, is_end}
 use Rattle.xml_framer.specs.ManyBytes.{quote_after}
-use Rattle.xml_framer.specs.States.{State, is_text, token_place}
+use Rattle.xml_framer.specs.States.{State, is_text, token_position}
 use Rattle.law_xml.specs.Offsets.{AreBefore, AreTokens, IsRun, character_left, first_of, has_declaration_end, is_no_end, is_open_tag, leads_tag}
-use Rattle.law_xml.specs.Streams.{place_of}
+use Rattle.law_xml.specs.Streams.{position_of}
 use Rattle.law_xml.specs.Texts.{has_section_end}
 use Rattle.xml_framer.specs.declared.states.Mode.{Mode}
 use Rattle.xml_framer.specs.declared.states.Mode.TheVariants as mode
@@ -37,7 +37,7 @@ pub record IsTokenHeld (s : State) (bytes : List ℕ) : Type 0 where
   pub before : List ℕ
   pub more : List ℕ
   pub bytes_are : bytes ≡ before ++ first_of s.lexical.mode ∷ more
-  pub at_is : s.places.token_at ≡ place_of (length before)
+  pub at_is : s.positions.token_at ≡ position_of (length before)
   pub ahead : AreBefore before
   pub kept : AreKept s.lexical.mode s more
 
@@ -46,7 +46,7 @@ pub record IsRunHeld (s : State) (bytes : List ℕ) : Type 0 where
   pub before : List ℕ
   pub text : List ℕ
   pub bytes_are : bytes ≡ before ++ text
-  pub at_is : token_place s ≡ place_of (length before)
+  pub at_is : token_position s ≡ position_of (length before)
   pub ahead : AreTokens before
   pub is_run : IsRun text
   pub held : s.pending ≡ character_left [] text
@@ -55,20 +55,20 @@ pub record IsRunHeld (s : State) (bytes : List ℕ) : Type 0 where
 -- No token is in hand, and no text.
 pub record IsNoneHeld (s : State) (bytes : List ℕ) : Type 0 where
   pub tokens : AreTokens bytes
-  pub at_is : token_place s ≡ place_of (length bytes)
+  pub at_is : token_position s ≡ position_of (length bytes)
   pub none_held : s.pending ≡ []
 
 -- The state has in hand a token that begins with this byte after these bytes, and these after that byte.
 pub record IsHolding (s : State) (first : ℕ) (before more : List ℕ) : Type 0 where
   pub no_text : is_text s.lexical.mode ≡ false
   pub first_is : first_of s.lexical.mode ≡ first
-  pub at_is : s.places.token_at ≡ place_of (length before)
+  pub at_is : s.positions.token_at ≡ position_of (length before)
   pub kept : AreKept s.lexical.mode s more
 
 -- The state has a text in hand, or nothing, after these bytes.
 pub record IsReading (s : State) (before text : List ℕ) : Type 0 where
   pub text_mode : is_text s.lexical.mode ≡ true
-  pub at_is : token_place s ≡ place_of (length before)
+  pub at_is : token_position s ≡ position_of (length before)
   pub held : s.pending ≡ character_left [] text
   pub counts : is_some s.here ≡ true → s.pending ≡ [] → s.lexical.in_run ≡ true → s.lexical.brackets ≡ brackets_last 0 text
   pub none_begun : s.lexical.in_run ≡ false → text ≡ []

@@ -7,17 +7,17 @@ use Rattle.xml_framer.specs.declared.items.Item.{Item}
 -- In a state of the framer these bytes give exactly this item, at the last of them, without a fault, and leave that
 -- state. They may be the bytes of a declaration and of the header behind it: nothing is said of what is in hand
 -- between.
-pub record GivesOne (s : State) (bytes : List ℕ) (i : Item) (behind : State) : Type 0 where
-  pub run_is : run (turn s []) bytes ≡ turn behind (i ∷ [])
+pub record GivesOne (s : State) (bytes : List ℕ) (i : Item) (following : State) : Type 0 where
+  pub run_is : run (turn s []) bytes ≡ turn following (i ∷ [])
   pub none_before : (n : ℕ) → n < length bytes → (run (turn s []) (take n bytes)).items ≡ []
-  pub no_fault : behind.fault ≡ None
+  pub no_fault : following.fault ≡ None
 
 -- the first bytes of an item, and not all of them
 pub record IsFront (s : State) (bytes : List ℕ) : Type 0 where
   pub more : List ℕ
   pub given : Item
-  pub behind : State
-  pub gives : GivesOne s (bytes ++ more) given behind
+  pub following : State
+  pub gives : GivesOne s (bytes ++ more) given following
   pub some_more : 0 < length more
 
 -- What may stand behind whole items: nothing, and where the last bytes may be lost, a front of one more item.

@@ -6,7 +6,7 @@ use Rattle.xml_framer.specs.declared.items.Item.{Item}
 use Rattle.xml_framer.specs.declared.limits.Limits.{Limits}
 use Rattle.xml_framer.specs.declared.states.Phase.{Phase}
 use Rattle.law_xml.specs.Prefixes.{IsPrefix}
-use Rattle.law_xml.specs.Streams.{place_of}
+use Rattle.law_xml.specs.Streams.{position_of}
 
 -- What begins outside elements has a limit: it is an element, a tag or a declaration. An end tag has none, nor what `<!`
 -- begins, nor a `<?` where no declaration may stand.
@@ -26,4 +26,4 @@ pub record IsLong (limits : Limits) (bytes : List ℕ) (b at : ℕ) : Type 0 whe
   pub prefix : IsPrefix limits bytes items part
   pub full : limits.bytes ≤ length prefix.hand
   pub limited : HasLimit prefix.now.phase (prefix.hand ++ b ∷ [])
-  pub at_is : at ≡ place_of (length prefix.done)
+  pub at_is : at ≡ position_of (length prefix.done)

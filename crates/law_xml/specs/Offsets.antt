@@ -6,7 +6,7 @@ use Rattle.xml_tokens.specs.Characters.{is_white}
 use Rattle.xml_tokens.specs.Tags.{quote_behind}
 use Rattle.xml_tokens.specs.Utf8.{held_after}
 use Rattle.xml_framer.specs.ManyBytes.{quote_after}
-use Rattle.law_xml.specs.Streams.{place_of}
+use Rattle.law_xml.specs.Streams.{position_of}
 use Rattle.law_xml.specs.Texts.{has_section_end}
 use Rattle.xml_framer.specs.declared.states.Mode.{Mode}
 use Rattle.xml_framer.specs.declared.states.Mode.TheVariants as mode
@@ -102,5 +102,5 @@ pub record IsAtToken (bytes : List ℕ) (b at : ℕ) : Type 0 where
   pub before : List ℕ
   pub token : List ℕ
   pub bytes_are : bytes ≡ before ++ token
-  pub at_is : at ≡ place_of (length before)
+  pub at_is : at ≡ position_of (length before)
   pub is_token : IsToken before token b

@@ -19,7 +19,7 @@ use Rattle.law_xml.specs.ByteRows.{EndInMarkup}
 use Rattle.law_xml.specs.Contexts.{Context, HasContext}
 use Rattle.law_xml.specs.Hands.{brackets_last}
 use Rattle.law_xml.specs.Offsets.{AreTokens, IsRun, character_left, is_open_tag, leads_tag}
-use Rattle.law_xml.specs.Streams.{place_of}
+use Rattle.law_xml.specs.Streams.{position_of}
 use Rattle.law_xml.specs.Texts.{has_section_end}
 
 -- ---- what the bytes end in
@@ -122,19 +122,19 @@ pub data TagByteRow : Limits → Context → List ℕ → Why → Type 0 where
 pub data OpenRow : Limits → List ℕ → ℕ → ℕ → Why → Type 0 where
   -- `&` outside elements
   stray_reference : (limits : Limits) (bytes : List ℕ) (b at : ℕ) (w : Why) (c : Context) (before text : List ℕ) → continues (character_left [] bytes) b ≡ true → EndInText bytes before text → HasContext limits c before
-      → c.opens ≡ [] → b ≡ 38 → at ≡ place_of (length bytes) → w ≡ why.NotWellFormed → OpenRow limits bytes b at w
+      → c.opens ≡ [] → b ≡ 38 → at ≡ position_of (length bytes) → w ≡ why.NotWellFormed → OpenRow limits bytes b at w
   after_text : (limits : Limits) (bytes : List ℕ) (b at : ℕ) (w : Why) (c : Context) (before text : List ℕ) → continues (character_left [] bytes) b ≡ true → EndInText bytes before text → HasContext limits c before
-      → at ≡ place_of (length before) → TextByteRow c (character_left [] bytes) text b w → OpenRow limits bytes b at w
+      → at ≡ position_of (length before) → TextByteRow c (character_left [] bytes) text b w → OpenRow limits bytes b at w
   after_less : (limits : Limits) (bytes : List ℕ) (b at : ℕ) (w : Why) (c : Context) (before : List ℕ) → continues (character_left [] bytes) b ≡ true → EndInMarkup bytes before [] → HasContext limits c before
-      → at ≡ place_of (length before) → OpeningByteRow c b w → OpenRow limits bytes b at w
+      → at ≡ position_of (length before) → OpeningByteRow c b w → OpenRow limits bytes b at w
   -- `<![CDATA[` outside elements
   stray_section : (limits : Limits) (bytes : List ℕ) (b at : ℕ) (w : Why) (c : Context) (before : List ℕ) → continues (character_left [] bytes) b ≡ true → EndInMarkup bytes before (codes "![CDATA") → HasContext limits c before
-      → c.opens ≡ [] → b ≡ 91 → at ≡ place_of (length before) → w ≡ why.NotWellFormed → OpenRow limits bytes b at w
+      → c.opens ≡ [] → b ≡ 91 → at ≡ position_of (length before) → w ≡ why.NotWellFormed → OpenRow limits bytes b at w
   in_section : (limits : Limits) (bytes : List ℕ) (b at : ℕ) (w : Why) (before inside : List ℕ) → continues (character_left [] bytes) b ≡ true → EndInSection bytes before inside
-      → at ≡ place_of (length before) → ends_character (character_left [] bytes) b ≡ true → ends_forbidden_character (character_left [] bytes) b ≡ true → w ≡ why.NotWellFormed → OpenRow limits bytes b at w
+      → at ≡ position_of (length before) → ends_character (character_left [] bytes) b ≡ true → ends_forbidden_character (character_left [] bytes) b ≡ true → w ≡ why.NotWellFormed → OpenRow limits bytes b at w
   after_tag : (limits : Limits) (bytes : List ℕ) (b at : ℕ) (w : Why) (c : Context) (before more : List ℕ) → continues (character_left [] bytes) b ≡ true → EndInTag bytes before more → HasContext limits c before
-      → (c.opens ≡ [] → is_end (60 ∷ more) ≡ false) → b ≡ 62 → at ≡ place_of (length before) → TagByteRow limits c (60 ∷ (more ++ b ∷ [])) w → OpenRow limits bytes b at w
+      → (c.opens ≡ [] → is_end (60 ∷ more) ≡ false) → b ≡ 62 → at ≡ position_of (length before) → TagByteRow limits c (60 ∷ (more ++ b ∷ [])) w → OpenRow limits bytes b at w
   -- an end tag outside elements that isn't the footer
   after_end : (limits : Limits) (bytes : List ℕ) (b at : ℕ) (w : Why) (c : Context) (before more : List ℕ) → continues (character_left [] bytes) b ≡ true → EndInTag bytes before more → HasContext limits c before
-      → c.opens ≡ [] → is_end (60 ∷ more) ≡ true → b ≡ 62 → at ≡ place_of (length before) → ¬ ((c.phase ≡ phase.Between) × IsEndTag (60 ∷ (more ++ b ∷ [])) c.name) → w ≡ why.NotWellFormed
+      → c.opens ≡ [] → is_end (60 ∷ more) ≡ true → b ≡ 62 → at ≡ position_of (length before) → ¬ ((c.phase ≡ phase.Between) × IsEndTag (60 ∷ (more ++ b ∷ [])) c.name) → w ≡ why.NotWellFormed
       → OpenRow limits bytes b at w

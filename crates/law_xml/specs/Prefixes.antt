@@ -3,7 +3,7 @@ use Rattle.std.specs.Prelude.{ℕ, ◌≡◌, ◌<◌, ◌≤◌, ◌^◌, ◌�
 use Rattle.xml_tokens.specs.Tags.{is_empty}
 use Rattle.xml_framer.specs.declared.items.Item.{Item}
 use Rattle.law_xml.specs.StreamLimits.{IsStreamWithin}
-use Rattle.law_xml.specs.Streams.{InForce, StreamTo, place_of}
+use Rattle.law_xml.specs.Streams.{InForce, StreamTo, position_of}
 use Rattle.xml_framer.specs.declared.limits.Limits.{Limits}
 
 -- What is unfinished begins with `<`, or with the first byte of a character that is no ASCII. So no white space stands
@@ -24,4 +24,4 @@ pub record IsPrefix (limits : Limits) (bytes : List ℕ) (items : List Item) (pa
   pub begins : BeginsSo hand
   pub longest : (other : InForce) (front rest : List ℕ) (said : List Item) (more : StreamTo other front said) → bytes ≡ front ++ rest → IsStreamWithin limits other front said more
       → length front ≤ length done
-  pub part_is : part ≡ (if is_empty hand then None else Some (place_of (length done)))
+  pub part_is : part ≡ (if is_empty hand then None else Some (position_of (length done)))

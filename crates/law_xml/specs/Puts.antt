@@ -50,10 +50,10 @@ StandsAt t phase.First = StandsOutside t phase.First [] []
 StandsAt t p = StandsOutside t p written_scope (codes "stream:stream")
 
 -- bytes entered, and the pipe carries one item more
-pub record Entered (s : State) (part : List ℕ) (p : Pipe) (items : List Item) (t : State) (bytes : List ℕ) (i : Item) (behind : Phase) (scope : Scope) (name : List ℕ) : Type 0 where
+pub record Entered (s : State) (part : List ℕ) (p : Pipe) (items : List Item) (t : State) (bytes : List ℕ) (i : Item) (following : Phase) (scope : Scope) (name : List ℕ) : Type 0 where
   pub now : State
   pub carries : Carries s part (entered bytes p) (items ++ i ∷ []) now
-  pub stands : StandsOutside now behind scope name
+  pub stands : StandsOutside now following scope name
   pub same_limits : now.limits ≡ t.limits
 
 -- what an end puts entered

@@ -14,7 +14,7 @@ use Rattle.xml_tokens.specs.declared.declarations.Declaration.TheVariants as dec
 use Rattle.xml_tokens.specs.declared.references.Reference.TheVariants as reference
 use Rattle.xml_framer.specs.Machine.{is_too_long}
 use Rattle.xml_framer.specs.MarkupSteps.{ends_in_question}
-use Rattle.xml_framer.specs.States.{State, gathered, is_text, may_declare, token_place}
+use Rattle.xml_framer.specs.States.{State, gathered, is_text, may_declare, token_position}
 use Rattle.xml_framer.specs.TagSteps.{ends_stream, header_why, is_header, is_spelled, is_too_deep, misplaced_why, start_why, tag_anew, tag_here}
 use Rattle.xml_framer.specs.TextSteps.{is_forbidden}
 use Rattle.law_xml.specs.FaultRows.{Takes}
@@ -27,14 +27,14 @@ use Rattle.xml_framer.specs.declared.states.Phase.TheVariants as phase
 -- ---- texts
 
 pub data TextRow : State → ℕ → ℕ → Why → Type 0 where
-  reference_outside : (s : State) (b at : ℕ) (w : Why) → is_some s.here ≡ false → b ≡ 38 → at ≡ s.places.at → w ≡ why.NotWellFormed → TextRow s b at w
+  reference_outside : (s : State) (b at : ℕ) (w : Why) → is_some s.here ≡ false → b ≡ 38 → at ≡ s.positions.at → w ≡ why.NotWellFormed → TextRow s b at w
   text_outside : (s : State) (b at : ℕ) (w : Why) → is_some s.here ≡ false → b ≢ 60 → b ≢ 38 → ends_character s.pending b ≡ true → is_white b ≡ false
-      → at ≡ token_place s → w ≡ why.NotWellFormed → TextRow s b at w
+      → at ≡ token_position s → w ≡ why.NotWellFormed → TextRow s b at w
   forbidden_in_text : (s : State) (b at : ℕ) (w : Why) → is_some s.here ≡ true → b ≢ 60 → b ≢ 38 → ends_character s.pending b ≡ true → is_forbidden s b ≡ true
-      → at ≡ token_place s → w ≡ why.NotWellFormed → TextRow s b at w
+      → at ≡ token_position s → w ≡ why.NotWellFormed → TextRow s b at w
   -- `]]>`
   section_end_in_text : (s : State) (b at : ℕ) (w : Why) → is_some s.here ≡ true → b ≡ 62 → s.lexical.in_run ≡ true → s.lexical.brackets ≡ 2
-      → at ≡ token_place s → w ≡ why.NotWellFormed → TextRow s b at w
+      → at ≡ token_position s → w ≡ why.NotWellFormed → TextRow s b at w
 
 -- ---- references, CDATA sections, declarations
 
@@ -112,7 +112,7 @@ TokenRow mode.Section s b w = SectionRow s b w
 
 -- A byte decides this fault at this offset. Of several that it decides, the first row here is told.
 pub data Row : State → ℕ → ℕ → Why → Type 0 where
-  too_long : (s : State) (b at : ℕ) (w : Why) → s.fault ≡ None → is_too_long s b ≡ true → at ≡ s.places.item_at → w ≡ why.TooLong → Row s b at w
-  no_utf8 : (s : State) (b at : ℕ) (w : Why) → s.fault ≡ None → is_too_long s b ≡ false → continues s.pending b ≡ false → at ≡ token_place s → w ≡ why.Encoding → Row s b at w
+  too_long : (s : State) (b at : ℕ) (w : Why) → s.fault ≡ None → is_too_long s b ≡ true → at ≡ s.positions.item_at → w ≡ why.TooLong → Row s b at w
+  no_utf8 : (s : State) (b at : ℕ) (w : Why) → s.fault ≡ None → is_too_long s b ≡ false → continues s.pending b ≡ false → at ≡ token_position s → w ≡ why.Encoding → Row s b at w
   in_text_row : (s : State) (b at : ℕ) (w : Why) → Takes s mode.Text b → TextRow s b at w → Row s b at w
-  in_token_row : (s : State) (b at : ℕ) (w : Why) (m : Mode) → Takes s m b → is_text m ≡ false → at ≡ s.places.token_at → TokenRow m s b w → Row s b at w
+  in_token_row : (s : State) (b at : ℕ) (w : Why) (m : Mode) → Takes s m b → is_text m ≡ false → at ≡ s.positions.token_at → TokenRow m s b w → Row s b at w

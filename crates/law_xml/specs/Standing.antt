@@ -23,18 +23,18 @@ pub record StandsOutside (s : State) (p : Phase) (scope : Scope) (name : List �
   pub not_spoiled : s.lexical.spoiled ≡ false
   pub no_token : s.token ≡ []
   pub no_pending : s.pending ≡ []
-  pub none_used : s.places.used ≡ 0
+  pub none_used : s.positions.used ≡ 0
   pub phase_is : s.lexical.phase ≡ p
   pub scope_is : scope_in s.scopes ≡ scope
   pub name_is : s.name ≡ name
 
 -- Bytes give this item and nothing else, at the last of them, and leave the framer outside elements.
 pub record Gives (s : State) (items : List Item) (bytes : List ℕ) (i : Item) (p : Phase) (scope : Scope) (name : List ℕ) : Type 0 where
-  pub behind : State
-  pub run_is : run (turn s items) bytes ≡ turn behind (items ++ placed s.places.at i ∷ [])
+  pub following : State
+  pub run_is : run (turn s items) bytes ≡ turn following (items ++ placed s.positions.at i ∷ [])
   pub none_before : (n : ℕ) → n < length bytes → (run (turn s items) (take n bytes)).items ≡ items
-  pub stands : StandsOutside behind p scope name
-  pub same_limits : behind.limits ≡ s.limits
+  pub stands : StandsOutside following p scope name
+  pub same_limits : following.limits ≡ s.limits
 
 -- what an item leaves: a header its own scope and name, and the others those in force
 abbrev pub scope_left : (scope : Scope) (name bytes : List ℕ) (i : Item) → SpellsItem scope name bytes i → Scope

@@ -5,7 +5,7 @@ use Rattle.xml_names.specs.declared.headers.Header.{Header}
 use Rattle.xml_framer.specs.Machine.{part_of, run}
 use Rattle.law_xml.specs.Standing.{StandsOutside}
 use Rattle.xml_framer.specs.States.{State, from_start, turn}
-use Rattle.law_xml.specs.Streams.{InForce, SpellsEmptyHeaderIn, SpellsHeaderIn, StreamTo, declared, ended, headed, headed_and_ended, nothing, place_of, white_space, with_element}
+use Rattle.law_xml.specs.Streams.{InForce, SpellsEmptyHeaderIn, SpellsHeaderIn, StreamTo, declared, ended, headed, headed_and_ended, nothing, position_of, white_space, with_element}
 use Rattle.law_xml.specs.Within.{IsElementWithin, IsHeadWithin, IsNextHeadWithin}
 use Rattle.xml_framer.specs.declared.items.Item.{Item}
 use Rattle.xml_framer.specs.declared.limits.Limits.{Limits}
@@ -46,8 +46,8 @@ IsStreamWithin limits now bytes items (ended _ _ _ before front tag given so_far
 -- Bytes from the first on are read as these items and no others, without a fault. Behind them this is in force, nothing
 -- is unfinished, and the next byte has the place behind them.
 pub record IsReadAs (limits : Limits) (now : InForce) (bytes : List ℕ) (items : List Item) : Type 0 where
-  pub behind : State
-  pub run_is : run (turn (from_start limits) []) bytes ≡ turn behind items
-  pub stands : StandsOutside behind now.phase now.scope now.name
-  pub no_part : part_of behind ≡ None
-  pub place : behind.places.at ≡ place_of (length bytes)
+  pub following : State
+  pub run_is : run (turn (from_start limits) []) bytes ≡ turn following items
+  pub stands : StandsOutside following now.phase now.scope now.name
+  pub no_part : part_of following ≡ None
+  pub position : following.positions.at ≡ position_of (length bytes)

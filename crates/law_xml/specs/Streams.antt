@@ -14,8 +14,8 @@ use Rattle.xml_framer.specs.declared.states.Phase.{Phase}
 use Rattle.xml_framer.specs.declared.states.Phase.TheVariants as phase
 
 -- The place of what begins behind so many bytes: a place is at most 2 ^ 64 - 1.
-abbrev pub place_of : ℕ → ℕ
-place_of count = min count (2 ^ 64 - 1)
+abbrev pub position_of : ℕ → ℕ
+position_of count = min count (2 ^ 64 - 1)
 
 -- What is in force behind the bytes of a stream so far: what may follow, and the scope and the name as it is spelled of
 -- the last header.
@@ -27,7 +27,7 @@ pub record InForce : Type 0 where
 -- An XML declaration may stand before a header: before the first one, and behind another, where only a header may
 -- follow (XML 1.0, 2.8; RFC 6120, 11.5).
 abbrev pub IsDeclared : Phase → Phase → Type 0
-IsDeclared before behind = ((before ≡ phase.First) × (behind ≡ phase.FirstDeclared)) ⊎ ((before ≡ phase.Between) × (behind ≡ phase.Declared))
+IsDeclared before following = ((before ≡ phase.First) × (following ≡ phase.FirstDeclared)) ⊎ ((before ≡ phase.Between) × (following ≡ phase.Declared))
 
 -- Bytes are the tag of a header that may stand there. The first tag of a stream is a header's whatever its name; behind
 -- the footer none may stand (RFC 6120, 4.2 to 4.4).
@@ -59,11 +59,11 @@ pub data StreamTo : InForce → List ℕ → List Item → Type 0 where
   -- a header, which has the place of its first byte (4.2), or another, which opens the stream anew (4.3.3)
   headed : (now : InForce) (bytes : List ℕ) (items : List Item) (before : InForce) (front tag : List ℕ) (given : List Item) (h : Header)
       → StreamTo before front given → SpellsHeaderIn before.phase before.scope tag now.name now.scope h → now.phase ≡ phase.Between
-      → bytes ≡ front ++ tag → items ≡ given ++ item.Header (place_of (length front)) h ∷ [] → StreamTo now bytes items
+      → bytes ≡ front ++ tag → items ≡ given ++ item.Header (position_of (length front)) h ∷ [] → StreamTo now bytes items
   -- the tag of an empty element is header and footer (XML 1.0, 3.1)
   headed_and_ended : (now : InForce) (bytes : List ℕ) (items : List Item) (before : InForce) (front tag : List ℕ) (given : List Item) (h : Header)
       → StreamTo before front given → SpellsEmptyHeaderIn before.phase before.scope tag now.name now.scope h → now.phase ≡ phase.Ended
-      → bytes ≡ front ++ tag → items ≡ given ++ item.Header (place_of (length front)) h ∷ item.Footer ∷ [] → StreamTo now bytes items
+      → bytes ≡ front ++ tag → items ≡ given ++ item.Header (position_of (length front)) h ∷ item.Footer ∷ [] → StreamTo now bytes items
   -- an element, which a header's scope is around
   with_element : (now : InForce) (bytes : List ℕ) (items : List Item) (front inside : List ℕ) (given : List Item) (e : Elem)
       → StreamTo now front given → now.phase ≡ phase.Between → SpellsTop now.scope inside e

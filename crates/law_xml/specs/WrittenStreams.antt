@@ -12,7 +12,7 @@ use Rattle.xml_writer.specs.Canon.{canon, written_footer, written_header}
 use Rattle.law_xml.specs.Fitting.{Fits, HeaderFits}
 use Rattle.law_xml.specs.Plain.{IsPlain, IsPlainHeader}
 use Rattle.law_xml.specs.Spells.{as_written, written_scope}
-use Rattle.law_xml.specs.Streams.{InForce, place_of}
+use Rattle.law_xml.specs.Streams.{InForce, position_of}
 
 -- ---- what is written
 
@@ -61,7 +61,7 @@ MayFollow p (i ∷ more) = MayStand p i × MayFollow (phase_after i) more
 -- The item that is read where one is written after so many bytes: a header has the offset of its first byte, and says
 -- what a written one does.
 abbrev pub read_item : ℕ → Item → Item
-read_item offset (item.Header at h) = item.Header (place_of offset) (as_written h)
+read_item offset (item.Header at h) = item.Header (position_of offset) (as_written h)
 read_item offset (item.Element e) = item.Element e
 read_item offset item.Footer = item.Footer
 

@@ -5,7 +5,7 @@ ghost use Rattle.law_xml.specs.Items.{AreWhole, GivesOne, IsRest};
 ghost use Rattle.xml_framer.specs.Machine.{run};
 ghost use Rattle.xml_framer.specs.States.{State, turn};
 ghost use Rattle.xml_framer.specs.declared.items.Item.{Item};
-ghost use Rattle.net_pipes.specs.Pipes.{Pipe, closed, cut_to, emptied, empty_pipe, entered, handed, is_end_due, with_end_told};
+ghost use Rattle.net_pipes.specs.Pipes.{Pipe, closed, cut_to, emptied, empty_pipe, entered, handed, is_end_due, with_end_reported};
 
 /// A law: whole items enter. A fresh pipe carries nothing. Where a pipe has not ended, bytes that are whole items from
 /// the state on in which the carried items leave the framer join them at the end. Into an ended pipe nothing enters.
@@ -53,7 +53,7 @@ pub fn an_emptied_pipe_carries_nothing()
 pub fn an_ended_pipe_carries_the_same()
     ensures ended { (s : State) (part : List ℕ) (p : Pipe) (items : List Item) (t : State) → Carries s part p items t → Carries s part (closed p) items t }
     ensures due { (s : State) (part : List ℕ) (p : Pipe) (items : List Item) (t : State) → Carries s part p items t → is_end_due p ≡ true → items ≡ [] }
-    ensures told { (s : State) (part : List ℕ) (p : Pipe) (items : List Item) (t : State) → Carries s part p items t → Carries s part (with_end_told p) items t }
+    ensures told { (s : State) (part : List ℕ) (p : Pipe) (items : List Item) (t : State) → Carries s part p items t → Carries s part (with_end_reported p) items t }
     ensures empty { (s : State) (part : List ℕ) (p : Pipe) (items : List Item) (t : State) → Carries s part p items t → p.bytes ≡ [] → (items ≡ []) × (t ≡ s) × IsRest p.ended s part }
     ensures no_items { (s : State) (part : List ℕ) (p : Pipe) (items : List Item) (t : State) → Carries s part p items t → p.ended ≡ false → p.bytes ≡ []
         → (items ≡ []) × (part ≡ []) × (t ≡ s) × (held s part ≡ s) }

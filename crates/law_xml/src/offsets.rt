@@ -10,7 +10,7 @@ ghost use Rattle.xml_framer.specs.declared.states.Mode.{Mode};
 ghost use Rattle.xml_framer.specs.declared.states.Mode.TheVariants as mode;
 ghost use Rattle.law_xml.specs.FaultRows.{Takes};
 ghost use Rattle.law_xml.specs.Offsets.{IsAtToken, first_of};
-ghost use Rattle.law_xml.specs.Streams.{place_of};
+ghost use Rattle.law_xml.specs.Streams.{position_of};
 
 /// A law: the offset of a fault that a byte decides, other than `TooLong`, is that of the first byte of its token. A tag
 /// and other markup have that of their `<`, a reference that of its `&`, and a text that of its first byte. Before it stand
@@ -31,12 +31,12 @@ pub fn tokens_have_one_offset()
 /// of a run of text; each further byte leaves it.
 pub fn tokens_have_the_offset_of_their_first_byte()
     ensures next { (limits : Limits) (bytes : List ℕ) → (run (turn (from_start limits) []) bytes).state.fault ≡ None
-        → (run (turn (from_start limits) []) bytes).state.places.at ≡ place_of (length bytes) }
+        → (run (turn (from_start limits) []) bytes).state.positions.at ≡ position_of (length bytes) }
     ensures begins { (t : Turn) (b : ℕ) → Takes t.state mode.Text b → is_text (step t b).state.lexical.mode ≡ false
-        → ((step t b).state.places.token_at ≡ t.state.places.at) × (b ≡ first_of (step t b).state.lexical.mode) }
+        → ((step t b).state.positions.token_at ≡ t.state.positions.at) × (b ≡ first_of (step t b).state.lexical.mode) }
     ensures run_begins { (t : Turn) (b : ℕ) → Takes t.state mode.Text b → t.state.lexical.in_run ≡ false → (step t b).state.fault ≡ None
-        → is_text (step t b).state.lexical.mode ≡ true → ((step t b).state.places.token_at ≡ t.state.places.at) × ((step t b).state.lexical.in_run ≡ true) }
+        → is_text (step t b).state.lexical.mode ≡ true → ((step t b).state.positions.token_at ≡ t.state.positions.at) × ((step t b).state.lexical.in_run ≡ true) }
     ensures run_goes_on { (t : Turn) (b : ℕ) → Takes t.state mode.Text b → t.state.lexical.in_run ≡ true → (step t b).state.fault ≡ None
-        → is_text (step t b).state.lexical.mode ≡ true → ((step t b).state.places.token_at ≡ t.state.places.token_at) × ((step t b).state.lexical.in_run ≡ true) }
-    ensures goes_on { (t : Turn) (m : Mode) (b : ℕ) → Takes t.state m b → is_text m ≡ false → (step t b).state.places.token_at ≡ t.state.places.token_at }
+        → is_text (step t b).state.lexical.mode ≡ true → ((step t b).state.positions.token_at ≡ t.state.positions.token_at) × ((step t b).state.lexical.in_run ≡ true) }
+    ensures goes_on { (t : Turn) (m : Mode) (b : ℕ) → Takes t.state m b → is_text m ≡ false → (step t b).state.positions.token_at ≡ t.state.positions.token_at }
 {}

@@ -29,13 +29,13 @@ pub fn spelled_items_are_read()
         → Gives s items bytes i (phase_left scope name bytes i spelled) (scope_left scope name bytes i spelled) (name_left scope name bytes i spelled) }
     ensures first { (s : State) (items : List Item) (scope inner : Scope) (name next bytes : List ℕ) (h : Header) (spelled : SpellsHeader bytes next inner h)
         → StandsOutside s phase.First scope name → IsHeaderWithin s.limits bytes next inner h spelled
-        → Gives s items bytes (item.Header s.places.at h) phase.Between inner next }
+        → Gives s items bytes (item.Header s.positions.at h) phase.Between inner next }
     ensures first_declared { (s : State) (items : List Item) (scope inner : Scope) (name next bytes : List ℕ) (h : Header) (spelled : SpellsHeader bytes next inner h)
         → StandsOutside s phase.FirstDeclared scope name → IsHeaderWithin s.limits bytes next inner h spelled
-        → Gives s items bytes (item.Header s.places.at h) phase.Between inner next }
+        → Gives s items bytes (item.Header s.positions.at h) phase.Between inner next }
     ensures declared { (s : State) (items : List Item) (scope inner : Scope) (name next bytes : List ℕ) (h : Header) (spelled : SpellsNextHeader scope bytes next inner h)
         → StandsOutside s phase.Declared scope name → IsNextHeaderWithin s.limits scope bytes next inner h spelled
-        → Gives s items bytes (item.Header s.places.at h) phase.Between inner next }
+        → Gives s items bytes (item.Header s.positions.at h) phase.Between inner next }
 {}
 
 /// A law: what is a stream in the grammar's words, each header, element and declaration within the limits, is read from

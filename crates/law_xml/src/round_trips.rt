@@ -60,16 +60,16 @@ pub fn written_items_are_read()
         → Gives s items (canon e) (item.Element e) phase.Between scope name }
     ensures first { (s : State) (items : List Item) (scope : Scope) (name : List ℕ) (h : Header) → IsPlainHeader h → HeaderFits s.limits h
         → StandsOutside s phase.First scope name
-        → Gives s items (written_header h) (item.Header s.places.at (as_written h)) phase.Between written_scope (codes "stream:stream") }
+        → Gives s items (written_header h) (item.Header s.positions.at (as_written h)) phase.Between written_scope (codes "stream:stream") }
     ensures first_declared { (s : State) (items : List Item) (scope : Scope) (name : List ℕ) (h : Header) → IsPlainHeader h → HeaderFits s.limits h
         → StandsOutside s phase.FirstDeclared scope name
-        → Gives s items (written_header h) (item.Header s.places.at (as_written h)) phase.Between written_scope (codes "stream:stream") }
+        → Gives s items (written_header h) (item.Header s.positions.at (as_written h)) phase.Between written_scope (codes "stream:stream") }
     ensures next { (s : State) (items : List Item) (scope : Scope) (name : List ℕ) (h : Header) → IsPlainHeader h → HeaderFits s.limits h
         → s.limits.attributes < 2 ^ 32 → s.limits.namespace_bytes < 2 ^ 32 → StandsOutside s phase.Between scope name
-        → Gives s items (written_header h) (item.Header s.places.at (as_written h)) phase.Between written_scope (codes "stream:stream") }
+        → Gives s items (written_header h) (item.Header s.positions.at (as_written h)) phase.Between written_scope (codes "stream:stream") }
     ensures declared { (s : State) (items : List Item) (scope : Scope) (name : List ℕ) (h : Header) → IsPlainHeader h → HeaderFits s.limits h
         → s.limits.attributes < 2 ^ 32 → s.limits.namespace_bytes < 2 ^ 32 → StandsOutside s phase.Declared scope name
-        → Gives s items (written_header h) (item.Header s.places.at (as_written h)) phase.Between written_scope (codes "stream:stream") }
+        → Gives s items (written_header h) (item.Header s.positions.at (as_written h)) phase.Between written_scope (codes "stream:stream") }
     ensures footer { (s : State) (items : List Item) (scope : Scope) → StandsOutside s phase.Between scope (codes "stream:stream")
         → Gives s items written_footer item.Footer phase.Ended scope (codes "stream:stream") }
 {}

@@ -15,9 +15,9 @@ ghost use Rattle.law_xml.specs.Puts.{Entered, HasPut, MayPut, OutFits, StandsAt}
 
 /// A law: bytes that the framer reads as an item behind what an open pipe carries enter it as that item.
 pub fn what_is_read_enters()
-    ensures { (s : State) (part : List ℕ) (p : Pipe) (items : List Item) (t : State) (bytes : List ℕ) (i : Item) (behind : Phase) (scope : Scope) (name : List ℕ)
-        → Carries s part p items t → p.ended ≡ false → Gives t [] bytes i behind scope name
-        → Entered s part p items t bytes (placed t.places.at i) behind scope name }
+    ensures { (s : State) (part : List ℕ) (p : Pipe) (items : List Item) (t : State) (bytes : List ℕ) (i : Item) (following : Phase) (scope : Scope) (name : List ℕ)
+        → Carries s part p items t → p.ended ≡ false → Gives t [] bytes i following scope name
+        → Entered s part p items t bytes (placed t.positions.at i) following scope name }
 {}
 
 /// A law: a new framer stands before the first header, and what an end puts enters an open pipe as that item, a header

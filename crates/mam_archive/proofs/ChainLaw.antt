@@ -7,7 +7,7 @@ use Rattle.std.proofs.lemmas.Option.{none-some, slice_get_within, same_Some}
 use Rattle.std.proofs.lemmas.Slice.Eq.{bytes_eq-Decides}
 use Rattle.std.specs.List.{filter}
 use Rattle.std.specs.Option.{option_map}
-use Rattle.mam_archive.proofs.ChainPlaces.{filter_below}
+use Rattle.mam_archive.proofs.ChainPositions.{filter_below}
 use Rattle.mam_archive.proofs.NumberedEntries.{FollowFrom, entry_at, follow_numbered}
 use Rattle.mam_archive.proofs.Walks.{step_at}
 use Rattle.mam_archive.specs.Entries.{AreNumbered, EntryView, entry_numbered}
@@ -36,8 +36,8 @@ below_item t s i (f ∷ es) e follow is = elim (cases_Bool (t f)) [
     here zero rest is =
         let number : f.number ≡ e.number = ap number_of (same_Some f e is) in
         let test : ltb f.number e.number ≡ false = grind (arith, nat_tests) in
-        let place : e.number - suc s ≡ zero = omega (arith, follow.0) in
-        rw test (rw place at (filter_below t e.number (suc s) es follow.1))
+        let position : e.number - suc s ≡ zero = omega (arith, follow.0) in
+        rw test (rw position at (filter_below t e.number (suc s) es follow.1))
     here (suc j) rest is =
         let step = step_at t (suc s) j es e follow.1 is in
         let low : f.number < e.number = omega (arith, follow.0, step.low) in
@@ -67,22 +67,22 @@ placed last i owner peer es e known within is =
 pub walk_previous : (last i : ℕ) (owner peer : List ℕ) (es : List EntryView) (e : EntryView) → AreNumbered last es → length es ≤ last →
     slice_get (chain_of owner peer es) i ≡ Some e → 1 ≤ i → previous_of owner e.number es ≡ option_map (λ f. f.number) (slice_get (chain_of owner peer es) (i - 1))
 walk_previous last i owner peer es e known within is later =
-    let place = placed last i owner peer es e known within is in
+    let position = placed last i owner peer es e known within is in
     let end : last_entry (take i (chain_of owner peer es)) ≡ slice_get (chain_of owner peer es) (i - 1) =
-    ap (λ n. slice_get (take i (chain_of owner peer es)) (n - 1)) place.size ∙ slice_get-take i (i - 1) (chain_of owner peer es) (omega arith) in
-    rw (place.entry, place.peer_is, place.below) (ap (option_map number_of) end)
+    ap (λ n. slice_get (take i (chain_of owner peer es)) (n - 1)) position.size ∙ slice_get-take i (i - 1) (chain_of owner peer es) (omega arith) in
+    rw (position.entry, position.peer_is, position.below) (ap (option_map number_of) end)
 
 pub walk_start : (last : ℕ) (owner peer : List ℕ) (es : List EntryView) (e : EntryView) → AreNumbered last es → length es ≤ last →
     slice_get (chain_of owner peer es) 0 ≡ Some e → previous_of owner e.number es ≡ None
 walk_start last owner peer es e known within is =
-    let place = placed last 0 owner peer es e known within is in
-    rw (place.entry, place.peer_is, place.below) refl
+    let position = placed last 0 owner peer es e known within is in
+    rw (position.entry, position.peer_is, position.below) refl
 
 pub walk_index : (last i : ℕ) (owner peer : List ℕ) (es : List EntryView) (e : EntryView) → AreNumbered last es → length es ≤ last →
     slice_get (chain_of owner peer es) i ≡ Some e → index_of owner e.number es ≡ Some i
 walk_index last i owner peer es e known within is =
-    let place = placed last i owner peer es e known within is in
-    rw (place.entry, place.peer_is, place.below) (ap Some place.size)
+    let position = placed last i owner peer es e known within is in
+    rw (position.entry, position.peer_is, position.below) (ap Some position.size)
 
 pub walk_ends : (owner peer : List ℕ) (es : List EntryView) (e f : EntryView) → slice_get (chain_of owner peer es) 0 ≡ Some e →
     slice_get (chain_of owner peer es) (length (chain_of owner peer es) - 1) ≡ Some f →

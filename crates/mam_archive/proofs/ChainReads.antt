@@ -3,15 +3,15 @@ use Rattle.std.proofs.Common.{◌≡◌, ℕ, ◌+◌, ◌-◌, ◌<◌, ◌≤�
 use Rattle.mam_archive.proofs.ChainSteps.{chain_read, first_ordinal, key_has, last_ordinal, link_ordinal, links_size}
 use Rattle.mam_archive.proofs.Linked.{first_beside, last_beside}
 use Rattle.mam_archive.proofs.Marks.{count_last, count_within}
-use Rattle.mam_archive.specs.Chained.{AreChains, IsChained, chain_at, count_of, least_beside, is_text_of, greatest_beside, some_chain}
+use Rattle.mam_archive.specs.Chained.{AreChains, IsChained, chain_at, count_of, least_with_peer, is_text_of, greatest_with_peer, some_chain}
 use Rattle.mam_archive.specs.declared.chains.Ends.{Ends}
 use Rattle.mam_archive.specs.declared.chains.Link.{Link}
 
 -- these are the ends of a peer's chain, and have their links
 pub record AreEnds (n : ℕ) (ps : List (List ℕ)) (links : List Link) (p : List ℕ) (x : Ends) : Type 0 where
   pub has : is_text_of p ps ≡ true
-  pub first : x.first ≡ least_beside p n ps
-  pub last : x.last ≡ greatest_beside p n ps
+  pub first : x.first ≡ least_with_peer p n ps
+  pub last : x.last ≡ greatest_with_peer p n ps
   pub first_low : n ≤ x.first
   pub first_high : x.first - n < length links
   pub last_low : n ≤ x.last
@@ -23,8 +23,8 @@ ends_read n ps p links chains at x known found read =
     let key : slice_get known.keys at ≡ Some p = found known.keys known.chained in
     let chain : x ≡ chain_at n ps p = read ∙ chain_read known.keys n ps chains at p x known.chained key in
     let has : is_text_of p ps ≡ true = key_has known.keys n ps chains at p known.chained key in
-    let first : x.first ≡ least_beside p n ps = ap (λ (e : Ends). e.first) chain in
-    let last : x.last ≡ greatest_beside p n ps = ap (λ (e : Ends). e.last) chain in
+    let first : x.first ≡ least_with_peer p n ps = ap (λ (e : Ends). e.first) chain in
+    let last : x.last ≡ greatest_with_peer p n ps = ap (λ (e : Ends). e.last) chain in
     let start = first_beside p n ps has in
     let end = last_beside p n ps has in
     let size = links_size n ps links chains known in
@@ -44,7 +44,7 @@ pub ends_count : (n : ℕ) (ps : List (List ℕ)) (p : List ℕ) (links : List L
 ends_count n ps p links chains x a b known ends first last =
     let start : a.ordinal ≡ (known.before p).ordinal =
     ap (λ (l : Link). l.ordinal) first ∙ ap (λ m. (get_or links (m - n) a).ordinal) ends.first ∙ first_ordinal n ps links chains known p a ends.has in
-    let end : b.ordinal ≡ (get_or links (greatest_beside p n ps - n) b).ordinal =
+    let end : b.ordinal ≡ (get_or links (greatest_with_peer p n ps - n) b).ordinal =
     ap (λ (l : Link). l.ordinal) last ∙ ap (λ m. (get_or links (m - n) b).ordinal) ends.last in
     let whole = last_ordinal n ps links chains known p b ends.has in
     let some = count_last p n ps ends.has in

@@ -9,7 +9,7 @@ use Rattle.std.specs.Str.{bytes_eq}
 use Rattle.mam_archive.proofs.Keys.{ascend-insert, ascend-remove, ascend_at, at_is_text, below-trans, differ_at, gap_absent, map-insert, map-remove, map-set, map_same, same_text, text-insert, text-remove, text-remove_other}
 use Rattle.mam_archive.proofs.Linked.{IsBeside, first-push_new, first-push_old, first-push_other, first_beside, first_none, last-push, last-push_other, length-next_numbers, last_beside, nexts-push_new, nexts-push_old, text-push}
 use Rattle.mam_archive.proofs.Marks.{anew, anew_after, anew_early, count_first, count_last, count_within, mark_after, mark_at, marked_early, marks-anew, marks-push, marks-set, nexts-set, ordinal_after, previous_some}
-use Rattle.mam_archive.specs.Chained.{AreChains, Ascend, IsBelow, IsChained, IsGap, Mark, chain_at, chain_or, count_of, extended, least_beside, is_text_of, greatest_beside, link_or, mark_of, marked, marks, moved_on, next_numbers}
+use Rattle.mam_archive.specs.Chained.{AreChains, Ascend, IsBelow, IsChained, IsGap, Mark, chain_at, chain_or, count_of, extended, least_with_peer, is_text_of, greatest_with_peer, link_or, mark_of, marked, marks, moved_on, next_numbers}
 use Rattle.mam_archive.specs.Entries.{EntryView}
 use Rattle.mam_archive.specs.declared.chains.Ends.{Ends}
 use Rattle.mam_archive.specs.declared.chains.Link.{Link}
@@ -17,9 +17,9 @@ use Rattle.base_lemmas.proofs.Bytes.{bytes_eq-from_same}
 use Rattle.std.proofs.Math.Bool.{or-false}
 
 -- the chain at a place is that of the key there, which is the peer of an entry
-pub chain_place : (keys : List (List ℕ)) (n : ℕ) (ps : List (List ℕ)) (chains : List Ends) (at : ℕ) (x : Ends) → AreChains keys n ps chains →
+pub chain_position : (keys : List (List ℕ)) (n : ℕ) (ps : List (List ℕ)) (chains : List Ends) (at : ℕ) (x : Ends) → AreChains keys n ps chains →
     at < length chains → x ≡ get_or chains at x → (k : List ℕ) × (slice_get keys at ≡ Some k) × (x ≡ chain_at n ps k) × (is_text_of k ps ≡ true)
-chain_place keys n ps chains at x known within read =
+chain_position keys n ps chains at x known within read =
     let is : slice_get chains at ≡ Some x = slice_get_read chains (length chains) at x refl within read in
     let mapped : option_map (chain_at n ps) (slice_get keys at) ≡ Some x =
     sym (slice_get-map (chain_at n ps) keys at) ∙ ap (λ cs. slice_get cs at) (sym known.are) ∙ is in
@@ -44,21 +44,21 @@ key_has keys n ps chains at p known key = sym (known.every p) ∙ at_is_text key
 pub chain_within : (n : ℕ) (f : EntryView → List ℕ) (es : List EntryView) (links : List Link) (chains : List Ends) (at : ℕ) (x : Ends) → IsChained n (map f es) links chains →
     at < length chains → x ≡ get_or chains at x → (n ≤ x.first) × (x.first - n < length es)
 chain_within n f es links chains at x known within read =
-    let place = chain_place known.keys n (map f es) chains at x known.chained within read in
-    let beside = first_beside place.0 n (map f es) place.3 in
-    let first : x.first ≡ least_beside place.0 n (map f es) = ap (λ (c : Ends). c.first) place.2 in
+    let position = chain_position known.keys n (map f es) chains at x known.chained within read in
+    let beside = first_beside position.0 n (map f es) position.3 in
+    let first : x.first ≡ least_with_peer position.0 n (map f es) = ap (λ (c : Ends). c.first) position.2 in
     let size : length (map f es) ≡ length es = length-map es f in
     (omega (arith, beside.low), omega (arith, beside.low, beside.high))
 
 pub chain_peer : (keys : List (List ℕ)) (n : ℕ) (f : EntryView → List ℕ) (es : List EntryView) (chains : List Ends) (at : ℕ) (x : Ends) (e : EntryView) →
     AreChains keys n (map f es) chains → at < length chains → x ≡ get_or chains at x → x.first - n < length es → e ≡ get_or es (x.first - n) e → slice_get keys at ≡ Some (f e)
 chain_peer keys n f es chains at x e known within read inside entry =
-    let place = chain_place keys n (map f es) chains at x known within read in
-    let beside = first_beside place.0 n (map f es) place.3 in
-    let first : x.first ≡ least_beside place.0 n (map f es) = ap (λ (c : Ends). c.first) place.2 in
+    let position = chain_position keys n (map f es) chains at x known within read in
+    let beside = first_beside position.0 n (map f es) position.3 in
+    let first : x.first ≡ least_with_peer position.0 n (map f es) = ap (λ (c : Ends). c.first) position.2 in
     let here : slice_get es (x.first - n) ≡ Some e = slice_get_read es (length es) (x.first - n) e refl inside entry in
     let peer : slice_get (map f es) (x.first - n) ≡ Some (f e) = slice_get-map f es (x.first - n) ∙ ap (option_map f) here in
-    place.1 ∙ sym beside.there ∙ ap (λ m. slice_get (map f es) (m - n)) (sym first) ∙ peer
+    position.1 ∙ sym beside.there ∙ ap (λ m. slice_get (map f es) (m - n)) (sym first) ∙ peer
 
 pub links_size : (n : ℕ) (ps : List (List ℕ)) (links : List Link) (chains : List Ends) → IsChained n ps links chains → length links ≡ length ps
 links_size n ps links chains known =
@@ -82,26 +82,26 @@ link_ordinal n ps links chains known i p d is =
 
 -- the ordinals of the first and of the last entry of a peer
 pub first_ordinal : (n : ℕ) (ps : List (List ℕ)) (links : List Link) (chains : List Ends) (known : IsChained n ps links chains) (p : List ℕ) (d : Link) → is_text_of p ps ≡ true →
-    (get_or links (least_beside p n ps - n) d).ordinal ≡ (known.before p).ordinal
+    (get_or links (least_with_peer p n ps - n) d).ordinal ≡ (known.before p).ordinal
 first_ordinal n ps links chains known p d has =
     let beside = first_beside p n ps has in
-    let ordinal = link_ordinal n ps links chains known (least_beside p n ps - n) p d beside.there in
+    let ordinal = link_ordinal n ps links chains known (least_with_peer p n ps - n) p d beside.there in
     let none = count_first p n ps has in
     omega arith
 
 pub last_ordinal : (n : ℕ) (ps : List (List ℕ)) (links : List Link) (chains : List Ends) (known : IsChained n ps links chains) (p : List ℕ) (d : Link) → is_text_of p ps ≡ true →
-    (get_or links (greatest_beside p n ps - n) d).ordinal + 1 ≡ (known.before p).ordinal + count_of p ps
+    (get_or links (greatest_with_peer p n ps - n) d).ordinal + 1 ≡ (known.before p).ordinal + count_of p ps
 last_ordinal n ps links chains known p d has =
     let beside = last_beside p n ps has in
-    let ordinal = link_ordinal n ps links chains known (greatest_beside p n ps - n) p d beside.there in
+    let ordinal = link_ordinal n ps links chains known (greatest_with_peer p n ps - n) p d beside.there in
     let more = count_last p n ps has in
     omega arith
 
 -- what an entry more of a peer gets from the last one
-end_mark : (n : ℕ) (ps : List (List ℕ)) (links : List Link) (chains : List Ends) (known : IsChained n ps links chains) (p : List ℕ) (last : ℕ) → is_text_of p ps ≡ true → last ≡ greatest_beside p n ps →
+end_mark : (n : ℕ) (ps : List (List ℕ)) (links : List Link) (chains : List Ends) (known : IsChained n ps links chains) (p : List ℕ) (last : ℕ) → is_text_of p ps ≡ true → last ≡ greatest_with_peer p n ps →
     record { previous = last; ordinal = (link_or links (last - n)).ordinal + 1 } ≡ mark_after n known.before p ps
 end_mark n ps links chains known p last has is =
-    let ordinal : (link_or links (greatest_beside p n ps - n)).ordinal + 1 ≡ (mark_after n known.before p ps).ordinal =
+    let ordinal : (link_or links (greatest_with_peer p n ps - n)).ordinal + 1 ≡ (mark_after n known.before p ps).ordinal =
     last_ordinal n ps links chains known p (record { next = 0; previous = 0; ordinal = 0 }) has ∙ sym (ordinal_after n known.before p ps) in
     rw (is, ordinal, ← previous_some n known.before p ps has) refl
 
@@ -112,7 +112,7 @@ pub chain_last : (n : ℕ) (ps : List (List ℕ)) (p : List ℕ) (links : List L
 chain_last n ps p links chains at known found =
     let key : slice_get known.keys at ≡ Some p = found known.keys known.chained in
     let chain : chain_or chains at ≡ chain_at n ps p = chain_read known.keys n ps chains at p (record { first = 0; last = 0 }) known.chained key in
-    let last : (chain_or chains at).last ≡ greatest_beside p n ps = ap (λ (c : Ends). c.last) chain in
+    let last : (chain_or chains at).last ≡ greatest_with_peer p n ps = ap (λ (c : Ends). c.last) chain in
     let beside = last_beside p n ps (key_has known.keys n ps chains at p known.chained key) in
     let size = links_size n ps links chains known in
     (omega (arith, beside.low), omega (arith, beside.high))
@@ -131,8 +131,8 @@ end_ordinal n number ps p links chains at known found next =
     rw chain (omega arith)
 
 -- a peer of an entry has a chain
-pub peer_place : (f : EntryView → List ℕ) (es : List EntryView) (i : ℕ) (e : EntryView) → i < length es → e ≡ get_or es i e → slice_get (map f es) i ≡ Some (f e)
-peer_place f es i e within read = slice_get-map f es i ∙ ap (option_map f) (slice_get_read es (length es) i e refl within read)
+pub peer_position : (f : EntryView → List ℕ) (es : List EntryView) (i : ℕ) (e : EntryView) → i < length es → e ≡ get_or es i e → slice_get (map f es) i ≡ Some (f e)
+peer_position f es i e within read = slice_get-map f es i ∙ ap (option_map f) (slice_get_read es (length es) i e refl within read)
 
 pub links_of_entries : (n : ℕ) (f : EntryView → List ℕ) (es : List EntryView) (links : List Link) (chains : List Ends) → IsChained n (map f es) links chains → length links ≡ length es
 links_of_entries n f es links chains known = links_size n (map f es) links chains known ∙ length-map es f
@@ -174,7 +174,7 @@ chained_more n number ps p links chains at known found next =
     let key : slice_get keys at ≡ Some p = found keys known.chained in
     let has : is_text_of p ps ≡ true = key_has keys n ps chains at p known.chained key in
     let chain : chain_or chains at ≡ chain_at n ps p = chain_read keys n ps chains at p (record { first = 0; last = 0 }) known.chained key in
-    let new : chain_at n (ps ++ p ∷ []) p ≡ record { first = least_beside p n ps; last = number } =
+    let new : chain_at n (ps ++ p ∷ []) p ≡ record { first = least_with_peer p n ps; last = number } =
     rw (first-push_old p p n ps has, last-push p n ps, next) refl in
     let images : map (chain_at n (ps ++ p ∷ [])) keys ≡ set (map (chain_at n ps) keys) at (chain_at n (ps ++ p ∷ []) p) =
     map-set (chain_at n ps) (chain_at n (ps ++ p ∷ [])) keys at p key
@@ -254,9 +254,9 @@ moved : (n : ℕ) (p : List ℕ) (qs : List (List ℕ)) (links : List Link) (cha
     slice_get known.keys at ≡ Some p → IsChained (suc n) qs (drop 1 links) (moved_on (link_or links 0).next at chains)
 moved n p qs links chains at known key = elim (cases_Bool (is_text_of p qs)) [
   | inl later ↦
-      let place : IsBeside p (least_beside p (suc n) qs) (suc n) qs = first_beside p (suc n) qs later in
-      let some : (least_beside p (suc n) qs == 0) ≡ false = ne_eqb (least_beside p (suc n) qs) 0 (λ same. omega (arith, place.low)) in
-      let new : chain_at (suc n) qs p ≡ record { first = least_beside p (suc n) qs; last = (chain_or chains at).last } = rw (chain, later) refl in
+      let position : IsBeside p (least_with_peer p (suc n) qs) (suc n) qs = first_beside p (suc n) qs later in
+      let some : (least_with_peer p (suc n) qs == 0) ≡ false = ne_eqb (least_with_peer p (suc n) qs) 0 (λ same. omega (arith, position.low)) in
+      let new : chain_at (suc n) qs p ≡ record { first = least_with_peer p (suc n) qs; last = (chain_or chains at).last } = rw (chain, later) refl in
       record {
         linked = linked;
         before = marked n p known.before;
@@ -270,7 +270,7 @@ moved n p qs links chains at known key = elim (cases_Bool (is_text_of p qs)) [
         };
       }
   | inr none ↦
-      let gone : (least_beside p (suc n) qs == 0) ≡ true = eq-eqb (least_beside p (suc n) qs) 0 (first_none p (suc n) qs none) in
+      let gone : (least_with_peer p (suc n) qs == 0) ≡ true = eq-eqb (least_with_peer p (suc n) qs) 0 (first_none p (suc n) qs none) in
       record {
         linked = linked;
         before = marked n p known.before;
@@ -291,8 +291,8 @@ moved n p qs links chains at known key = elim (cases_Bool (is_text_of p qs)) [
     beside : map mark_of (drop 1 links) ≡ marks (suc n) (marked n p known.before) qs
     beside = sym (drop-map mark_of 1 links) ∙ ap (λ t. drop 1 t) known.beside
 
-    next : (link_or links 0).next ≡ least_beside p (suc n) qs
-    next = first_next links (least_beside p (suc n) qs) (next_numbers (suc n) qs) known.linked
+    next : (link_or links 0).next ≡ least_with_peer p (suc n) qs
+    next = first_next links (least_with_peer p (suc n) qs) (next_numbers (suc n) qs) known.linked
 
     chain : chain_or chains at ≡ chain_at n (p ∷ qs) p
     chain = chain_read known.keys n (p ∷ qs) chains at p (record { first = 0; last = 0 }) known.chained key

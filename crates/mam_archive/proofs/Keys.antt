@@ -152,7 +152,7 @@ text-remove (k ∷ ks) (suc at) p up is =
     let head : bytes_eq k p ≡ false = differ_at (k ∷ ks) zero (suc at) k p up (λ same. omega arith) refl is in
     rw head (text-remove ks at p up.1 is)
 
--- images of keys under an edit of one
+-- encodings of keys under an edit of one
 pub map-insert : {A B : Type 0} (f : A → B) (xs : List A) (at : ℕ) (x : A) → map f (insert xs at x) ≡ insert (map f xs) at (f x)
 map-insert f [] zero x = refl
 map-insert f [] (suc at) x = refl

@@ -1,6 +1,6 @@
 pub mod BareEnds
 pub mod ChainLaw
-pub mod ChainPlaces
+pub mod ChainPositions
 pub mod ChainReads
 pub mod ChainSteps
 pub mod IdDigits

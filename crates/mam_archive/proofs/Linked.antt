@@ -5,7 +5,7 @@ use Rattle.std.specs.List.{list_any}
 use Rattle.std.specs.Str.{bytes_eq}
 use Rattle.mam_archive.proofs.Keys.{same_text}
 use Rattle.std.proofs.Math.Bool.{or-false, or-true, or_assoc}
-use Rattle.mam_archive.specs.Chained.{least_beside, is_text_of, greatest_beside, next_numbers}
+use Rattle.mam_archive.specs.Chained.{least_with_peer, is_text_of, greatest_with_peer, next_numbers}
 use Rattle.base_lemmas.proofs.Bytes.{bytes_eq-from_same}
 
 -- the number m stands beside this peer
@@ -21,27 +21,27 @@ beside_head p q n qs same =
 
 beside_tail : (p q : List ℕ) (m n : ℕ) (qs : List (List ℕ)) → IsBeside p m (suc n) qs → IsBeside p m n (q ∷ qs)
 beside_tail p q m n qs beside =
-    let place : m - n ≡ suc (m - suc n) = omega (arith, beside.low) in
-    record { low = omega (arith, beside.low); high = omega (arith, beside.high); there = rw place beside.there }
+    let position : m - n ≡ suc (m - suc n) = omega (arith, beside.low) in
+    record { low = omega (arith, beside.low); high = omega (arith, beside.high); there = rw position beside.there }
 
-pub first_beside : (p : List ℕ) (n : ℕ) (ps : List (List ℕ)) → is_text_of p ps ≡ true → IsBeside p (least_beside p n ps) n ps
+pub first_beside : (p : List ℕ) (n : ℕ) (ps : List (List ℕ)) → is_text_of p ps ≡ true → IsBeside p (least_with_peer p n ps) n ps
 first_beside p n [] has = absurd (false≢true has)
 first_beside p n (q ∷ qs) has = elim (same_text q p) [
   | inl same ↦ rw (bytes_eq-from_same q p same) (beside_head p q n qs same)
-  | inr other ↦ rw other (beside_tail p q (least_beside p (suc n) qs) n qs (first_beside p (suc n) qs (rw other at has)))
+  | inr other ↦ rw other (beside_tail p q (least_with_peer p (suc n) qs) n qs (first_beside p (suc n) qs (rw other at has)))
 ]
 
-pub last_beside : (p : List ℕ) (n : ℕ) (ps : List (List ℕ)) → is_text_of p ps ≡ true → IsBeside p (greatest_beside p n ps) n ps
+pub last_beside : (p : List ℕ) (n : ℕ) (ps : List (List ℕ)) → is_text_of p ps ≡ true → IsBeside p (greatest_with_peer p n ps) n ps
 last_beside p n [] has = absurd (false≢true has)
 last_beside p n (q ∷ qs) has = elim (cases_Bool (is_text_of p qs)) [
-  | inl later ↦ rw later (beside_tail p q (greatest_beside p (suc n) qs) n qs (last_beside p (suc n) qs later))
+  | inl later ↦ rw later (beside_tail p q (greatest_with_peer p (suc n) qs) n qs (last_beside p (suc n) qs later))
   | inr none ↦ elim (same_text q p) [
     | inl same ↦ rw (none, bytes_eq-from_same q p same) (beside_head p q n qs same)
     | inr other ↦ absurd (false≢true (sym none ∙ rw other at has))
   ]
 ]
 
-pub first_none : (p : List ℕ) (n : ℕ) (ps : List (List ℕ)) → is_text_of p ps ≡ false → least_beside p n ps ≡ 0
+pub first_none : (p : List ℕ) (n : ℕ) (ps : List (List ℕ)) → is_text_of p ps ≡ false → least_with_peer p n ps ≡ 0
 first_none p n [] none = refl
 first_none p n (q ∷ qs) none = elim (same_text q p) [
   | inl same ↦ absurd (true≢false (rw (bytes_eq-from_same q p same) at none))
@@ -66,34 +66,34 @@ text-push p q ps = list_any_push (λ t. bytes_eq t q) ps p
     list_any_push test [] x = or-false (test x)
     list_any_push test (y ∷ ys) x = ap (λ b. test y || b) (list_any_push test ys x) ∙ sym (or_assoc (test y) (list_any test ys) (test x))
 
-pub first-push_other : (p q : List ℕ) (n : ℕ) (ps : List (List ℕ)) → bytes_eq p q ≡ false → least_beside q n (ps ++ p ∷ []) ≡ least_beside q n ps
+pub first-push_other : (p q : List ℕ) (n : ℕ) (ps : List (List ℕ)) → bytes_eq p q ≡ false → least_with_peer q n (ps ++ p ∷ []) ≡ least_with_peer q n ps
 first-push_other p q n [] other = rw other refl
 first-push_other p q n (r ∷ rs) other = elim (cases_Bool (bytes_eq r q)) [
   | inl same ↦ rw same refl
   | inr unlike ↦ rw unlike (first-push_other p q (suc n) rs other)
 ]
 
-pub first-push_old : (p q : List ℕ) (n : ℕ) (ps : List (List ℕ)) → is_text_of q ps ≡ true → least_beside q n (ps ++ p ∷ []) ≡ least_beside q n ps
+pub first-push_old : (p q : List ℕ) (n : ℕ) (ps : List (List ℕ)) → is_text_of q ps ≡ true → least_with_peer q n (ps ++ p ∷ []) ≡ least_with_peer q n ps
 first-push_old p q n [] has = absurd (false≢true has)
 first-push_old p q n (r ∷ rs) has = elim (cases_Bool (bytes_eq r q)) [
   | inl same ↦ rw same refl
   | inr unlike ↦ rw unlike (first-push_old p q (suc n) rs (rw unlike at has))
 ]
 
-pub first-push_new : (p : List ℕ) (n : ℕ) (ps : List (List ℕ)) → is_text_of p ps ≡ false → least_beside p n (ps ++ p ∷ []) ≡ n + length ps
+pub first-push_new : (p : List ℕ) (n : ℕ) (ps : List (List ℕ)) → is_text_of p ps ≡ false → least_with_peer p n (ps ++ p ∷ []) ≡ n + length ps
 first-push_new p n [] none = rw (bytes_eq-from_same p p refl) (omega arith)
 first-push_new p n (r ∷ rs) none = elim (cases_Bool (bytes_eq r p)) [
   | inl same ↦ absurd (true≢false (rw same at none))
   | inr unlike ↦ rw unlike (first-push_new p (suc n) rs (rw unlike at none) ∙ omega arith)
 ]
 
-pub last-push_other : (p q : List ℕ) (n : ℕ) (ps : List (List ℕ)) → bytes_eq p q ≡ false → greatest_beside q n (ps ++ p ∷ []) ≡ greatest_beside q n ps
+pub last-push_other : (p q : List ℕ) (n : ℕ) (ps : List (List ℕ)) → bytes_eq p q ≡ false → greatest_with_peer q n (ps ++ p ∷ []) ≡ greatest_with_peer q n ps
 last-push_other p q n [] other = rw other refl
 last-push_other p q n (r ∷ rs) other =
     let same : is_text_of q (rs ++ p ∷ []) ≡ is_text_of q rs = text-push p q rs ∙ rw other (or-false (is_text_of q rs)) in
     rw (same, last-push_other p q (suc n) rs other) refl
 
-pub last-push : (p : List ℕ) (n : ℕ) (ps : List (List ℕ)) → greatest_beside p n (ps ++ p ∷ []) ≡ n + length ps
+pub last-push : (p : List ℕ) (n : ℕ) (ps : List (List ℕ)) → greatest_with_peer p n (ps ++ p ∷ []) ≡ n + length ps
 last-push p n [] = rw (bytes_eq-from_same p p refl) (omega arith)
 last-push p n (r ∷ rs) =
     let later : is_text_of p (rs ++ p ∷ []) ≡ true = text-push p p rs ∙ rw (bytes_eq-from_same p p refl) (or-true (is_text_of p rs)) in
@@ -109,24 +109,24 @@ nexts-push_new p n (r ∷ rs) none = elim (cases_Bool (bytes_eq r p)) [
 ]
 
 pub nexts-push_old : (p : List ℕ) (n : ℕ) (ps : List (List ℕ)) → is_text_of p ps ≡ true →
-    next_numbers n (ps ++ p ∷ []) ≡ set (next_numbers n ps) (greatest_beside p n ps - n) (n + length ps) ++ 0 ∷ []
+    next_numbers n (ps ++ p ∷ []) ≡ set (next_numbers n ps) (greatest_with_peer p n ps - n) (n + length ps) ++ 0 ∷ []
 nexts-push_old p n [] has = absurd (false≢true has)
 nexts-push_old p n (r ∷ rs) has = elim (cases_Bool (is_text_of p rs)) [
   | inl later ↦
-      let beside : IsBeside p (greatest_beside p (suc n) rs) (suc n) rs = last_beside p (suc n) rs later in
-      let place : greatest_beside p (suc n) rs - n ≡ suc (greatest_beside p (suc n) rs - suc n) = omega (arith, beside.low) in
+      let beside : IsBeside p (greatest_with_peer p (suc n) rs) (suc n) rs = last_beside p (suc n) rs later in
+      let position : greatest_with_peer p (suc n) rs - n ≡ suc (greatest_with_peer p (suc n) rs - suc n) = omega (arith, beside.low) in
       let number : n + suc (length rs) ≡ suc n + length rs = omega arith in
-      let head : least_beside r (suc n) (rs ++ p ∷ []) ≡ least_beside r (suc n) rs = elim (same_text r p) [
+      let head : least_with_peer r (suc n) (rs ++ p ∷ []) ≡ least_with_peer r (suc n) rs = elim (same_text r p) [
         | inl same ↦ first-push_old p r (suc n) rs (rw same later)
         | inr unlike ↦ first-push_other p r (suc n) rs (other_way r p unlike)
       ] in
-      rw (later, place, number, head, nexts-push_old p (suc n) rs later) refl
+      rw (later, position, number, head, nexts-push_old p (suc n) rs later) refl
   | inr none ↦ elim (same_text r p) [
     | inl same ↦
-        let place : n - n ≡ zero = omega arith in
+        let position : n - n ≡ zero = omega arith in
         let number : n + suc (length rs) ≡ suc n + length rs = omega arith in
-        let head : least_beside r (suc n) (rs ++ p ∷ []) ≡ suc n + length rs = rw same (first-push_new p (suc n) rs none) in
-        rw (none, bytes_eq-from_same r p same, place, number, head, nexts-push_new p (suc n) rs none) refl
+        let head : least_with_peer r (suc n) (rs ++ p ∷ []) ≡ suc n + length rs = rw same (first-push_new p (suc n) rs none) in
+        rw (none, bytes_eq-from_same r p same, position, number, head, nexts-push_new p (suc n) rs none) refl
     | inr other ↦ absurd (false≢true (sym none ∙ rw other at has))
   ]
 ]

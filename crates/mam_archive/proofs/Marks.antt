@@ -5,7 +5,7 @@ use Rattle.std.proofs.lemmas.Option.{none-some, same_Some}
 use Rattle.std.specs.Str.{bytes_eq}
 use Rattle.mam_archive.proofs.Keys.{same_text}
 use Rattle.mam_archive.proofs.Linked.{IsBeside, first_beside, last_beside}
-use Rattle.mam_archive.specs.Chained.{AreBefore, Mark, count_of, least_beside, is_text_of, greatest_beside, link_or, mark_of, marked, marks}
+use Rattle.mam_archive.specs.Chained.{AreBefore, Mark, count_of, least_with_peer, is_text_of, greatest_with_peer, link_or, mark_of, marked, marks}
 use Rattle.mam_archive.specs.declared.chains.Link.{Link}
 use Rattle.base_lemmas.proofs.Bytes.{bytes_eq-from_same}
 
@@ -46,7 +46,7 @@ previous_none n before q (p ∷ ps) none = elim (cases_Bool (bytes_eq p q)) [
       previous_none (suc n) (marked n p before) q ps (rw other at none) ∙ first
 ]
 
-pub previous_some : (n : ℕ) (before : List ℕ → Mark) (q : List ℕ) (ps : List (List ℕ)) → is_text_of q ps ≡ true → (mark_after n before q ps).previous ≡ greatest_beside q n ps
+pub previous_some : (n : ℕ) (before : List ℕ → Mark) (q : List ℕ) (ps : List (List ℕ)) → is_text_of q ps ≡ true → (mark_after n before q ps).previous ≡ greatest_with_peer q n ps
 previous_some n before q [] has = absurd (false≢true has)
 previous_some n before q (p ∷ ps) has = elim (cases_Bool (is_text_of q ps)) [
   | inl later ↦ rw later (previous_some (suc n) (marked n p before) q ps later)
@@ -134,34 +134,34 @@ count_within p (q ∷ qs) = elim (cases_Bool (bytes_eq q p)) [
   | inr other ↦ rw other (omega (arith, count_within p qs))
 ]
 
-pub count_first : (p : List ℕ) (n : ℕ) (ps : List (List ℕ)) → is_text_of p ps ≡ true → count_of p (take (least_beside p n ps - n) ps) ≡ 0
+pub count_first : (p : List ℕ) (n : ℕ) (ps : List (List ℕ)) → is_text_of p ps ≡ true → count_of p (take (least_with_peer p n ps - n) ps) ≡ 0
 count_first p n [] has = absurd (false≢true has)
 count_first p n (q ∷ qs) has = elim (cases_Bool (bytes_eq q p)) [
   | inl same ↦
-      let place : n - n ≡ zero = omega arith in
-      rw (same, place) refl
+      let position : n - n ≡ zero = omega arith in
+      rw (same, position) refl
   | inr other ↦
       let later : is_text_of p qs ≡ true = rw other at has in
-      let beside : IsBeside p (least_beside p (suc n) qs) (suc n) qs = first_beside p (suc n) qs later in
-      let place : least_beside p (suc n) qs - n ≡ suc (least_beside p (suc n) qs - suc n) = omega (arith, beside.low) in
-      rw (other, place, other) (count_first p (suc n) qs later)
+      let beside : IsBeside p (least_with_peer p (suc n) qs) (suc n) qs = first_beside p (suc n) qs later in
+      let position : least_with_peer p (suc n) qs - n ≡ suc (least_with_peer p (suc n) qs - suc n) = omega (arith, beside.low) in
+      rw (other, position, other) (count_first p (suc n) qs later)
 ]
 
-pub count_last : (p : List ℕ) (n : ℕ) (ps : List (List ℕ)) → is_text_of p ps ≡ true → count_of p ps ≡ suc (count_of p (take (greatest_beside p n ps - n) ps))
+pub count_last : (p : List ℕ) (n : ℕ) (ps : List (List ℕ)) → is_text_of p ps ≡ true → count_of p ps ≡ suc (count_of p (take (greatest_with_peer p n ps - n) ps))
 count_last p n [] has = absurd (false≢true has)
 count_last p n (q ∷ qs) has = elim (cases_Bool (is_text_of p qs)) [
   | inl later ↦
-      let beside : IsBeside p (greatest_beside p (suc n) qs) (suc n) qs = last_beside p (suc n) qs later in
-      let place : greatest_beside p (suc n) qs - n ≡ suc (greatest_beside p (suc n) qs - suc n) = omega (arith, beside.low) in
+      let beside : IsBeside p (greatest_with_peer p (suc n) qs) (suc n) qs = last_beside p (suc n) qs later in
+      let position : greatest_with_peer p (suc n) qs - n ≡ suc (greatest_with_peer p (suc n) qs - suc n) = omega (arith, beside.low) in
       let rest = count_last p (suc n) qs later in
       elim (cases_Bool (bytes_eq q p)) [
-        | inl same ↦ rw (later, place, same) (ap suc rest)
-        | inr other ↦ rw (later, place, other) rest
+        | inl same ↦ rw (later, position, same) (ap suc rest)
+        | inr other ↦ rw (later, position, other) rest
       ]
   | inr none ↦ elim (cases_Bool (bytes_eq q p)) [
     | inl same ↦
-        let place : n - n ≡ zero = omega arith in
-        rw (none, same, place) (ap suc (count_none p qs none))
+        let position : n - n ≡ zero = omega arith in
+        rw (none, same, position) (ap suc (count_none p qs none))
     | inr other ↦ absurd (false≢true (sym none ∙ rw other at has))
   ]
 ]

@@ -64,12 +64,12 @@ find_one p n s (e ∷ es) follow low passes fails =
     elim (cases_eq n s) [
       | inl same ↦
           let first : p e.number ≡ true = rw (follow.0, ← same) passes in
-          let place : n - s ≡ zero = omega arith in
-          rw (first, place)
+          let position : n - s ≡ zero = omega arith in
+          rw (first, position)
       | inr other ↦
           let first : p e.number ≡ false = rw follow.0 (fails s (omega arith) (omega arith) (λ is. other (sym is))) in
-          let place : n - s ≡ suc (n - suc s) = omega arith in
-          rw (first, place) (find_one p n (suc s) es follow.1 (omega arith) passes (λ m above below. fails m (omega arith) (omega arith)))
+          let position : n - s ≡ suc (n - suc s) = omega arith in
+          rw (first, position) (find_one p n (suc s) es follow.1 (omega arith) passes (λ m above below. fails m (omega arith) (omega arith)))
     ]
 
 -- the entries above a number are those behind the place
@@ -110,7 +110,7 @@ none_outside n last es kept outside =
     ])
 
 -- a place in a list has an item
-pub at_place : {A : Type 0} (i : ℕ) (xs : List A) → i < length xs → (x : A) × (slice_get xs i ≡ Some x)
-at_place i [] within = absurd (omega arith)
-at_place zero (x ∷ xs) within = (x, refl)
-at_place (suc i) (x ∷ xs) within = at_place i xs (omega arith)
+pub at_position : {A : Type 0} (i : ℕ) (xs : List A) → i < length xs → (x : A) × (slice_get xs i ≡ Some x)
+at_position i [] within = absurd (omega arith)
+at_position zero (x ∷ xs) within = (x, refl)
+at_position (suc i) (x ∷ xs) within = at_position i xs (omega arith)

@@ -8,7 +8,7 @@ use Rattle.std.specs.List.{filter, find}
 use Rattle.std.specs.Option.{option_map}
 use Rattle.std.specs.Str.{bytes_eq}
 use Rattle.mam_archive.proofs.NumberedEntries.{FollowFrom, entry_at, follow_at, follow_numbered}
-use Rattle.mam_archive.specs.Chained.{least_beside, next_numbers, some_number}
+use Rattle.mam_archive.specs.Chained.{least_with_peer, next_numbers, some_number}
 use Rattle.mam_archive.specs.Entries.{AreNumbered, EntryView, entry_numbered}
 use Rattle.mam_archive.specs.Peers.{chain_of, first_of, is_with, next_of, peer_of}
 
@@ -19,7 +19,7 @@ pub some_number-positive : (n : ℕ) → 1 ≤ n → some_number n ≡ Some n
 some_number-positive n low = rw (ne_eqb n 0 (λ none. omega arith)) refl
 
 pub first_is : (key : EntryView → List ℕ) (peer : List ℕ) (n : ℕ) (es : List EntryView) → FollowFrom n es → 1 ≤ n →
-    option_map (λ e. e.number) (find (λ e. bytes_eq (key e) peer) es) ≡ some_number (least_beside peer n (map key es))
+    option_map (λ e. e.number) (find (λ e. bytes_eq (key e) peer) es) ≡ some_number (least_with_peer peer n (map key es))
 first_is key peer n [] follow low = refl
 first_is key peer n (e ∷ es) follow low = elim (cases_Bool (bytes_eq (key e) peer)) [
   | inl same ↦ rw same (ap Some follow.0 ∙ sym (some_number-positive n low))
@@ -55,13 +55,13 @@ next_is key n (suc i) (f ∷ es) e follow low is =
     rw (find_skip (λ g. bytes_eq (key g) (key e)) e.number f es here) (next_is key (suc n) i es e follow.1 (omega arith) is)
 
 pub first_of_is : (owner peer : List ℕ) (n : ℕ) (es : List EntryView) → FollowFrom n es → 1 ≤ n →
-    first_of owner peer es ≡ some_number (least_beside peer n (map (peer_of owner) es))
+    first_of owner peer es ≡ some_number (least_with_peer peer n (map (peer_of owner) es))
 first_of_is owner peer n es follow low = first_is (peer_of owner) peer n es follow low
 
 pub next_of_is : (owner : List ℕ) (n m i : ℕ) (es : List EntryView) (e : EntryView) → FollowFrom n es → 1 ≤ n → m ≡ n + i → slice_get es i ≡ Some e →
     next_of owner m es ≡ some_number (slice_index (next_numbers n (map (peer_of owner) es)) i)
-next_of_is owner n m i es e follow low place is =
-    let number : e.number ≡ m = follow_at n es i e follow is ∙ sym place in
+next_of_is owner n m i es e follow low position is =
+    let number : e.number ≡ m = follow_at n es i e follow is ∙ sym position in
     let at : m - n ≡ i = omega arith in
     let entry : entry_numbered m es ≡ Some e = entry_at m n es follow (omega arith) ∙ rw at is in
     rw (entry, ← number) (next_is (peer_of owner) n i es e follow low is)
@@ -84,8 +84,8 @@ find_first t (e ∷ es) = elim (cases_Bool (t e)) [
 step_later : (t : EntryView → Bool) (s i : ℕ) (f : EntryView) (es : List EntryView) (e : EntryView) → f.number ≡ s → IsStep t (suc s) i es e →
     (find (λ g. ltb e.number g.number && t g) (f ∷ es) ≡ slice_get (filter t es) (suc i)) × (s ≤ e.number) × (e.number < s + length (f ∷ es)) × (slice_get (f ∷ es) (e.number - s) ≡ Some e)
 step_later t s i f es e first step =
-    let place : e.number - s ≡ suc (e.number - suc s) = omega (arith, step.low) in
-    (find_skip t e.number f es (omega (arith, step.low)) ∙ step.next, omega (arith, step.low), omega (arith, step.high), rw place step.there)
+    let position : e.number - s ≡ suc (e.number - suc s) = omega (arith, step.low) in
+    (find_skip t e.number f es (omega (arith, step.low)) ∙ step.next, omega (arith, step.low), omega (arith, step.high), rw position step.there)
 
 pub step_at : (t : EntryView → Bool) (s i : ℕ) (es : List EntryView) (e : EntryView) → FollowFrom s es → slice_get (filter t es) i ≡ Some e → IsStep t s i es e
 step_at t s i [] e follow is = absurd (none-some e is)
@@ -103,13 +103,13 @@ step_at t s i (f ∷ es) e follow is = elim (cases_Bool (t f)) [
         let same : f ≡ e = same_Some f e is in
         let number : e.number ≡ s = sym (ap number_of same) ∙ follow.0 in
         let low : f.number ≤ e.number = omega (arith, follow.0) in
-        let place : e.number - s ≡ zero = omega arith in
+        let position : e.number - s ≡ zero = omega arith in
         let rest : slice_get (filter t es) 0 ≡ slice_get (filter t (f ∷ es)) 1 = rw passes refl in
         record {
           next = find_skip t e.number f es low ∙ find_above t e.number (suc s) es follow.1 (omega arith) ∙ find_first t es ∙ rest;
           low = omega arith;
           high = omega arith;
-          there = rw place is;
+          there = rw position is;
           passes = ap t (sym same) ∙ passes;
         }
     here (suc j) steps passes is =
@@ -129,5 +129,5 @@ walk_next last i owner peer es e known within is =
     let step = step_at (is_with owner peer) s i es e follow is in
     let entry : entry_numbered e.number es ≡ Some e = entry_at e.number s es follow step.low ∙ step.there in
     let same : peer_of owner e ≡ peer = (bytes_eq-Decides (peer_of owner e) peer).0 step.passes in
-    let place : i + 1 ≡ suc i = omega arith in
-    rw (entry, same, place) (ap (option_map number_of) step.next)
+    let position : i + 1 ≡ suc i = omega arith in
+    rw (entry, same, position) (ap (option_map number_of) step.next)

@@ -16,19 +16,19 @@ abbrev pub is_text_of : List ℕ → List (List ℕ) → Bool
 is_text_of p ps = list_any (λ q. bytes_eq q p) ps
 
 -- the first of the numbers n, n + 1 and so on that stands beside a peer; 0 where none does
-abbrev pub least_beside : List ℕ → ℕ → List (List ℕ) → ℕ
-least_beside p n [] = 0
-least_beside p n (q ∷ qs) = if bytes_eq q p then n else least_beside p (suc n) qs
+abbrev pub least_with_peer : List ℕ → ℕ → List (List ℕ) → ℕ
+least_with_peer p n [] = 0
+least_with_peer p n (q ∷ qs) = if bytes_eq q p then n else least_with_peer p (suc n) qs
 
 -- the last of them
-abbrev pub greatest_beside : List ℕ → ℕ → List (List ℕ) → ℕ
-greatest_beside p n [] = 0
-greatest_beside p n (q ∷ qs) = if is_text_of p qs then greatest_beside p (suc n) qs else (if bytes_eq q p then n else 0)
+abbrev pub greatest_with_peer : List ℕ → ℕ → List (List ℕ) → ℕ
+greatest_with_peer p n [] = 0
+greatest_with_peer p n (q ∷ qs) = if is_text_of p qs then greatest_with_peer p (suc n) qs else (if bytes_eq q p then n else 0)
 
 -- beside each peer, the next number beside the same one; 0 where there is none
 abbrev pub next_numbers : ℕ → List (List ℕ) → List ℕ
 next_numbers n [] = []
-next_numbers n (q ∷ qs) = least_beside q (suc n) qs ∷ next_numbers (suc n) qs
+next_numbers n (q ∷ qs) = least_with_peer q (suc n) qs ∷ next_numbers (suc n) qs
 
 -- how many of these are a text
 abbrev pub count_of : List ℕ → List (List ℕ) → ℕ
@@ -60,7 +60,7 @@ mark_of l = record { previous = l.previous; ordinal = l.ordinal }
 
 -- the chain of a peer
 abbrev pub chain_at : ℕ → List (List ℕ) → List ℕ → Ends
-chain_at n ps p = record { first = least_beside p n ps; last = greatest_beside p n ps }
+chain_at n ps p = record { first = least_with_peer p n ps; last = greatest_with_peer p n ps }
 
 abbrev pub IsBelow : List ℕ → List ℕ → Type 0
 IsBelow p q = slice_cmp nat_cmp p q ≡ Less
@@ -96,7 +96,7 @@ kept_number n m = if nat_lt m n then None else Some m
 -- the first and the last number beside a peer, and how many there are
 abbrev pub some_chain : List ℕ → ℕ → List (List ℕ) → Option Chain
 some_chain p n ps =
-    if is_text_of p ps then Some (record { first = least_beside p n ps; last = greatest_beside p n ps; count = count_of p ps })
+    if is_text_of p ps then Some (record { first = least_with_peer p n ps; last = greatest_with_peer p n ps; count = count_of p ps })
     else None
 
 -- the link at a place
@@ -105,9 +105,9 @@ link_or links at = slice_index_or links at (record { next = 0; previous = 0; ord
 
 -- the links after an entry with this number came to the chain whose last entry has the link at a place
 abbrev pub extended : ℕ → ℕ → ℕ → List Link → List Link
-extended place last number links =
-    set links place (record (link_or links place) { next = number })
-    ++ record { next = 0; previous = last; ordinal = (link_or links place).ordinal + 1 } ∷ []
+extended position last number links =
+    set links position (record (link_or links position) { next = number })
+    ++ record { next = 0; previous = last; ordinal = (link_or links position).ordinal + 1 } ∷ []
 
 -- the chain at a place
 abbrev pub chain_or : List Ends → ℕ → Ends

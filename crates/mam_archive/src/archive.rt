@@ -244,7 +244,7 @@ impl Archive {
     }
 
     /// The place of a number among the kept entries.
-    fn place(&self, number: u64) -> Option<usize>
+    fn position(&self, number: u64) -> Option<usize>
         ensures some { IfSome result (λ at. (at < length self.now.entries) × (number + length self.now.entries ≡ self.now.last + 1 + at)) }
         ensures none { IfNone result ((number + length self.now.entries ≤ self.now.last) ⊎ (self.now.last < number)) }
         ensures kept { AreKept self.now.keep self.now.last self.now.entries }
@@ -263,7 +263,7 @@ impl Archive {
         ensures found { IfSome result (λ e. slice_get self.now.entries (number + length self.now.entries - 1 - self.now.last) ≡ Some e.now) }
         ensures none { IsNone result ↔ ((number + length self.now.entries ≤ self.now.last) ⊎ (self.now.last < number)) }
     {
-        self.entries.get(self.place(number)?)
+        self.entries.get(self.position(number)?)
     }
 
     /// The least number of a kept entry with this peer. `None` where there is none.
@@ -279,7 +279,7 @@ impl Archive {
     pub fn next_of(&self, number: u64) -> Option<u64>
         ensures { result ≡ next_of self.now.owner number self.now.entries }
     {
-        self.links.next_at(self.place(number)?)
+        self.links.next_at(self.position(number)?)
     }
 
     /// The first and the last number of the kept entries with this peer, and how many there are. `None` where there is
@@ -296,7 +296,7 @@ impl Archive {
     pub fn previous_of(&self, number: u64) -> Option<u64>
         ensures { result ≡ previous_of self.now.owner number self.now.entries }
     {
-        self.links.previous_at(self.first(), self.place(number)?)
+        self.links.previous_at(self.first(), self.position(number)?)
     }
 
     /// How many kept entries with the same peer stand before the entry with this number, which is its place in its
@@ -304,7 +304,7 @@ impl Archive {
     pub fn index_of(&self, number: u64) -> Option<u64>
         ensures { result ≡ index_of self.now.owner number self.now.entries }
     {
-        let at = self.place(number)?;
+        let at = self.position(number)?;
         Some(
             self.links
                 .index_at(self.owner.as_str(), &self.entries, self.first(), at),

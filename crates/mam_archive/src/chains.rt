@@ -3,7 +3,7 @@
 //! so that no text is copied.
 ghost use Rattle.std.specs.Prelude.{◌≡◌, ℕ, ◌+◌, ◌-◌, ◌<◌, ◌≤◌, List, [], ◌∷◌, ◌++◌, Some, map, take, drop, set, length, slice_get, IfOk, IfErr, OnOk};
 ghost use Rattle.std.specs.List.{insert};
-ghost use Rattle.mam_archive.specs.Chained.{AreChains, IsChained, IsGap, chain_or, count_of, extended, least_beside, kept_number, link_or, moved_on, some_chain, some_number};
+ghost use Rattle.mam_archive.specs.Chained.{AreChains, IsChained, IsGap, chain_or, count_of, extended, least_with_peer, kept_number, link_or, moved_on, some_chain, some_number};
 ghost use Rattle.mam_archive.specs.Rooms.{room_of};
 ghost use Rattle.mam_archive.specs.Peers.{peer_of};
 
@@ -81,8 +81,8 @@ impl Links {
         ensures { (keys : List (List ℕ)) → AreChains keys first (map (peer_of owner.now) entries.now.items) self.now.chains.items →
             slice_get keys at ≡ Some result.now }
     {
-        let place = self.chains[at].first - first;
-        entries[place as usize].peer(owner)
+        let position = self.chains[at].first - first;
+        entries[position as usize].peer(owner)
     }
 
     /// The place of a peer's chain, or else the place where it would stand.
@@ -124,7 +124,7 @@ impl Links {
     ) -> Option<u64>
         requires linked { IsChained first (map (peer_of owner.now) entries.now.items) self.now.links.items self.now.chains.items }
         requires positive { 1 ≤ first }
-        ensures { result ≡ some_number (least_beside peer.now first (map (peer_of owner.now) entries.now.items)) }
+        ensures { result ≡ some_number (least_with_peer peer.now first (map (peer_of owner.now) entries.now.items)) }
     {
         match self.search(owner, entries, first, peer) {
             Ok(at) => Some(self.chains[at].first),
@@ -221,7 +221,7 @@ impl Links {
     /// Puts an entry's number and link at the end of the chain at a place.
     fn extend(&mut self, first: u64, at: usize, number: u64)
         requires there { at < length self.old.chains.items }
-        requires place { (first ≤ (chain_or self.old.chains.items at).last) × ((chain_or self.old.chains.items at).last < first + length self.old.links.items) }
+        requires position { (first ≤ (chain_or self.old.chains.items at).last) × ((chain_or self.old.chains.items at).last < first + length self.old.links.items) }
         requires ordinal { (link_or self.old.links.items ((chain_or self.old.chains.items at).last - first)).ordinal < number }
         requires room { 1 ≤ room_of self.old }
         ensures links { self.new.links.items ≡ extended ((chain_or self.old.chains.items at).last - first) (chain_or self.old.chains.items at).last number self.old.links.items }
@@ -229,9 +229,9 @@ impl Links {
         ensures room { room_of self.old ≤ room_of self.new + 1 }
     {
         let last = self.chains[at].last;
-        let place = (last - first) as usize;
-        let ordinal = self.links[place].ordinal + 1;
-        self.links[place].next = number;
+        let position = (last - first) as usize;
+        let ordinal = self.links[position].ordinal + 1;
+        self.links[position].next = number;
         self.chains[at].last = number;
         self.links.push_back_reserved(Link {
             next: 0,

@@ -31,11 +31,11 @@ all_up : (b : List ℕ) (o : OwnedTable) (os : List OwnedTable) → AllByRecursi
 all_up b o [] all up = tt
 all_up b o (p ∷ os) all up = (inr (below_new b p.owner o.owner all.0 up), all_up b o os all.1 up)
 
-differ_behind : (b : List ℕ) (o : OwnedTable) (os : List OwnedTable) → AllByRecursion (UpTo b) os → IsBelow b o.owner → Differ os → Differ (os ++ o ∷ [])
-differ_behind b o [] all up known = (tt, tt)
-differ_behind b o (p ∷ os) all up known =
+differ_after : (b : List ℕ) (o : OwnedTable) (os : List OwnedTable) → AllByRecursion (UpTo b) os → IsBelow b o.owner → Differ os → Differ (os ++ o ∷ [])
+differ_after b o [] all up known = (tt, tt)
+differ_after b o (p ∷ os) all up known =
     let low = below_new b p.owner o.owner all.0 up in
-    (all_push (λ q. q.owner ≢ p.owner) os o known.0 (λ same. below_itself p.owner (subst (λ t. IsBelow p.owner t) same low)), differ_behind b o os all.1 up known.1)
+    (all_push (λ q. q.owner ≢ p.owner) os o known.0 (λ same. below_itself p.owner (subst (λ t. IsBelow p.owner t) same low)), differ_after b o os all.1 up known.1)
 
 -- what holds of the archives that were looked at
 pub record AreSeen (os : List OwnedTable) (b : List ℕ) : Type 0 where
@@ -45,11 +45,11 @@ pub record AreSeen (os : List OwnedTable) (b : List ℕ) : Type 0 where
 
 pub seen_more : (os : List OwnedTable) (i : ℕ) (o : OwnedTable) (b owner : List ℕ) → i < length os → o ≡ get_or os i o → AreSeen (take i os) b → owner ≡ o.owner → IsBelow b owner → IsOwnedTable o →
     AreSeen (take (i + 1) os) owner
-seen_more os i o b owner within is seen own behind whole =
-    let up : IsBelow b o.owner = subst (IsBelow b) own behind in
+seen_more os i o b owner within is seen own following whole =
+    let up : IsBelow b o.owner = subst (IsBelow b) own following in
     rw (taken os i o within is) (record {
       owned = all_push IsOwnedTable (take i os) o seen.owned whole;
-      owners = differ_behind b o (take i os) seen.up up seen.owners;
+      owners = differ_after b o (take i os) seen.up up seen.owners;
       up = all_push (UpTo owner) (take i os) o (subst (λ t. AllByRecursion (UpTo t) (take i os)) (sym own) (all_up b o (take i os) seen.up up)) (inl (sym own));
     })
 

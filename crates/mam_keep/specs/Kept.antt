@@ -69,7 +69,7 @@ pub record IsSession (n : ℕ) : Type 0 where
   pub high : n ≤ GREATEST_SESSION
 
 -- what a keeper may answer
-pub record IsKept (k : KeptView) : Type 0 where
+pub record IsKeptRight (k : KeptView) : Type 0 where
   pub session : IsSession k.session
   pub archives : AllByRecursion IsOwnedTable k.archives
   pub owners : Differ k.archives

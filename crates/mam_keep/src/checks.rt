@@ -4,7 +4,7 @@ ghost use Rattle.std.specs.List.{AllByRecursion};
 ghost use Rattle.mam_archive.specs.Chained.{IsBelow};
 ghost use Rattle.mam_archive.specs.Entries.{AreNumbered};
 ghost use Rattle.mam_keep.specs.Changes.{MayAppend, MayCommit};
-ghost use Rattle.mam_keep.specs.Kept.{Differ, IsKept, IsOf, IsOwnedTable};
+ghost use Rattle.mam_keep.specs.Kept.{Differ, IsKeptRight, IsOf, IsOwnedTable};
 
 use crate::change::{Append, Change};
 use crate::kept::{Kept, KeptArchive};
@@ -87,7 +87,7 @@ fn are_whole(archives: &[KeptArchive]) -> bool
 /// Whether it may be answered, asked by a keeper that doesn't know what its store gives. The archives have to stand in
 /// the order of their owners, by bytes, and no owner may be empty. It goes through all entries once.
 pub fn may_be_answered(kept: &Kept) -> bool
-    ensures { IsTrue result → IsKept kept.now }
+    ensures { IsTrue result → IsKeptRight kept.now }
 {
     if kept.session < 1 || kept.session > GREATEST_SESSION {
         return false;

@@ -5,7 +5,7 @@ ghost use Rattle.std.specs.Str.{bytes_eq};
 ghost use Rattle.mam_archive.specs.Entries.{newest};
 ghost use Rattle.mam_keep.specs.Changes.{IsAfter, MayAppend, MayCommit, after, with_entry};
 ghost use Rattle.mam_keep.specs.InMemory.{AreCommitted, nothing_committed, tables_after};
-ghost use Rattle.mam_keep.specs.Kept.{Differ, IsKept, IsOwnedTable, Tells, blank, table_in};
+ghost use Rattle.mam_keep.specs.Kept.{Differ, IsKeptRight, IsOwnedTable, Tells, blank, table_in};
 
 use crate::change::{Append, Change};
 use crate::kept::{Kept, KeptArchive, KeptList};
@@ -146,7 +146,7 @@ impl Committed {
 
     /// What is kept.
     pub(crate) fn load(&self, alloc: Global) -> Result<Kept, NoMemory>
-        ensures kept { IfOk result IsKept }
+        ensures kept { IfOk result IsKeptRight }
         ensures told { IfOk result (Tells (Some (tables_after self.now))) }
     {
         Ok(Kept {

@@ -2,7 +2,7 @@
 ghost use Rattle.std.specs.Prelude.{ℕ, Option, ◌⊎◌, IfOk, OnOk, OnErr};
 ghost use Rattle.mam_keep.specs.Changes.{Makes, MayCommit};
 ghost use Rattle.mam_keep.specs.Faults.{HasKeepCause};
-ghost use Rattle.mam_keep.specs.Kept.{IsKept, Stays, Tables, Tells};
+ghost use Rattle.mam_keep.specs.Kept.{IsKeptRight, Stays, Tables, Tells};
 
 use crate::change::Change;
 use crate::fault::KeepFault;
@@ -18,7 +18,7 @@ pub trait Keeper {
     /// What is kept. It changes nothing that is kept. Whether `tables` says what that is or not, the owners differ, and
     /// each archive is one that `Archive::restore` takes. `Failed` comes only where the count of faults rose.
     fn load(&mut self) -> Result<Kept, KeepFault>
-        ensures kept { IfOk result IsKept }
+        ensures kept { IfOk result IsKeptRight }
         ensures told { IfOk result (Tells (tables self.old)) }
         ensures same { Stays (tables self.old) (tables self.new) }
         ensures cause { HasKeepCause (faults self.old) (faults self.new) result };

@@ -5,7 +5,7 @@ ghost use Rattle.base_io.specs.InMemory.{not_called};
 ghost use Rattle.mam_keep.specs.Changes.{Makes, MayCommit};
 ghost use Rattle.mam_keep.specs.Faults.{HasKeepCause};
 ghost use Rattle.mam_keep.specs.InMemory.{nothing_committed, tables_after};
-ghost use Rattle.mam_keep.specs.Kept.{IsKept, Stays, Tells};
+ghost use Rattle.mam_keep.specs.Kept.{IsKeptRight, Stays, Tells};
 
 use crate::change::Change;
 use crate::committed::Committed;
@@ -54,7 +54,7 @@ impl Keeper for MemoryKeeper {
     ghost faults = { λ k. k.failing.faults };
 
     fn load(&mut self) -> Result<Kept, KeepFault>
-        ensures kept { IfOk result IsKept }
+        ensures kept { IfOk result IsKeptRight }
         ensures told { IfOk result (Tells (Some (tables_after self.old.committed))) }
         ensures same { Stays (Some (tables_after self.old.committed)) (Some (tables_after self.new.committed)) }
         ensures cause { HasKeepCause self.old.failing.faults self.new.failing.faults result }

@@ -1,8 +1,8 @@
 //! What is read from the file, and written to it.
 use crate::bodies::joined;
 use crate::rows::{
-    Connected, add_entries, close, id_of, integer, last_place_of, make_tables, number_at, opened,
-    place_of, rows_of, run, text_at,
+    Connected, add_entries, close, id_of, integer, last_position_of, make_tables, number_at,
+    opened, position_of, rows_of, run, text_at,
 };
 use crate::statements::{
     ACCOUNTS, ADD_ACCOUNT, ADD_ENTRY, BEGIN, COMMIT, ENTRIES, FIND_ACCOUNT, GIVEN, PURGE, ROLLBACK,
@@ -43,8 +43,8 @@ impl Database {
             &mut self.connected,
             ENTRIES,
             params![
-                place_of(id, number),
-                last_place_of(id),
+                position_of(id, number),
+                last_position_of(id),
                 i64::from(ROWS_AT_ONCE)
             ],
         )
@@ -116,7 +116,11 @@ impl Database {
 
     /// Drops an account's entries up to a place.
     fn purge(&mut self, id: u64, last: i64) -> Result<(), KeepFault> {
-        run(&mut self.connected, PURGE, params![place_of(id, 0), last])
+        run(
+            &mut self.connected,
+            PURGE,
+            params![position_of(id, 0), last],
+        )
     }
 
     fn add_entry(&mut self, id: u64, entry: &Entry) -> Result<(), KeepFault> {
@@ -126,7 +130,7 @@ impl Database {
             &mut self.connected,
             ADD_ENTRY,
             params![
-                place_of(id, entry.number()),
+                position_of(id, entry.number()),
                 integer(message.stamp),
                 message.from.as_str(),
                 message.to.as_str(),
@@ -145,9 +149,9 @@ impl Database {
         let keep = u64::from(append.keep);
         let (id, last) = self.account(append.owner.as_str())?;
         if number.saturating_sub(1) != last {
-            self.purge(id, last_place_of(id))?;
+            self.purge(id, last_position_of(id))?;
         } else if number > keep {
-            self.purge(id, place_of(id, number - keep))?;
+            self.purge(id, position_of(id, number - keep))?;
         }
         self.add_entry(id, &append.entry)?;
         run(

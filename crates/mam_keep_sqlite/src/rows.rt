@@ -107,13 +107,13 @@ pub(crate) fn integer(number: u64) -> i64 {
 }
 
 /// Where an account's entry with a number stands.
-pub(crate) fn place_of(id: u64, number: u64) -> i64 {
+pub(crate) fn position_of(id: u64, number: u64) -> i64 {
     integer(id.saturating_mul(NUMBERS).saturating_add(number))
 }
 
 /// Where the last entry that an account can have stands.
-pub(crate) fn last_place_of(id: u64) -> i64 {
-    place_of(id, NUMBERS - 1)
+pub(crate) fn last_position_of(id: u64) -> i64 {
+    position_of(id, NUMBERS - 1)
 }
 
 fn is_normal_at(row: &Row, at: usize) -> Result<bool, KeepFault> {

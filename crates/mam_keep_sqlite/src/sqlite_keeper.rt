@@ -1,7 +1,7 @@
 //! The keeper over a file.
 ghost use Rattle.std.specs.Prelude.{◌≡◌, ◌≤◌, None, IfOk};
 ghost use Rattle.base_io.specs.Counts.{Rose};
-ghost use Rattle.mam_keep.specs.Kept.{IsKept};
+ghost use Rattle.mam_keep.specs.Kept.{IsKeptRight};
 
 use crate::database::Database;
 use base_io::Text;
@@ -75,7 +75,7 @@ impl<'a> SqliteKeeper<'a> {
     }
 
     fn read(&mut self) -> Result<Kept, KeepFault>
-        ensures kept { IfOk result IsKept }
+        ensures kept { IfOk result IsKeptRight }
         ensures faults { self.new.faults ≡ self.old.faults }
     {
         self.make_ready()?;

@@ -1,7 +1,7 @@
 //! The tables of the file, and what is asked of them, as SQL.
 
 /// `given` is the greatest session number given, 0 at first: a session number is up to 2^63, and the greatest of the
-/// file's integers is one less. `place` is the account's `id` times 2^32, and the entry's number.
+/// file's integers is one less. `position` is the account's `id` times 2^32, and the entry's number.
 pub(crate) const TABLES: &str =
     "CREATE TABLE IF NOT EXISTS server (id INTEGER PRIMARY KEY, given INTEGER NOT NULL) STRICT;
 CREATE TABLE IF NOT EXISTS account (id INTEGER PRIMARY KEY, owner TEXT NOT NULL UNIQUE, last INTEGER NOT NULL) STRICT;

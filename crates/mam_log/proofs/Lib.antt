@@ -1,9 +1,9 @@
 pub mod LastIds
 pub mod Orders
+pub mod Rendered
 pub mod Repeats
 pub mod Rising
 pub mod Tilings
-pub mod Turned
 pub mod Unheld
 pub mod Unlogged
 pub mod Worked

@@ -11,7 +11,7 @@ use Rattle.std.specs.Ordering.{is_eq, nat_cmp}
 use Rattle.std.specs.Str.{bytes_eq}
 use Rattle.mam_archive.proofs.Keys.{at_is_text, below-trans, below_from_greater, same_from_equal}
 use Rattle.mam_archive.specs.Chained.{IsBelow, IsGap, is_text_of}
-use Rattle.mam_log.proofs.Orders.{gap_behind, gap_text, is_known, text-push}
+use Rattle.mam_log.proofs.Orders.{gap_after, gap_text, is_known, text-push}
 use Rattle.mam_log.proofs.Repeats.{ids_more}
 use Rattle.mam_log.specs.LogPages.{ids_of}
 use Rattle.mam_log.specs.Orders.{AreBelow, AreUpTo, IsOrderOf, Rise, text_at, texts_at}
@@ -24,9 +24,9 @@ below_other p q low =
     sym (rw low at test)
 
 -- the last text in order is the greatest
-pub up_to_last : (places : List ℕ) (texts : List (List ℕ)) (q : List ℕ) (count : ℕ) → count ≡ length places → 1 ≤ count → IsOrderOf places texts →
-    slice_get (texts_at texts places) (count - 1) ≡ Some q → AreUpTo q texts
-up_to_last places texts q count whole some order is p low = gap_text places texts p count order (gap_behind places texts p q count whole some order is low)
+pub up_to_last : (positions : List ℕ) (texts : List (List ℕ)) (q : List ℕ) (count : ℕ) → count ≡ length positions → 1 ≤ count → IsOrderOf positions texts →
+    slice_get (texts_at texts positions) (count - 1) ≡ Some q → AreUpTo q texts
+up_to_last positions texts q count whole some order is p low = gap_text positions texts p count order (gap_after positions texts p q count whole some order is low)
 
 up_to_more : (ids : List (List ℕ)) (q id : List ℕ) → IsBelow q id → AreUpTo q ids → AreUpTo id (ids ++ id ∷ [])
 up_to_more ids q id low up p high = text-push ids id p ∙ rw (below_other id p high, up p (below-trans q id p low high)) refl
@@ -72,11 +72,11 @@ fresh_from_rise known [] rise = refl
 fresh_from_rise known (id ∷ ids) rise = rw (unknown id known rise.0) (fresh_from_rise (known ++ id ∷ []) ids rise.1)
 
 -- a text above all others has its gap at the end
-pub gap_above : (places : List ℕ) (texts : List (List ℕ)) (p : List ℕ) → IsOrderOf places texts → AreBelow p texts → IsGap (texts_at texts places) p (length places)
-gap_above places texts p order low =
-    let size : length (texts_at texts places) ≡ length places = length-map places (text_at texts) in
+pub gap_above : (positions : List ℕ) (texts : List (List ℕ)) (p : List ℕ) → IsOrderOf positions texts → AreBelow p texts → IsGap (texts_at texts positions) p (length positions)
+gap_above positions texts p order low =
+    let size : length (texts_at texts positions) ≡ length positions = length-map positions (text_at texts) in
     record {
       bound = omega arith;
-      below = λ i q front here. low q (sym (order.every q) ∙ at_is_text (texts_at texts places) i q here);
-      above = λ i q behind here. absurd (none-some q (sym (slice_get_past (texts_at texts places) i (omega arith)) ∙ here));
+      below = λ i q front here. low q (sym (order.every q) ∙ at_is_text (texts_at texts positions) i q here);
+      above = λ i q following here. absurd (none-some q (sym (slice_get_past (texts_at texts positions) i (omega arith)) ∙ here));
     }

@@ -11,7 +11,7 @@ use Rattle.std.proofs.lemmas.Slice.Eq.{bytes_eq-Decides}
 use Rattle.mam_log.proofs.Repeats.{first_id}
 use Rattle.mam_log.proofs.Unlogged.{unlogged-joined}
 use Rattle.mam_log.specs.Breaks.{break_at, breaks_from, breaks_of}
-use Rattle.mam_log.specs.LogPages.{LogPage, FollowsOn, IsBehind, ids_of, log_of, tile_of}
+use Rattle.mam_log.specs.LogPages.{LogPage, FollowsOn, IsAfter, ids_of, log_of, tile_of}
 use Rattle.mam_log.specs.Orders.{IsOrderOf}
 use Rattle.mam_log.specs.Tilings.{IsTiling, IsSound}
 use Rattle.mam_log.specs.Views.{OpenPage, first_repeat, page_for, unheld}
@@ -19,10 +19,10 @@ use Rattle.mam_log.specs.declared.log_entry.LogEntry.{LogEntry}
 use Rattle.mam_log.specs.declared.tile.Tile.{Tile}
 
 -- a page that was asked for behind all others follows on
-FollowsOn-push : (before : List LogEntry) (pages : List LogPage) (page : LogPage) → FollowsOn before pages → IsBehind (before ++ log_of pages) page.after → (page.complete ≡ false → 0 < length page.entries) → FollowsOn before (pages ++ page ∷ [])
-FollowsOn-push before [] page f e c = (subst (λ (es : List LogEntry). IsBehind es page.after) (append-nil before) e, c, tt)
+FollowsOn-push : (before : List LogEntry) (pages : List LogPage) (page : LogPage) → FollowsOn before pages → IsAfter (before ++ log_of pages) page.after → (page.complete ≡ false → 0 < length page.entries) → FollowsOn before (pages ++ page ∷ [])
+FollowsOn-push before [] page f e c = (subst (λ (es : List LogEntry). IsAfter es page.after) (append-nil before) e, c, tt)
 FollowsOn-push before (p ∷ ps) page f e c =
-    (f.0, f.1, FollowsOn-push (before ++ p.entries) ps page f.2 (subst (λ (es : List LogEntry). IsBehind es page.after) (sym (append_assoc before p.entries (log_of ps))) e) c)
+    (f.0, f.1, FollowsOn-push (before ++ p.entries) ps page f.2 (subst (λ (es : List LogEntry). IsAfter es page.after) (sym (append_assoc before p.entries (log_of ps))) e) c)
 
 -- an id that is not among others differs from each of them
 pub differs : (ids : List (List ℕ)) (id : List ℕ) → list_any (λ other. bytes_eq id other) ids ≡ false → (k : ℕ) (d : List ℕ) → k < length ids → get_or ids k d ≢ id
@@ -45,13 +45,13 @@ pub IsTiling-nil : IsTiling [] []
 IsTiling-nil = record { pages = []; tiled = record { follows = tt; distinct = λ i j d below above. absurd (omega arith) }; joined = refl; kept = refl }
 
 -- one more page
-pub IsTiling-push : (entries : List LogEntry) (tiles : List Tile) (page : LogPage) → IsTiling entries tiles → IsBehind entries page.after → (page.complete ≡ false → 0 < length page.entries) → first_repeat (ids_of entries) (ids_of page.entries) ≡ None → IsTiling (entries ++ page.entries) (tiles ++ tile_of page ∷ [])
-IsTiling-push entries tiles page h behind advances none =
+pub IsTiling-push : (entries : List LogEntry) (tiles : List Tile) (page : LogPage) → IsTiling entries tiles → IsAfter entries page.after → (page.complete ≡ false → 0 < length page.entries) → first_repeat (ids_of entries) (ids_of page.entries) ≡ None → IsTiling (entries ++ page.entries) (tiles ++ tile_of page ∷ [])
+IsTiling-push entries tiles page h following advances none =
     let distinct = distinct-append (ids_of (log_of h.pages)) (ids_of page.entries) h.tiled.distinct (rw h.joined none) in
     record {
       pages = h.pages ++ page ∷ [];
       tiled = record {
-        follows = FollowsOn-push [] h.pages page h.tiled.follows (subst (λ (es : List LogEntry). IsBehind es page.after) (sym h.joined) behind) advances;
+        follows = FollowsOn-push [] h.pages page h.tiled.follows (subst (λ (es : List LogEntry). IsAfter es page.after) (sym h.joined) following) advances;
         distinct = rw (log_of-push h.pages page, map-append (λ (e : LogEntry). e.id) (log_of h.pages) page.entries) distinct;
       };
       joined = log_of-push h.pages page ∙ ap (λ es. es ++ page.entries) h.joined;
@@ -95,12 +95,12 @@ pub IsSound-joined : (order new_order : List ℕ) (entries new_entries : List Lo
     → IsSound new_order new_entries new_tiles new_breaks left new_held
 IsSound-joined order new_order entries new_entries tiles new_tiles breaks new_breaks held new_held o left queryid page complete total sound named none ordered fresh advances e f g h =
     let taken : LogPage = record { after = page.after; entries = page.results; complete = complete; total = total } in
-    let behind = page_for-if queryid o page (λ p. IsBehind entries p.after) named sound.behind in
+    let following = page_for-if queryid o page (λ p. IsAfter entries p.after) named sound.following in
     rw (e, f, g, h, none) (record {
       ordered = rw e at ordered;
-      tiling = IsTiling-push entries tiles taken sound.tiling behind advances fresh;
+      tiling = IsTiling-push entries tiles taken sound.tiling following advances fresh;
       broken = rw sound.broken (sym (breaks-push entries tiles (tile_of taken) sound.tiling));
-      behind = tt;
+      following = tt;
       bound = tt;
       unlogged = unlogged-joined entries page.results held sound.unlogged;
     })

@@ -30,14 +30,14 @@ last_id (e ∷ []) = Some e.id
 last_id (e ∷ f ∷ es) = last_id (f ∷ es)
 
 -- a page is asked for behind the last entry before it, or anew, from the first entry that the archive keeps
-abbrev pub IsBehind : List LogEntry → Option (List ℕ) → Type 0
-IsBehind before after = (after ≡ None) ⊎ (after ≡ last_id before)
+abbrev pub IsAfter : List LogEntry → Option (List ℕ) → Type 0
+IsAfter before after = (after ≡ None) ⊎ (after ≡ last_id before)
 
 -- each page was asked for so, and one that isn't the last has an entry
 abbrev pub FollowsOn : List LogEntry → List LogPage → Type 0
 FollowsOn before [] = Unit {0}
 FollowsOn before (page ∷ pages) =
-    IsBehind before page.after × (page.complete ≡ false → 0 < length page.entries) × FollowsOn (before ++ page.entries) pages
+    IsAfter before page.after × (page.complete ≡ false → 0 < length page.entries) × FollowsOn (before ++ page.entries) pages
 
 -- pages that follow on one another from the beginning, and in which no id stands twice
 pub record IsTiled (pages : List LogPage) : Type 0 where

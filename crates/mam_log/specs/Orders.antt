@@ -8,13 +8,13 @@ abbrev pub text_at : List (List ℕ) → ℕ → List ℕ
 text_at texts i = slice_index_or texts i []
 
 abbrev pub texts_at : List (List ℕ) → List ℕ → List (List ℕ)
-texts_at texts places = map (text_at texts) places
+texts_at texts positions = map (text_at texts) positions
 
 -- the texts at these places are all texts, each once, and each is above the ones before it
-pub record IsOrderOf (places : List ℕ) (texts : List (List ℕ)) : Type 0 where
-  pub within : AllByRecursion (λ i. i < length texts) places
-  pub ascend : Ascend (texts_at texts places)
-  pub every : (p : List ℕ) → is_text_of p (texts_at texts places) ≡ is_text_of p texts
+pub record IsOrderOf (positions : List ℕ) (texts : List (List ℕ)) : Type 0 where
+  pub within : AllByRecursion (λ i. i < length texts) positions
+  pub ascend : Ascend (texts_at texts positions)
+  pub every : (p : List ℕ) → is_text_of p (texts_at texts positions) ≡ is_text_of p texts
 
 -- each text above this one is none of these
 abbrev pub AreUpTo : List ℕ → List (List ℕ) → Type 0

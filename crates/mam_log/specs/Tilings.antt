@@ -2,7 +2,7 @@
 use Rattle.std.specs.Prelude.{◌≡◌, ℕ, ◌≤◌, false, List, Option, length, map, IfSome}
 use Rattle.std.specs.List.{AllByRecursion}
 use Rattle.mam_log.specs.Breaks.{breaks_of}
-use Rattle.mam_log.specs.LogPages.{LogPage, IsBehind, IsTiled, ids_of, log_of, tile_of}
+use Rattle.mam_log.specs.LogPages.{LogPage, IsAfter, IsTiled, ids_of, log_of, tile_of}
 use Rattle.mam_log.specs.Orders.{IsOrderOf}
 use Rattle.mam_log.specs.Views.{OpenPage, is_among}
 use Rattle.mam_log.specs.declared.log_entry.LogEntry.{LogEntry}
@@ -27,6 +27,6 @@ pub record IsSound (order : List ℕ) (entries : List LogEntry) (tiles : List Ti
   pub ordered : IsOrderOf order (ids_of entries)
   pub tiling : IsTiling entries tiles
   pub broken : breaks ≡ breaks_of tiles
-  pub behind : IfSome page (λ p. IsBehind entries p.after)
+  pub following : IfSome page (λ p. IsAfter entries p.after)
   pub bound : IfSome page (λ p. (length p.results ≤ p.max) × (p.max ≤ MOST_RESULTS))
   pub unlogged : AreUnlogged entries held

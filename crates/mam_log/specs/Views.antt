@@ -74,13 +74,13 @@ end_of log page fin =
     then repeat_of (first_repeat (ids_of log.entries) (ids_of page.results)) (advance_of fin.complete page)
     else Err (faults.Mismatch fin.last (last_id page.results))
 
-abbrev pub answer_of : LogView → Option OpenPage → Fin → Result PageOutcome FinFault
-answer_of log None fin = Err faults.Stranger
-answer_of log (Some page) fin = end_of log page fin
+abbrev pub page_outcome_of : LogView → Option OpenPage → Fin → Result PageOutcome FinFault
+page_outcome_of log None fin = Err faults.Stranger
+page_outcome_of log (Some page) fin = end_of log page fin
 
 -- the answer of `fin` with this query id, where memory doesn't run out
 abbrev pub fin_answer : LogView → List ℕ → Fin → Result PageOutcome FinFault
-fin_answer log queryid fin = answer_of log (page_for queryid log.page) fin
+fin_answer log queryid fin = page_outcome_of log (page_for queryid log.page) fin
 
 abbrev pub without_page : LogView → LogView
 without_page log = record log { page = None }

@@ -109,7 +109,7 @@ fn outcome(complete: bool) -> PageOutcome
 fn join(entries: &mut LogEntries, order: &mut Vec<usize>, results: LogEntries, rising: bool)
     requires rising { IsTrue rising → Rise (ids_of entries.old.items) (ids_of results.items) }
     requires entries { length results.items ≤ entries.old.spare }
-    requires places { length results.items ≤ vec_capacity order.old - vec_len order.old }
+    requires positions { length results.items ≤ vec_capacity order.old - vec_len order.old }
     requires order { IsOrderOf order.old.items (ids_of entries.old.items) }
     requires fresh { first_repeat (ids_of entries.old.items) (ids_of results.items) ≡ None }
     ensures entries { entries.new.items ≡ entries.old.items ++ results.items }
@@ -150,7 +150,7 @@ pub(crate) fn take_over(
 )
     requires rising { IsTrue rising → Rise (ids_of entries.old.items) (ids_of page.results) }
     requires entries { length page.results ≤ entries.old.spare }
-    requires places { length page.results ≤ vec_capacity order.old - vec_len order.old }
+    requires positions { length page.results ≤ vec_capacity order.old - vec_len order.old }
     requires tiles { 1 ≤ tiles.old.spare }
     requires breaks { 1 ≤ breaks.old.spare }
     requires order { IsOrderOf order.old.items (ids_of entries.old.items) }

@@ -152,7 +152,7 @@ impl Log {
     fn may_hold(&self, id: &str) -> bool
         ensures { result ≡ may_hold self.now id.now }
     {
-        !has_id(self.order.as_slice(), self.entries.as_slice(), id) && self.held.has_place(id)
+        !has_id(self.order.as_slice(), self.entries.as_slice(), id) && self.held.has_room(id)
     }
 
     /// Holds a message that came live behind the others, until a page brings its id. `false` comes where the id is in the
@@ -282,7 +282,7 @@ impl Log {
     }
 
     /// The id behind which the open page was asked for. It is `None` where that is the first page, and where none is open.
-    pub fn place(&self) -> Option<&str>
+    pub fn position(&self) -> Option<&str>
         ensures { option_copied result ≡ option_and_then (λ page. page.after) self.now.page }
     {
         match &self.page {

@@ -111,7 +111,7 @@ impl Held {
     }
 
     /// Whether a message with this id can join: none has the id, and there is place.
-    pub(crate) fn has_place(&self, id: &str) -> bool
+    pub(crate) fn has_room(&self, id: &str) -> bool
         ensures { result ≡ (not (is_among id.now (ids_of self.now)) && nat_lt (length self.now) MOST_HELD) }
     {
         !self.ids.contains(id) && self.ids.len() < MOST_HELD

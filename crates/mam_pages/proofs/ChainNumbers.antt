@@ -69,10 +69,10 @@ module _ (kept : Kept) (peer : List ℕ) where
   first_is_head = walk_first kept.owner peer kept.entries ∙ number_at 0
 
 -- an entry that passes a test stands among those that pass
-place_passing : (t : EntryView → Bool) (n : ℕ) (es : List EntryView) (e : EntryView) → entry_numbered n es ≡ Some e → t e ≡ true →
+position_passing : (t : EntryView → Bool) (n : ℕ) (es : List EntryView) (e : EntryView) → entry_numbered n es ≡ Some e → t e ≡ true →
     (i : ℕ) × (slice_get (numbers_of (filter t es)) i ≡ Some n)
-place_passing t n [] e is passes = absurd (none-some e is)
-place_passing t n (f ∷ es) e is passes =
+position_passing t n [] e is passes = absurd (none-some e is)
+position_passing t n (f ∷ es) e is passes =
     elim (cases_Bool (eqb f.number n)) [
       | inl here ↦
           let same : f ≡ e = same_Some f e (rw here at is) in
@@ -80,7 +80,7 @@ place_passing t n (f ∷ es) e is passes =
           let number : f.number ≡ n = grind (arith, nat_tests, here) in
           rw holds (0, ap Some number)
       | inr other ↦
-          let rest = place_passing t n es e (rw other at is) passes in
+          let rest = position_passing t n es e (rw other at is) passes in
           elim (cases_Bool (t f)) [
             | inl holds ↦ rw holds (suc rest.0, rest.1)
             | inr fails ↦ rw fails rest
@@ -90,7 +90,7 @@ place_passing t n (f ∷ es) e is passes =
 found_with : (owner peer : List ℕ) (n : ℕ) (es : List EntryView) (found : Option EntryView) → found ≡ entry_numbered n es → is_found_with owner peer found ≡ true →
     (i : ℕ) × (slice_get (numbers_of (chain_of owner peer es)) i ≡ Some n)
 found_with owner peer n es None is passes = absurd (grind (arith, passes))
-found_with owner peer n es (Some e) is passes = place_passing (is_with owner peer) n es e (sym is) passes
+found_with owner peer n es (Some e) is passes = position_passing (is_with owner peer) n es e (sym is) passes
 
 -- where a number with an account stands among the account's
 pub numbers_there : (kept : Kept) (peer : List ℕ) (n : ℕ) → is_number_with kept peer n ≡ true → (i : ℕ) × (slice_get (chain_numbers kept peer) i ≡ Some n)

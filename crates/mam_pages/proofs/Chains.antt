@@ -109,17 +109,17 @@ abbrev number_found : Option EntryView → Option ℕ
 number_found found = option_map number_of_entry found
 
 -- the first above the number of one of rising entries is the one behind it
-find_behind : (n : ℕ) (before : List EntryView) (e : EntryView) (rest : List EntryView) → Ascend n (before ++ e ∷ rest) →
+find_after : (n : ℕ) (before : List EntryView) (e : EntryView) (rest : List EntryView) → Ascend n (before ++ e ∷ rest) →
     number_found (find (λ f. ltb e.number f.number) (before ++ e ∷ rest)) ≡ head_number rest
-find_behind n [] e [] up = let here : ltb e.number e.number ≡ false = grind (arith, nat_tests) in rw here
-find_behind n [] e (f ∷ rest) up =
+find_after n [] e [] up = let here : ltb e.number e.number ≡ false = grind (arith, nat_tests) in rw here
+find_after n [] e (f ∷ rest) up =
     let here : ltb e.number e.number ≡ false = grind (arith, nat_tests) in
     let next : ltb e.number f.number ≡ true = grind (arith, nat_tests, up.1.0) in
     rw (here, next)
-find_behind n (b ∷ before) e rest up =
+find_after n (b ∷ before) e rest up =
     let above : b.number < e.number = among b.number before e rest up.1 in
     let here : ltb e.number b.number ≡ false = grind (arith, nat_tests, above) in
-    rw here (find_behind b.number before e rest up.1)
+    rw here (find_after b.number before e rest up.1)
 
 pub find_head : (p : EntryView → Bool) (es : List EntryView) → number_found (find p es) ≡ head_number (filter p es)
 find_head p [] = refl
@@ -137,7 +137,7 @@ next_in_chain owner peer n es before e rest up is =
     let same : peer_of owner e ≡ peer = same-from_bytes_eq (peer_of owner e) peer (left_passes (is_with owner peer) es before e rest is) in
     let next : number_found (find (λ f. ltb e.number f.number && is_with owner peer f) es) ≡ head_number rest =
     ap number_found (find_both (λ f. ltb e.number f.number) (is_with owner peer) es ∙ ap (find (λ f. ltb e.number f.number)) is)
-    ∙ find_behind n before e rest (rw (← is) (ascend_filter (is_with owner peer) n es up)) in
+    ∙ find_after n before e rest (rw (← is) (ascend_filter (is_with owner peer) n es up)) in
     rw (there, same) next
 
 -- a test that another implies leaves the same behind it

@@ -12,8 +12,8 @@ use Rattle.mam_pages.specs.Kept.{Kept}
 use Rattle.mam_pages.specs.PageOf.{entry_of_id}
 use Rattle.mam_pages.specs.Spans.{IsNumbered, number_of_entry}
 use Rattle.mam_pages.specs.Stretches.{is_edge_with}
-use Rattle.mam_pages.specs.declared.query.Place.{Place}
-use Rattle.mam_pages.specs.declared.query.Place.TheVariants.{After, Before}
+use Rattle.mam_pages.specs.declared.query.PagePosition.{PagePosition}
+use Rattle.mam_pages.specs.declared.query.PagePosition.TheVariants.{After, Before}
 use Rattle.mam_pages.specs.Looks.{is_found_with, is_number_with, is_place_with}
 
 -- an entry that is found is above what all are above
@@ -59,17 +59,17 @@ id_number kept peer id first last k known number passes =
     let at = placed first last kept.entries known in
     number_found kept peer _ (first - 1) k (entry_of_id id kept.entries) (ascend_follow (first - 1) kept.entries at.1.follow) refl number passes
 
-pub edge_after : (kept : Kept) (peer id : List ℕ) (place : Place) (first last k : ℕ) → IsNumbered first last kept.entries → place ≡ After id →
-    option_map number_of_entry (entry_of_id id kept.entries) ≡ Some k → 1 ≤ k → is_place_with kept peer place ≡ true →
+pub edge_after : (kept : Kept) (peer id : List ℕ) (position : PagePosition) (first last k : ℕ) → IsNumbered first last kept.entries → position ≡ After id →
+    option_map number_of_entry (entry_of_id id kept.entries) ≡ Some k → 1 ≤ k → is_place_with kept peer position ≡ true →
     is_edge_with kept peer (if ltb 0 k then Some k else None) ≡ true
-edge_after kept peer id place first last k known is number low passes =
+edge_after kept peer id position first last k known is number low passes =
     let test : ltb 0 k ≡ true = grind (arith, nat_tests) in
     rw test (id_number kept peer id first last k known number (rw is at passes))
 
-pub edge_before : (kept : Kept) (peer id : List ℕ) (place : Place) (first last k : ℕ) → IsNumbered first last kept.entries → place ≡ Before id →
-    option_map number_of_entry (entry_of_id id kept.entries) ≡ Some k → 1 ≤ k → k ≤ last → is_place_with kept peer place ≡ true →
+pub edge_before : (kept : Kept) (peer id : List ℕ) (position : PagePosition) (first last k : ℕ) → IsNumbered first last kept.entries → position ≡ Before id →
+    option_map number_of_entry (entry_of_id id kept.entries) ≡ Some k → 1 ≤ k → k ≤ last → is_place_with kept peer position ≡ true →
     is_edge_with kept peer (if ltb (k - 1) last then Some (suc (k - 1)) else None) ≡ true
-edge_before kept peer id place first last k known is number low high passes =
+edge_before kept peer id position first last k known is number low high passes =
     let test : ltb (k - 1) last ≡ true = grind (arith, nat_tests) in
     let same : suc (k - 1) ≡ k = omega arith in
     rw (test, same) (id_number kept peer id first last k known number (rw is at passes))

@@ -7,49 +7,49 @@ use Rattle.mam_pages.proofs.Rising.{filter_all, filter_none}
 use Rattle.mam_pages.specs.Spans.{Rises}
 
 -- a number among rising ones is within them
-pub place_within : (low high i k : ℕ) (ns : List ℕ) → Rises low high ns → slice_get ns i ≡ Some k → (low < k) × (k ≤ high)
-place_within low high i k [] rises is = absurd (none-some k is)
-place_within low high zero k (n ∷ ns) rises is = let same : n ≡ k = same_Some n k is in rw (← same) (rises.0, rises.1)
-place_within low high (suc i) k (n ∷ ns) rises is =
-    let rest = place_within n high i k ns rises.2 is in
+pub position_within : (low high i k : ℕ) (ns : List ℕ) → Rises low high ns → slice_get ns i ≡ Some k → (low < k) × (k ≤ high)
+position_within low high i k [] rises is = absurd (none-some k is)
+position_within low high zero k (n ∷ ns) rises is = let same : n ≡ k = same_Some n k is in rw (← same) (rises.0, rises.1)
+position_within low high (suc i) k (n ∷ ns) rises is =
+    let rest = position_within n high i k ns rises.2 is in
     (omega (arith, rest.0, rises.0), rest.1)
 
 -- those up to the one at a place
-pub up_to_place : (low high i k : ℕ) (ns : List ℕ) → Rises low high ns → slice_get ns i ≡ Some k → length (filter (λ n. leb n k) ns) ≡ suc i
-up_to_place low high i k [] rises is = absurd (none-some k is)
-up_to_place low high zero k (n ∷ ns) rises is =
+pub up_to_position : (low high i k : ℕ) (ns : List ℕ) → Rises low high ns → slice_get ns i ≡ Some k → length (filter (λ n. leb n k) ns) ≡ suc i
+up_to_position low high i k [] rises is = absurd (none-some k is)
+up_to_position low high zero k (n ∷ ns) rises is =
     let same : n ≡ k = same_Some n k is in
     let here : leb n k ≡ true = grind (arith, nat_tests, same) in
     let none : filter (λ m. leb m k) ns ≡ [] = filter_none (λ m. leb m k) n high ns rises.2 (λ m above below. grind (arith, nat_tests, same)) in
     rw (here, none) refl
-up_to_place low high (suc i) k (n ∷ ns) rises is =
-    let above = place_within n high i k ns rises.2 is in
+up_to_position low high (suc i) k (n ∷ ns) rises is =
+    let above = position_within n high i k ns rises.2 is in
     let here : leb n k ≡ true = grind (arith, nat_tests, above.0) in
-    rw here (ap suc (up_to_place n high i k ns rises.2 is))
+    rw here (ap suc (up_to_position n high i k ns rises.2 is))
 
 -- those behind the one at a place
-pub behind_place : (low high i k : ℕ) (ns : List ℕ) → Rises low high ns → slice_get ns i ≡ Some k → filter (λ n. ltb k n) ns ≡ drop (suc i) ns
-behind_place low high i k [] rises is = absurd (none-some k is)
-behind_place low high zero k (n ∷ ns) rises is =
+pub after_position : (low high i k : ℕ) (ns : List ℕ) → Rises low high ns → slice_get ns i ≡ Some k → filter (λ n. ltb k n) ns ≡ drop (suc i) ns
+after_position low high i k [] rises is = absurd (none-some k is)
+after_position low high zero k (n ∷ ns) rises is =
     let same : n ≡ k = same_Some n k is in
     let here : ltb k n ≡ false = grind (arith, nat_tests, same) in
     rw here (filter_all (λ m. ltb k m) n high ns rises.2 (λ m above below. grind (arith, nat_tests, same)))
-behind_place low high (suc i) k (n ∷ ns) rises is =
-    let above = place_within n high i k ns rises.2 is in
+after_position low high (suc i) k (n ∷ ns) rises is =
+    let above = position_within n high i k ns rises.2 is in
     let here : ltb k n ≡ false = grind (arith, nat_tests, above.0) in
-    rw here (behind_place n high i k ns rises.2 is)
+    rw here (after_position n high i k ns rises.2 is)
 
 -- those before the one at a place
-pub before_place : (low high i k : ℕ) (ns : List ℕ) → Rises low high ns → slice_get ns i ≡ Some k → filter (λ n. ltb n k) ns ≡ take i ns
-before_place low high i k [] rises is = absurd (none-some k is)
-before_place low high zero k (n ∷ ns) rises is =
+pub before_position : (low high i k : ℕ) (ns : List ℕ) → Rises low high ns → slice_get ns i ≡ Some k → filter (λ n. ltb n k) ns ≡ take i ns
+before_position low high i k [] rises is = absurd (none-some k is)
+before_position low high zero k (n ∷ ns) rises is =
     let same : n ≡ k = same_Some n k is in
     let here : ltb n k ≡ false = grind (arith, nat_tests, same) in
     rw here (filter_none (λ m. ltb m k) n high ns rises.2 (λ m above below. grind (arith, nat_tests, same)))
-before_place low high (suc i) k (n ∷ ns) rises is =
-    let above = place_within n high i k ns rises.2 is in
+before_position low high (suc i) k (n ∷ ns) rises is =
+    let above = position_within n high i k ns rises.2 is in
     let here : ltb n k ≡ true = grind (arith, nat_tests, above.0) in
-    rw here (ap (λ t. n ∷ t) (before_place n high i k ns rises.2 is))
+    rw here (ap (λ t. n ∷ t) (before_position n high i k ns rises.2 is))
 
 -- a list from the one at a place on
 pub drop_at : (i x : ℕ) (ns : List ℕ) → slice_get ns i ≡ Some x → drop i ns ≡ x ∷ drop (suc i) ns

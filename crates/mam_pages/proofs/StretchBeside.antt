@@ -24,10 +24,10 @@ pub found_at : (kept : Kept) (peer : List ℕ) (number index : ℕ) (found : Opt
     index ≡ unwrap_or found 0 → IsFound kept peer number index chain.count
 found_at kept peer number index found chain known ends passes is at =
     let there = numbers_there kept peer number passes in
-    let place : index ≡ there.0 = at ∙ ap (λ o. unwrap_or o 0) (is ∙ numbers_index kept peer there.0 number known there.1) in
+    let position : index ≡ there.0 = at ∙ ap (λ o. unwrap_or o 0) (is ∙ numbers_index kept peer there.0 number known there.1) in
     let all = (numbers_ends kept peer chain ends).count in
     let inside = slice_get_within (chain_numbers kept peer) there.0 number there.1 in
-    record { here = rw place there.1; within = omega (arith, place, all, inside); all = all }
+    record { here = rw position there.1; within = omega (arith, position, all, inside); all = all }
 
 -- the nearest candidate is the neighbour
 pub nearest_is : (kept : Kept) (peer : List ℕ) (span : Span) (number nearest index : ℕ) (s : Stretch) → AreConsecutive kept.entries →
@@ -40,12 +40,12 @@ nearest_is kept peer span number nearest index s known here near is some = elim 
       let shape : s ≡ record { number = nearest; skipped = 0; found = index; count = length (chain_numbers kept peer) } = rw back at is in
       let found : s.found ≡ index = ap (λ (t : Stretch). t.found) shape in
       let none : s.skipped ≡ 0 = ap (λ (t : Stretch). t.skipped) shape in
-      let place : s.skipped + s.found - 1 ≡ index - 1 = omega (arith, found, none) in
+      let position : s.skipped + s.found - 1 ≡ index - 1 = omega (arith, found, none) in
       let inside = slice_get_within (chain_numbers kept peer) index number here in
       let at = get_within (index - 1) (chain_numbers kept peer) (omega (arith, inside)) in
       let previous = numbers_previous kept peer index number known here (omega (arith, some, found)) ∙ at.1 in
       let same : nearest ≡ at.0 = (rw back at near) ∙ ap (λ o. number_or o number) previous in
-      rw back (rw place (at.1 ∙ ap Some (sym same)))
+      rw back (rw position (at.1 ∙ ap Some (sym same)))
   | inr front ↦
       let shape : s ≡ record { number = nearest; skipped = index + 1; found = length (chain_numbers kept peer) - index - 1; count = length (chain_numbers kept peer) } = rw front at is in
       let found : s.found ≡ length (chain_numbers kept peer) - index - 1 = ap (λ (t : Stretch). t.found) shape in

@@ -6,7 +6,7 @@ use Rattle.std.proofs.lemmas.Bool.Decides.{nat_tests}
 use Rattle.std.proofs.lemmas.List.{length-drop, length-take-le, take_all}
 use Rattle.std.proofs.lemmas.Option.{none-some, slice_get_within, same_Some}
 use Rattle.mam_archive.specs.declared.chains.Chain.{Chain}
-use Rattle.mam_pages.proofs.Positions.{before_place, behind_place, up_to_place}
+use Rattle.mam_pages.proofs.Positions.{after_position, before_position, up_to_position}
 use Rattle.mam_pages.proofs.Rising.{filter_none, within_above, within_all, within_below}
 use Rattle.mam_pages.proofs.Tallying.{index_of_first, index_of_last, index_of_none}
 use Rattle.mam_pages.specs.Spans.{Rises, cut_by, index_in, portion_by, skipped, within}
@@ -65,9 +65,9 @@ whole_is span last ns chain s rises ends reach edge none all count number = elim
       let start = reach.backward back in
       let end = backward_open span last back reach.below edge in
       let inside : within span ns ≡ ns = within_all span 0 last ns rises (omega (arith, start)) (omega (arith, end)) in
-      let place : s.skipped + s.found - 1 ≡ length ns - 1 = omega (arith, none, all, ends.count) in
+      let position : s.skipped + s.found - 1 ≡ length ns - 1 = omega (arith, none, all, ends.count) in
       let is : s.number ≡ chain.last = rw back at number in
-      parts back start inside (λ some. rw back (rw (place, is) ends.last))
+      parts back start inside (λ some. rw back (rw (position, is) ends.last))
   | inr front ↦
       let start = forward_open span last front edge in
       let end = reach.forward front in
@@ -97,7 +97,7 @@ beside_is span last i k number ns s rises reach edge here is first = elim (cases
       let start = reach.backward back in
       let next = backward_edge span last k back edge in
       let inside : within span ns ≡ take i ns =
-      within_below span k 0 last ns rises (omega (arith, start)) (omega (arith, next)) ∙ before_place 0 last i k ns rises here in
+      within_below span k 0 last ns rises (omega (arith, start)) (omega (arith, next)) ∙ before_position 0 last i k ns rises here in
       let low = slice_get_within ns i k here in
       record {
         count = ap (λ (t : Stretch). t.count) shape;
@@ -113,9 +113,9 @@ beside_is span last i k number ns s rises reach edge here is first = elim (cases
       let end = reach.forward front in
       let one : suc i ≡ i + 1 = omega arith in
       let inside : within span ns ≡ drop (i + 1) ns =
-      rw (← one) (within_above span 0 last ns rises (omega (arith, end)) ∙ rw after (behind_place 0 last i k ns rises here)) in
+      rw (← one) (within_above span 0 last ns rises (omega (arith, end)) ∙ rw after (after_position 0 last i k ns rises here)) in
       let low = slice_get_within ns i k here in
-      let before : length (skipped span ns) ≡ i + 1 = rw (after, ← one) (up_to_place 0 last i k ns rises here) in
+      let before : length (skipped span ns) ≡ i + 1 = rw (after, ← one) (up_to_position 0 last i k ns rises here) in
       record {
         count = ap (λ (t : Stretch). t.count) shape;
         skipped = ap (λ (t : Stretch). t.skipped) shape ∙ sym before;
@@ -148,14 +148,14 @@ forward_page span ns s count front known some =
     let size : min (length (within span ns)) span.most ≡ count = omega (arith, some, known.found) in
     sym (page ∙ ap (λ n. take n (within span ns)) size ∙ ap (take count) known.whole ∙ take_take count s.found (drop s.skipped ns) (omega (arith, some)))
 
-pub backward_page : (span : Span) (high last place : ℕ) (ns : List ℕ) (s : Stretch) (count : ℕ) → span.backward ≡ true → Rises 0 high ns → IsOpenSpan last span → IsStretch span ns s →
-    count ≡ min s.found span.most → 1 ≤ count → place ≡ s.skipped + s.found - 1 → drop (place + 1 - count) (take (place + 1) ns) ≡ portion_by span (within span ns)
-backward_page span high last place ns s count back rises reach known some there at =
+pub backward_page : (span : Span) (high last position : ℕ) (ns : List ℕ) (s : Stretch) (count : ℕ) → span.backward ≡ true → Rises 0 high ns → IsOpenSpan last span → IsStretch span ns s →
+    count ≡ min s.found span.most → 1 ≤ count → position ≡ s.skipped + s.found - 1 → drop (position + 1 - count) (take (position + 1) ns) ≡ portion_by span (within span ns)
+backward_page span high last position ns s count back rises reach known some there at =
     let none : s.skipped ≡ 0 = known.skipped ∙ none_skipped span high ns rises (reach.backward back) in
-    let inside : within span ns ≡ take (place + 1) ns =
+    let inside : within span ns ≡ take (position + 1) ns =
     known.whole ∙ ap (λ n. take s.found (drop n ns)) none ∙ ap (λ n. take n ns) (omega (arith, at, none, some, there)) in
-    let size : length (within span ns) - span.most ≡ place + 1 - count = omega (arith, known.found, at, none, some, there) in
-    rw back (rw size (ap (drop (place + 1 - count)) (sym inside)))
+    let size : length (within span ns) - span.most ≡ position + 1 - count = omega (arith, known.found, at, none, some, there) in
+    rw back (rw size (ap (drop (position + 1 - count)) (sym inside)))
 
 pub backward_start : (span : Span) (ns : List ℕ) (s : Stretch) (count : ℕ) → span.backward ≡ true → IsStretch span ns s → count ≡ min s.found span.most → 1 ≤ count →
     slice_get ns (s.skipped + s.found - 1) ≡ Some s.number

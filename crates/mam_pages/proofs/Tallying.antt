@@ -56,8 +56,8 @@ portion_push span found x =
       | inr front ↦ rw front (take_push span.most found x)
     ]
 
-nothing_behind : (k f : ℕ) (rest : List ℕ) → drop k [] ≡ f ∷ rest → ⊥
-nothing_behind k f rest is =
+nothing_after : (k f : ℕ) (rest : List ℕ) → drop k [] ≡ f ∷ rest → ⊥
+nothing_after k f rest is =
     let none : [] ≡ f ∷ rest = sym (drop-nil k) ∙ is in
     grind (arith, none)
 
@@ -76,15 +76,15 @@ left_step p low n f zero found rest above holds later is =
     record { above = rw (← same) above; passes = rw (← same) holds }
 left_step p low n f (suc k) found rest above holds later is = left_weaken p low n f (omega arith) (later k is)
 
-left_behind : (p : ℕ → Bool) (low high k f : ℕ) (ns rest : List ℕ) → Rises low high ns → drop k (filter p ns) ≡ f ∷ rest → Left p low f
-left_behind p low high k f [] rest rises is = absurd (nothing_behind k f rest is)
-left_behind p low high k f (n ∷ ns) rest rises is =
+left_after : (p : ℕ → Bool) (low high k f : ℕ) (ns rest : List ℕ) → Rises low high ns → drop k (filter p ns) ≡ f ∷ rest → Left p low f
+left_after p low high k f [] rest rises is = absurd (nothing_after k f rest is)
+left_after p low high k f (n ∷ ns) rest rises is =
     elim (cases_Bool (p n)) [
       | inl holds ↦
           left_step p low n f k (filter p ns) rest rises.0 holds
-          (λ j here. left_behind p n high j f ns rest rises.2 here) (rw holds at is)
+          (λ j here. left_after p n high j f ns rest rises.2 here) (rw holds at is)
       | inr fails ↦
-          left_weaken p low n f (omega (arith, rises.0)) (left_behind p n high k f ns rest rises.2 (rw fails at is))
+          left_weaken p low n f (omega (arith, rises.0)) (left_after p n high k f ns rest rises.2 (rw fails at is))
     ]
 
 -- what a number adds to the numbers below f, where the page begins with f
@@ -111,7 +111,7 @@ below_step span n high f zero ns rest rises above later is =
     let here : ltb n f ≡ false = rw (← same) (grind (arith, nat_tests)) in
     rw here (none_below f n high ns rises (omega (arith, same)))
 below_step span n high f (suc k) ns rest rises above later is =
-    let left = left_behind (is_within span) n high k f ns rest rises is in
+    let left = left_after (is_within span) n high k f ns rest rises is in
     let here : ltb n f ≡ true = grind (arith, nat_tests, left.above) in
     let none = none_skipped span n high ns rises (omega (arith, above)) in
     let rest_below = later k is in
@@ -120,7 +120,7 @@ below_step span n high f (suc k) ns rest rises above later is =
 -- the numbers below a candidate are those before all candidates and the candidates before it
 pub count_below : (span : Span) (low high k f : ℕ) (ns rest : List ℕ) → Rises low high ns → drop k (within span ns) ≡ f ∷ rest →
     below f ns ≡ length (skipped span ns) + k
-count_below span low high k f [] rest rises is = absurd (nothing_behind k f rest is)
+count_below span low high k f [] rest rises is = absurd (nothing_after k f rest is)
 count_below span low high k f (n ∷ ns) rest rises is =
     elim (cases_lt span.after n) [
       | inl above ↦
@@ -128,7 +128,7 @@ count_below span low high k f (n ∷ ns) rest rises is =
             | inl beyond ↦
                 let out : is_within span n ≡ false = grind (arith, nat_tests) in
                 let none : within span ns ≡ [] = none_within span n high ns rises.2 (omega arith) in
-                absurd (nothing_behind k f rest (rw (out, none) at is))
+                absurd (nothing_after k f rest (rw (out, none) at is))
             | inr inside ↦
                 let candidate : is_within span n ≡ true = grind (arith, nat_tests) in
                 let not_before : leb n span.after ≡ false = grind (arith, nat_tests) in
@@ -140,7 +140,7 @@ count_below span low high k f (n ∷ ns) rest rises is =
       | inr before ↦
           let out : is_within span n ≡ false = grind (arith, nat_tests) in
           let skip : leb n span.after ≡ true = grind (arith, nat_tests) in
-          let left = left_behind (is_within span) n high k f ns rest rises.2 (rw out at is) in
+          let left = left_after (is_within span) n high k f ns rest rises.2 (rw out at is) in
           let here : ltb n f ≡ true = grind (arith, nat_tests, left.above) in
           let rest_below = count_below span n high k f ns rest rises.2 (rw out at is) in
           rw (here, skip) (omega (arith, rest_below))
@@ -175,9 +175,9 @@ index_of_none span ns (f ∷ rest) is none = absurd (omega arith)
 
 pub index_of_last : (span : Span) (high s k : ℕ) (ns page : List ℕ) → Rises 0 high ns → span.backward ≡ true → page ≡ portion_by span (within span ns) →
     1 ≤ length page → s ≡ length (skipped span ns) → k ≡ length (within span ns) - span.most → s + k ≡ index_in ns (portion_by span (within span ns))
-index_of_last span high s k ns page rises back is some before behind =
+index_of_last span high s k ns page rises back is some before following =
     let whole : page ≡ drop (length (within span ns) - span.most) (within span ns) = rw back at is in
-    rw (← is, before, behind) (index_back span high (length (within span ns) - span.most) ns page rises whole some)
+    rw (← is, before, following) (index_back span high (length (within span ns) - span.most) ns page rises whole some)
 
 pub index_of_first : (span : Span) (high s : ℕ) (ns page : List ℕ) → Rises 0 high ns → span.backward ≡ false → page ≡ portion_by span (within span ns) →
     1 ≤ length page → s ≡ length (skipped span ns) → s ≡ index_in ns (portion_by span (within span ns))

@@ -145,14 +145,14 @@ high_among n (x ∷ xs) m e follow is =
           omega (arith, rest)
     ]
 
-behind_rises : (n : ℕ) (before : List EntryView) (e f : EntryView) (rest : List EntryView) → Ascend n (before ++ e ∷ f ∷ rest) → e.number < f.number
-behind_rises n [] e f rest up = up.1.0
-behind_rises n (b ∷ before) e f rest up = behind_rises b.number before e f rest up.1
+after_rises : (n : ℕ) (before : List EntryView) (e f : EntryView) (rest : List EntryView) → Ascend n (before ++ e ∷ f ∷ rest) → e.number < f.number
+after_rises n [] e f rest up = up.1.0
+after_rises n (b ∷ before) e f rest up = after_rises b.number before e f rest up.1
 
 steps_fall : (n last : ℕ) (before : List EntryView) (e : EntryView) (rest : List EntryView) → Ascend n (before ++ e ∷ rest) → e.number ≤ last →
     steps_left last (head_number rest) < steps_left last (Some e.number)
 steps_fall n last before e [] up low = omega (arith, low)
-steps_fall n last before e (f ∷ rest) up low = let rises = behind_rises n before e f rest up in omega (arith, rises, low)
+steps_fall n last before e (f ∷ rest) up low = let rises = after_rises n before e f rest up in omega (arith, rises, low)
 
 at_entry : (kept : Kept) (query : PageQuery) (peer : List ℕ) (span : Span) (had looks number : ℕ) (tally : Tally) (before rest : List EntryView) (e : EntryView) →
     query.peer ≡ Some peer → AreConsecutive kept.entries → chain kept query ≡ before ++ e ∷ rest → number ≡ e.number →

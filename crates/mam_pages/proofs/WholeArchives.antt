@@ -7,7 +7,7 @@ use Rattle.mam_pages.proofs.Placed.{placed, placed_self}
 use Rattle.mam_pages.proofs.Rising.{rises_entries, rises_weaken}
 use Rattle.mam_pages.specs.Kept.{AreConsecutive, Kept, first_number, last_number}
 use Rattle.mam_pages.specs.Matches.{is_wanted, matching}
-use Rattle.mam_pages.specs.Spans.{IsNumbered, Rises, numbers_behind, numbers_of}
+use Rattle.mam_pages.specs.Spans.{IsNumbered, Rises, numbers_after, numbers_of}
 use Rattle.mam_pages.specs.Walks.{is_in_chain}
 use Rattle.mam_pages.specs.declared.query.PageQuery.{PageQuery}
 
@@ -25,12 +25,12 @@ filter_every p (e ∷ es) passes = let here = passes e in rw here (ap (λ t. e �
 
 -- where each entry matches, the numbers are those from the first to the last
 pub matching_all : (kept : Kept) (query : PageQuery) (first last : ℕ) → IsNumbered first last kept.entries →
-    ((e : EntryView) → is_wanted kept.owner query e ≡ true) → numbers_behind (first - 1) (last - (first - 1)) ≡ numbers_of (matching kept query)
+    ((e : EntryView) → is_wanted kept.owner query e ≡ true) → numbers_after (first - 1) (last - (first - 1)) ≡ numbers_of (matching kept query)
 matching_all kept query first last known passes =
     let at = placed first last kept.entries known in
     let size : length kept.entries ≡ last - (first - 1) = omega (arith, at.1.end) in
     sym (ap numbers_of (filter_every (is_wanted kept.owner query) kept.entries passes) ∙ numbers_follow (first - 1) kept.entries at.1.follow
-    ∙ ap (numbers_behind (first - 1)) size)
+    ∙ ap (numbers_after (first - 1)) size)
 
 pub numbered_bounds : (first last : ℕ) (es : List EntryView) → IsNumbered first last es → (1 ≤ first) × (first ≤ last + 1)
 numbered_bounds first last es known =

@@ -8,8 +8,8 @@ use Rattle.mam_pages.specs.Kept.{Kept, first_number, last_number}
 use Rattle.mam_archive.specs.Peers.{first_of, next_of}
 use Rattle.mam_pages.specs.PageOf.{page_of}
 use Rattle.mam_pages.specs.declared.query.PageQuery.{PageQuery}
-use Rattle.mam_pages.specs.declared.query.Place.{Place}
-use Rattle.mam_pages.specs.declared.query.Place.TheVariants.{First, After, Before, Last}
+use Rattle.mam_pages.specs.declared.query.PagePosition.{PagePosition}
+use Rattle.mam_pages.specs.declared.query.PagePosition.TheVariants.{First, After, Before, Last}
 use Rattle.base_lemmas.specs.Hexadecimal.{hex16_of}
 
 abbrev romeo : List ℕ
@@ -38,8 +38,8 @@ five n =
           ∷ [];
     }
 
-abbrev asks : Option (List ℕ) → Place → Option ℕ → PageQuery
-asks peer place max = record { peer = peer; start = None; end = None; place = place; max = max }
+abbrev asks : Option (List ℕ) → PagePosition → Option ℕ → PageQuery
+asks peer position max = record { peer = peer; start = None; end = None; position = position; max = max }
 
 abbrev cut : List ℕ → ℕ → ℕ → Bool → Bool → Option CutView
 cut numbers first_index count complete backward =
@@ -67,9 +67,9 @@ unfolding hex16_of
 unknown_id = refl
 
 -- the archive lost its first 400 entries
-behind_seam : page_of (five 400) (asks (Some bob) (Before (id_of 404)) (Some 1)) ≡ cut (403 ∷ []) 1 3 false true
+after_seam : page_of (five 400) (asks (Some bob) (Before (id_of 404)) (Some 1)) ≡ cut (403 ∷ []) 1 3 false true
 unfolding hex16_of
-behind_seam = refl
+after_seam = refl
 
 lost_id : page_of (five 400) (asks (Some bob) (After (id_of 400)) None) ≡ None
 unfolding hex16_of
@@ -79,7 +79,7 @@ of_session : page_of (five 400) (asks (Some (codes "bob@a/x")) Last None) ≡ cu
 of_session = refl
 
 -- the moments of `start` and `end` belong to what is asked for
-in_time : page_of (five 0) (record { peer = None; start = Some 20; end = Some 40; place = First; max = Some 200 }) ≡ cut (2 ∷ 3 ∷ 4 ∷ []) 0 3 true false
+in_time : page_of (five 0) (record { peer = None; start = Some 20; end = Some 40; position = First; max = Some 200 }) ≡ cut (2 ∷ 3 ∷ 4 ∷ []) 0 3 true false
 in_time = refl
 
 first_kept : first_number (five 400).entries ≡ 401

@@ -4,8 +4,8 @@ use Rattle.mam_archive.specs.Entries.{EntryView, entry_numbered}
 use Rattle.mam_archive.specs.Peers.{is_with}
 use Rattle.mam_pages.specs.Kept.{Kept}
 use Rattle.mam_pages.specs.PageOf.{entry_of_id}
-use Rattle.mam_pages.specs.declared.query.Place.{Place}
-use Rattle.mam_pages.specs.declared.query.Place.TheVariants.{First, After, Before, Last}
+use Rattle.mam_pages.specs.declared.query.PagePosition.{PagePosition}
+use Rattle.mam_pages.specs.declared.query.PagePosition.TheVariants.{First, After, Before, Last}
 
 -- there is an entry, and it is with this account
 abbrev pub is_found_with : List ℕ → List ℕ → Option EntryView → Bool
@@ -17,7 +17,7 @@ abbrev pub is_number_with : Kept → List ℕ → ℕ → Bool
 is_number_with kept peer n = is_found_with kept.owner peer (entry_numbered n kept.entries)
 
 -- the page stands at an end of the archive, or beside an entry with this account (XEP-0059 sections 2.1 to 2.5)
-abbrev pub is_place_with : Kept → List ℕ → Place → Bool
+abbrev pub is_place_with : Kept → List ℕ → PagePosition → Bool
 is_place_with kept peer First = true
 is_place_with kept peer Last = true
 is_place_with kept peer (After id) = is_found_with kept.owner peer (entry_of_id id kept.entries)

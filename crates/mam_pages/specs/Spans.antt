@@ -16,9 +16,9 @@ abbrev pub numbers_of : List EntryView → List ℕ
 numbers_of entries = map number_of_entry entries
 
 -- the next so many numbers behind n
-abbrev pub numbers_behind : ℕ → ℕ → List ℕ
-numbers_behind n zero = []
-numbers_behind n (suc k) = suc n ∷ numbers_behind (suc n) k
+abbrev pub numbers_after : ℕ → ℕ → List ℕ
+numbers_after n zero = []
+numbers_after n (suc k) = suc n ∷ numbers_after (suc n) k
 
 abbrev pub is_within : Span → ℕ → Bool
 is_within span n = nat_lt span.after n && nat_le n span.through

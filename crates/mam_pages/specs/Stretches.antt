@@ -27,7 +27,7 @@ is_edge_with kept peer (Some n) = is_number_with kept peer n
 -- where the place is an end or with an account, so is the span's edge
 abbrev pub IsEdgeOf : PageQuery → ℕ → ℕ → Span → Type 0
 IsEdgeOf query first last span =
-    (kept : Kept) → (peer : List ℕ) → IsNumbered first last kept.entries → is_place_with kept peer query.place ≡ true →
+    (kept : Kept) → (peer : List ℕ) → IsNumbered first last kept.entries → is_place_with kept peer query.position ≡ true →
     is_edge_with kept peer (edge_of span last) ≡ true
 
 -- the candidates reach up to the archive's last entry, or for a backward page from its first one on
@@ -85,11 +85,11 @@ number_or None n = n
 number_or (Some m) n = m
 
 -- so many steps along numbers, from a place on: what was read, and where the walk stands
-pub record IsRun (numbers : List ℕ) (place at number : ℕ) (items : List ℕ) : Type 0 where
-  pub read : items ≡ take (at + 1) (drop place numbers)
-  pub here : slice_get numbers (place + at) ≡ Some number
+pub record IsRun (numbers : List ℕ) (position at number : ℕ) (items : List ℕ) : Type 0 where
+  pub read : items ≡ take (at + 1) (drop position numbers)
+  pub here : slice_get numbers (position + at) ≡ Some number
 
 -- the same from a place backward, into the last of so many slots
-pub record IsBackRun (numbers : List ℕ) (place count at number : ℕ) (slots : List ℕ) : Type 0 where
-  pub read : drop (count - 1 - at) (take count slots) ≡ drop (place - at) (take (place + 1) numbers)
-  pub here : slice_get numbers (place - at) ≡ Some number
+pub record IsBackRun (numbers : List ℕ) (position count at number : ℕ) (slots : List ℕ) : Type 0 where
+  pub read : drop (count - 1 - at) (take count slots) ≡ drop (position - at) (take (position + 1) numbers)
+  pub here : slice_get numbers (position - at) ≡ Some number

@@ -21,5 +21,5 @@ pub use cut::{PageCut, PageFault};
 pub use fin::Fin;
 pub use looks::Look;
 pub use paging::page;
-pub use query::{PageQuery, Place};
+pub use query::{PagePosition, PageQuery};
 pub use span::MOST_RESULTS;

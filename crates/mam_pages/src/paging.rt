@@ -126,16 +126,16 @@ fn cut_out<V: Look>(
 
 /// The page of an archive's entries that answers a query (XEP-0313 section 4.3, XEP-0059 sections 2.1 to 2.6).
 ///
-/// Among the entries that match `peer`, `start` and `end`, the candidates are all where `place` is `First` or `Last`, and
-/// else those behind or before the entry with its id. The page has the first of them, or for `Before` and `Last` the
-/// last: at most `max`, and at most 100. `count` is of all entries that match, wherever the page stands among them.
-/// `NotFound` comes exactly where the id is no id of an entry of the archive, whether or not of one that matches, and
-/// `NoMemory` where no memory is left for the page's numbers. The archive stays as it was.
+/// Among the entries that match `peer`, `start` and `end`, the candidates are all where `position` is `First` or
+/// `Last`, and else those behind or before the entry with its id. The page has the first of them, or for `Before` and
+/// `Last` the last: at most `max`, and at most 100. `count` is of all entries that match, wherever the page stands
+/// among them. `NotFound` comes exactly where the id is no id of an entry of the archive, whether or not of one that
+/// matches, and `NoMemory` where no memory is left for the page's numbers. The archive stays as it was.
 ///
 /// Where `peer` is given, two looks are taken at most for each entry with that account, and one more; without `peer`
 /// at most one for each entry, and none where nothing else narrows the query down. Where `peer` has no resource and
 /// neither `start` nor `end` is given, the page is found from its place: one look for each entry that it may have, and
-/// three more, however many entries stand outside it, if `place` is `First` or `Last` or its id is that of an entry
+/// three more, however many entries stand outside it, if `position` is `First` or `Last` or its id is that of an entry
 /// with the peer.
 pub fn page<V: Look>(alloc: Global, look: &mut V, query: &PageQuery) -> Result<PageCut, PageFault>
     ensures page { IfOk result (λ cut. page_of (V.archive look.old) query.now ≡ Some cut) }
@@ -148,7 +148,7 @@ pub fn page<V: Look>(alloc: Global, look: &mut V, query: &PageQuery) -> Result<P
         V.looks look.new ≤ V.looks look.old + (2 * entries_with (bare_form peer) (V.archive look.old) + 1) }
     // the page is found from its place
     ensures bounded { (peer : List ℕ) → query.now.peer ≡ Some peer → is_full peer ≡ false → query.now.start ≡ None → query.now.end ≡ None →
-        is_place_with (V.archive look.old) peer query.now.place ≡ true → V.looks look.new ≤ V.looks look.old + (most_of query.now.max + 3) }
+        is_place_with (V.archive look.old) peer query.now.position ≡ true → V.looks look.new ≤ V.looks look.old + (most_of query.now.max + 3) }
     ensures everybody { query.now.peer ≡ None → V.looks look.new ≤ V.looks look.old + length (V.archive look.old).entries }
     ensures unfiltered { query.now.peer ≡ None → query.now.start ≡ None → query.now.end ≡ None → V.looks look.new ≡ V.looks look.old }
 {

@@ -3,7 +3,7 @@ use base_io::Text;
 
 /// Where a page lies among the entries that match (XEP-0059 sections 2.1 to 2.5). An id is an archive id.
 #[derive(Drop)]
-pub enum Place {
+pub enum PagePosition {
     /// The first entries.
     First,
     /// The first entries behind the one with this id.
@@ -24,7 +24,7 @@ pub struct PageQuery {
     pub start: Option<u64>,
     /// The latest moment, which belongs to it, in milliseconds since 1970.
     pub end: Option<u64>,
-    pub place: Place,
+    pub position: PagePosition,
     /// The most entries that the page is to have. At most 100 are given, and 100 where nothing is said.
     pub max: Option<u32>,
 }

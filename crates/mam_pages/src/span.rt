@@ -4,7 +4,7 @@ ghost use Rattle.mam_pages.specs.PageOf.{most_of};
 ghost use Rattle.mam_pages.specs.Spans.{IsNumberOf, IsSpanOf};
 ghost use Rattle.mam_pages.specs.Stretches.{IsEdgeOf, IsOpenSpan};
 
-use crate::query::{PageQuery, Place};
+use crate::query::{PagePosition, PageQuery};
 use mam_archive::{ids_differ, number_of};
 
 /// The most entries of a page.
@@ -51,11 +51,11 @@ pub(crate) fn span_of(query: &PageQuery, first: u64, last: u64) -> Option<Span>
     ensures edge { IfSome result (λ span. IsEdgeOf query.now first last span) }
 {
     let most = most(query.max);
-    let (after, through, backward) = match &query.place {
-        Place::First => (0, last, false),
-        Place::After(id) => (number_kept(id.as_str(), first, last)?, last, false),
-        Place::Before(id) => (0, number_kept(id.as_str(), first, last)? - 1, true),
-        Place::Last => (0, last, true),
+    let (after, through, backward) = match &query.position {
+        PagePosition::First => (0, last, false),
+        PagePosition::After(id) => (number_kept(id.as_str(), first, last)?, last, false),
+        PagePosition::Before(id) => (0, number_kept(id.as_str(), first, last)? - 1, true),
+        PagePosition::Last => (0, last, true),
     };
     Some(Span {
         after,

@@ -146,8 +146,8 @@ fn numbers_from<V: Look>(
     requires some { 1 ≤ count }
     requires few { count ≤ 100 }
     requires consecutive { AreConsecutive (V.archive look.old).entries }
-    ensures numbers { (peer : List ℕ) → (place : ℕ) → slice_get (chain_numbers (V.archive look.old) peer) place ≡ Some first → place + count ≤ length (chain_numbers (V.archive look.old) peer) →
-        IfOk result (λ numbers. numbers.items ≡ take count (drop place (chain_numbers (V.archive look.old) peer))) }
+    ensures numbers { (peer : List ℕ) → (position : ℕ) → slice_get (chain_numbers (V.archive look.old) peer) position ≡ Some first → position + count ≤ length (chain_numbers (V.archive look.old) peer) →
+        IfOk result (λ numbers. numbers.items ≡ take count (drop position (chain_numbers (V.archive look.old) peer))) }
     ensures archive { V.archive look.new ≡ V.archive look.old }
     ensures looks { V.looks look.new + 1 ≤ V.looks look.old + count }
 {
@@ -168,8 +168,8 @@ fn fill_back<V: Look>(look: &mut V, last: u64, slots: &mut [u64; SLOTS], count: 
     requires some { 1 ≤ count }
     requires few { count ≤ 100 }
     requires consecutive { AreConsecutive (V.archive look.old).entries }
-    ensures slots { (peer : List ℕ) → (place : ℕ) → slice_get (chain_numbers (V.archive look.old) peer) place ≡ Some last → count ≤ place + 1 →
-        take count slots.new ≡ drop (place + 1 - count) (take (place + 1) (chain_numbers (V.archive look.old) peer)) }
+    ensures slots { (peer : List ℕ) → (position : ℕ) → slice_get (chain_numbers (V.archive look.old) peer) position ≡ Some last → count ≤ position + 1 →
+        take count slots.new ≡ drop (position + 1 - count) (take (position + 1) (chain_numbers (V.archive look.old) peer)) }
     ensures archive { V.archive look.new ≡ V.archive look.old }
     ensures looks { V.looks look.new + 1 ≤ V.looks look.old + count }
 {
@@ -191,8 +191,8 @@ fn numbers_up_to<V: Look>(
     requires some { 1 ≤ count }
     requires few { count ≤ 100 }
     requires consecutive { AreConsecutive (V.archive look.old).entries }
-    ensures numbers { (peer : List ℕ) → (place : ℕ) → slice_get (chain_numbers (V.archive look.old) peer) place ≡ Some last → count ≤ place + 1 →
-        IfOk result (λ numbers. numbers.items ≡ drop (place + 1 - count) (take (place + 1) (chain_numbers (V.archive look.old) peer))) }
+    ensures numbers { (peer : List ℕ) → (position : ℕ) → slice_get (chain_numbers (V.archive look.old) peer) position ≡ Some last → count ≤ position + 1 →
+        IfOk result (λ numbers. numbers.items ≡ drop (position + 1 - count) (take (position + 1) (chain_numbers (V.archive look.old) peer))) }
     ensures archive { V.archive look.new ≡ V.archive look.old }
     ensures looks { V.looks look.new + 1 ≤ V.looks look.old + count }
 {

@@ -21,14 +21,14 @@ module _ {O : Type 0} (told : O → OutgoingView) where
   pub one_sent : (senders new : List (Sender O)) (i conn : ℕ) (s t : Sender O) (bytes : List ℕ) → i + 1 ≡ conn → i < length senders → s ≡ get_or senders i s → new ≡ set senders i t
       → ((before : List ℕ) → HasSent before s.broken (told s.half) → HasSent (before ++ bytes) t.broken (told t.half))
       → (before : ℕ → List ℕ) → HaveSent told before senders → HaveSent told (λ k. before k ++ cond (is_number k conn) bytes []) new
-  one_sent senders new i conn s t bytes place below there are goes before have j r at = ⊎_elim
+  one_sent senders new i conn s t bytes position below there are goes before have j r at = ⊎_elim
       (λ (e : (j ≡ i) × (t ≡ r)). here j r e.0 e.1)
       (λ (e : (j ≢ i) × (get_elem? senders j ≡ some r)). elsewhere j r e.0 e.1)
       (at_set senders i j t r (sym (ap (λ l. get_elem? l j) are) ∙ at))
     where
       here : (j : ℕ) (r : Sender O) → j ≡ i → t ≡ r → HasSent (before (j + 1) ++ cond (is_number (j + 1) conn) bytes []) r.broken (told r.half)
       here j r same is =
-          let number : is_number (j + 1) conn ≡ true = same_number (j + 1) conn (ap (λ n. n + 1) same ∙ place) in
+          let number : is_number (j + 1) conn ≡ true = same_number (j + 1) conn (ap (λ n. n + 1) same ∙ position) in
           let sent = goes (before (i + 1)) (have i s (at_index senders i s below there)) in
           subst (λ (b : Bool). HasSent (before (j + 1) ++ cond b bytes []) r.broken (told r.half)) (sym number)
           (subst (λ (x : Sender O). HasSent (before (j + 1) ++ bytes) x.broken (told x.half)) is
@@ -36,7 +36,7 @@ module _ {O : Type 0} (told : O → OutgoingView) where
 
       elsewhere : (j : ℕ) (r : Sender O) → j ≢ i → get_elem? senders j ≡ some r → HasSent (before (j + 1) ++ cond (is_number (j + 1) conn) bytes []) r.broken (told r.half)
       elsewhere j r other there_at =
-          let number : is_number (j + 1) conn ≡ false = other_number (j + 1) conn (λ e. other (omega (arith, e, place))) in
+          let number : is_number (j + 1) conn ≡ false = other_number (j + 1) conn (λ e. other (omega (arith, e, position))) in
           subst (λ (b : Bool). HasSent (before (j + 1) ++ cond b bytes []) r.broken (told r.half)) (sym number)
           (subst (λ l. HasSent l r.broken (told r.half)) (sym (append-nil (before (j + 1)))) (have j r there_at))
 

@@ -11,10 +11,10 @@ use Rattle.net_hub.specs.Sendings.{IsClosed, StayClosed, numbers_of}
 use Rattle.net_hub.specs.declared.sender.Sender.{Sender}
 
 module _ {O : Type 0} where
-  at_its_place : (senders : List (Sender O)) (i : ℕ) (t : Sender O) → i < length senders → get_elem? (set senders i t) i ≡ some t
-  at_its_place [] i t below = absurd (omega (arith, below))
-  at_its_place (s ∷ senders) zero t below = refl
-  at_its_place (s ∷ senders) (suc i) t below = at_its_place senders i t (omega (arith, below))
+  at_its_position : (senders : List (Sender O)) (i : ℕ) (t : Sender O) → i < length senders → get_elem? (set senders i t) i ≡ some t
+  at_its_position [] i t below = absurd (omega (arith, below))
+  at_its_position (s ∷ senders) zero t below = refl
+  at_its_position (s ∷ senders) (suc i) t below = at_its_position senders i t (omega (arith, below))
 
   at_another : (senders : List (Sender O)) (i j : ℕ) (t : Sender O) → j ≢ i → get_elem? (set senders i t) j ≡ get_elem? senders j
   at_another [] i j t other = refl
@@ -32,12 +32,12 @@ module _ {O : Type 0} (closed : O → Bool) where
   pub one_stays : (senders : List (Sender O)) (i : ℕ) (s t : Sender O) → i < length senders → s ≡ get_or senders i s → (closed s.half ≡ true → closed t.half ≡ true) → StayClosed closed senders (set senders i t)
   one_stays senders i s t below there stays j was = dite (ℕ_discrete j i)
       (λ same. let is : was.0 ≡ s = some-injective was.0 s (sym was.1 ∙ ap (get_elem? senders) same ∙ at_index senders i s below there) in
-      (t, ap (get_elem? (set senders i t)) same ∙ at_its_place senders i t below, stays (ap (λ (x : Sender O). closed x.half) (sym is) ∙ was.2)))
+      (t, ap (get_elem? (set senders i t)) same ∙ at_its_position senders i t below, stays (ap (λ (x : Sender O). closed x.half) (sym is) ∙ was.2)))
       (λ other. (was.0, at_another senders i j t other ∙ was.1, was.2))
 
   -- the half at index i was closed
   pub one_is : (senders : List (Sender O)) (i j : ℕ) (t : Sender O) → i < length senders → j ≡ i → closed t.half ≡ true → IsClosed closed (set senders i t) j
-  one_is senders i j t below same is = (t, ap (get_elem? (set senders i t)) same ∙ at_its_place senders i t below, is)
+  one_is senders i j t below same is = (t, ap (get_elem? (set senders i t)) same ∙ at_its_position senders i t below, is)
 
   -- so many are closed, and the next one
   pub next_is : (n : ℕ) (old new : List (Sender O)) → length new ≡ length old → StayClosed closed old new → ((i : ℕ) → i + 1 ≡ n + 1 → i < length old → IsClosed closed new i)

@@ -6,9 +6,9 @@ use Rattle.net_hub.proofs.CountedLinks.{back_count, counted_first}
 use Rattle.net_hub.specs.Backs.{AreBack, AreLeft, AreLeftFrom}
 use Rattle.net_hub.specs.Joined.{AreMore, HasReaders, HasWorkers}
 use Rattle.net_traits.specs.Links.{LinkView}
-use Rattle.net_owner.specs.Places.{are_started}
+use Rattle.net_owner.specs.Positions.{are_started}
 use Rattle.net_owner.specs.StartedReaders.{HasStarted, count_some, readers_in, workers_of}
-use Rattle.net_owner.specs.declared.place.Place.{Place}
+use Rattle.net_owner.specs.declared.position.Slot.{Slot}
 use Rattle.net_owner.specs.Acceptors.{counted_times}
 use Rattle.net_owner.specs.declared.item.Item.{Item}
 use Rattle.net_owner.specs.declared.reader.ReaderJob.{ReaderJob}
@@ -22,7 +22,7 @@ count_more (Some x ∷ xs) ys = let rest = count_more xs ys in omega (arith, res
 
 module _ {R I P : Type 0} where
   -- where a reader was started at each place
-  all_readers : (places : List (Place R I P)) → are_started places ≡ true → readers_in places ≡ length places
+  all_readers : (positions : List (Slot R I P)) → are_started positions ≡ true → readers_in positions ≡ length positions
   unfolding are_started count_some
   all_readers [] started = refl
   all_readers (p ∷ ps) started = first p.worker (all_readers ps) started
@@ -32,7 +32,7 @@ module _ {R I P : Type 0} where
       first (Some job) others e = ap suc (others e)
 
   -- what the owner started, and the links that were given back then
-  pub after_run : (old new : List (Place R I P)) (given now : List LinkView) (s t : ℕ) → HasStarted old new s t → AreMore (readers_in new) given now → HasReaders (readers_in old) given now s t
+  pub after_run : (old new : List (Slot R I P)) (given now : List LinkView) (s t : ℕ) → HasStarted old new s t → AreMore (readers_in new) given now → HasReaders (readers_in old) given now s t
   after_run old new given now s t has back = record {
     more = count_some has.more;
     given = (back.0, back.1, back.2 ∙ ap count_some has.workers ∙ count_more (workers_of old) has.more);
@@ -40,13 +40,13 @@ module _ {R I P : Type 0} where
   }
 
   -- the same where the queue was drained
-  pub after_drain : (old mid new : List (Place R I P)) (given now : List LinkView) (s t : ℕ) → HasStarted old mid s t → workers_of new ≡ workers_of mid → AreMore (readers_in new) given now → HasReaders (readers_in old) given now s t
+  pub after_drain : (old mid new : List (Slot R I P)) (given now : List LinkView) (s t : ℕ) → HasStarted old mid s t → workers_of new ≡ workers_of mid → AreMore (readers_in new) given now → HasReaders (readers_in old) given now s t
   after_drain old mid new given now s t has same back = after_run old mid given now s t has (back.0, back.1, back.2 ∙ ap count_some same)
 
   -- an acceptor was started, and its owner had no reader
-  pub with_acceptor : (places : List (Place R I P)) (given begun now : List LinkView) (s mid t : ℕ) → places ≡ [] → given ≡ begun → mid ≡ counted s → HasReaders (readers_in places) given now mid t → HasWorkers begun now s t
+  pub with_acceptor : (positions : List (Slot R I P)) (given begun now : List LinkView) (s mid t : ℕ) → positions ≡ [] → given ≡ begun → mid ≡ counted s → HasReaders (readers_in positions) given now mid t → HasWorkers begun now s t
   unfolding count_some counted_times
-  with_acceptor places given begun now s mid t none same one has =
+  with_acceptor positions given begun now s mid t none same one has =
       let many : length has.given.0 ≡ 0 + has.more = has.given.2 ∙ ap (λ l. readers_in l + has.more) none in
       let next : suc has.more ≡ length has.given.0 + 1 = omega (arith, many) in
       inr (
@@ -57,7 +57,7 @@ module _ {R I P : Type 0} where
 
 module _ {R I O P : Type 0} (told : I → IncomingView) (out : O → OutgoingView) where
   -- the links of readers that were joined after a fault
-  left_many : (places : List (Place R I P)) (senders : List (Sender O)) (links : List LinkView) → AreLeft told out places senders links → length links ≡ readers_in places
+  left_many : (positions : List (Slot R I P)) (senders : List (Sender O)) (links : List LinkView) → AreLeft told out positions senders links → length links ≡ readers_in positions
   unfolding count_some
   left_many [] senders [] left = refl
   left_many [] senders (l ∷ ls) left = absurd left
@@ -71,13 +71,13 @@ module _ {R I O P : Type 0} (told : I → IncomingView) (out : O → OutgoingVie
       first (Some job) (s ∷ ss) [] others left = absurd left
       first (Some job) (s ∷ ss) (l ∷ ls) others left = ap suc (others ss ls left.1)
 
-  pub left_more : (places : List (Place R I P)) (senders : List (Sender O)) (old new : List LinkView) → ((links : List LinkView) × (new ≡ old ++ links) × AreLeft told out places senders links) → AreMore (readers_in places) old new
-  left_more places senders old new left = (left.0, left.1, left_many places senders left.0 left.2)
+  pub left_more : (positions : List (Slot R I P)) (senders : List (Sender O)) (old new : List LinkView) → ((links : List LinkView) × (new ≡ old ++ links) × AreLeft told out positions senders links) → AreMore (readers_in positions) old new
+  left_more positions senders old new left = (left.0, left.1, left_many positions senders left.0 left.2)
 
   -- those of all readers, once each has ended
-  pub back_many : (got : List (Item P)) (places : List (Place R I P)) (senders : List (Sender O)) (old new links : List LinkView) → AreBack told out got 1 places senders links → new ≡ old ++ links → are_started places ≡ true
-      → AreMore (readers_in places) old new
-  back_many got places senders old new links back given started = (links, given, back_count told out got 1 places senders links back ∙ sym (all_readers places started))
+  pub back_many : (got : List (Item P)) (positions : List (Slot R I P)) (senders : List (Sender O)) (old new links : List LinkView) → AreBack told out got 1 positions senders links → new ≡ old ++ links → are_started positions ≡ true
+      → AreMore (readers_in positions) old new
+  back_many got positions senders old new links back given started = (links, given, back_count told out got 1 positions senders links back ∙ sym (all_readers positions started))
 
 -- the same behind links that are equal
 pub more_again : (n : ℕ) (old begun new : List LinkView) → AreMore n old new → old ≡ begun → AreMore n begun new

@@ -14,13 +14,13 @@ if_ok (Ok t) f h = f t h
 if_ok (Err e) f h = tt
 
 pub journal_is : (file : AccountsView) (es : List EventView) (server : Whole (List ℕ)) (text journal : List ℕ) → server ≡ (run_of_file file es).server → journal ≡ (journal_header file.version ++ 10 ∷ []) ++ events_text es
-    → text ≡ journal ++ ending_text file.version (named_archives file.accounts server.hall.archives) → text ≡ journal_text file es
+    → text ≡ journal ++ ending_text file.version (named_archives file.accounts server.server_state.archives) → text ≡ journal_text file es
 unfolding journal_text
 journal_is file es server text journal made begun is =
     let archives : List NamedView = archives_after (record { accounts = file; events = es }) in
     let ending = ending_text file.version archives in
     is
-    ∙ ap (λ (w : Whole (List ℕ)). journal ++ ending_text file.version (named_archives file.accounts w.hall.archives)) (made ∙ ap (λ (r : Run). r.server) (from_start es file))
+    ∙ ap (λ (w : Whole (List ℕ)). journal ++ ending_text file.version (named_archives file.accounts w.server_state.archives)) (made ∙ ap (λ (r : Run). r.server) (from_start es file))
     ∙ ap (λ l. l ++ ending) begun
     ∙ append_assoc (journal_header file.version ++ 10 ∷ []) (events_text es) ending
     ∙ append_assoc (journal_header file.version) (10 ∷ []) (events_text es ++ ending)

@@ -82,10 +82,10 @@ run_more file events e w is =
 -- a connection that comes is fresh
 pub fresh : {O : Type 0} (told : O → OutgoingView) (moment : Option ℕ) (drawn : Option (List ℕ)) (file : AccountsView) (es : List EventView) (server : Whole (List ℕ)) (senders : List (Sender O)) (k now : ℕ) (entropy : List ℕ)
     → IsKeptBy told moment drawn file es server senders → k ≡ length senders + 1 → k ≤ LAST_CONNECTION → IsTrue (is_moment now) → length entropy ≡ 24 → IsTrue (are_bytes entropy)
-    → (conn_at k server.hall ≡ None) × (framer_at k server.framers ≡ None)
-fresh told moment drawn file es server senders k now entropy kept place most time many bytes =
+    → (conn_at k server.server_state ≡ None) × (framer_at k server.framers ≡ None)
+fresh told moment drawn file es server senders k now entropy kept position most time many bytes =
     let e = Connect k now entropy in
-    let may = may_connect (last_begun 0 es) k now entropy (omega (arith, kept.last, place)) most time many bytes in
+    let may = may_connect (last_begun 0 es) k now entropy (omega (arith, kept.last, position)) most time many bytes in
     let all = are_more 0 es e kept.are may in
     subst (IsFresh e) (sym (kept.made ∙ ap (λ (u : Run). u.server) (from_start es file))) (fresh_last es e (run_at_start file) (start_fresh file (es ++ e ∷ []) all))
 
@@ -114,10 +114,10 @@ module _ {O : Type 0} (told : O → OutgoingView) (moment : Option ℕ) (drawn :
   pub kept_connect : (k now : ℕ) (entropy : List ℕ) (new : Whole (List ℕ)) (now_senders : List (Sender O)) (s : Sender O) → k ≡ length senders + 1 → k ≤ LAST_CONNECTION → IsTrue (is_moment now)
       → length entropy ≡ 24 → IsTrue (are_bytes entropy) → AreAt moment (Connect k now entropy ∷ []) → IsDrawn drawn (Connect k now entropy) → new ≡ after_connect k entropy now server
       → now_senders ≡ senders ++ s ∷ [] → HasSent [] s.broken (told s.half) → IsKeptBy told moment drawn file (es ++ Connect k now entropy ∷ []) new now_senders
-  kept_connect k now entropy new now_senders s place most time many bytes at is_drawn is grown none =
+  kept_connect k now entropy new now_senders s position most time many bytes at is_drawn is grown none =
       let wide : length now_senders ≡ length senders + 1 = ap length grown ∙ length-append senders (s ∷ []) in
-      more (Connect k now entropy) new now_senders (may_connect (last_begun 0 es) k now entropy (omega (arith, kept.last, place)) most time many bytes) at is_drawn
-      (place ∙ sym wide) (omega (arith, wide, place, most)) (is ∙ sym (connects k now entropy server))
+      more (Connect k now entropy) new now_senders (may_connect (last_begun 0 es) k now entropy (omega (arith, kept.last, position)) most time many bytes) at is_drawn
+      (position ∙ sym wide) (omega (arith, wide, position, most)) (is ∙ sym (connects k now entropy server))
       (same_sent told (λ j. put_for j (run_of_file file es).outs) (λ j. put_for j (run_of_file file es).outs ++ put_for j (happens (Connect k now entropy ∷ []) server).outs) now_senders
       (λ j. ap (λ (o : List (Out (List ℕ))). put_for j (run_of_file file es).outs ++ put_for j o) (connects_quietly k now entropy server) ∙ append-nil (put_for j (run_of_file file es).outs))
       all)

@@ -21,7 +21,7 @@ map_some P Q None f h = tt
 map_some P Q (Some a) f h = f a h
 
 module _ {R I O P T : Type 0} (told : I → IncomingView) (out : O → OutgoingView) (numbers : T → List ℕ) where
-  pub paired : (h : Owner R I P T) (senders : List (Sender O)) → numbers h.taker ≡ numbers_of out senders → IsHeld told numbers h → ArePaired told out h.places.items senders
+  pub paired : (h : Owner R I P T) (senders : List (Sender O)) → numbers h.taker ≡ numbers_of out senders → IsHeld told numbers h → ArePaired told out h.positions.items senders
   paired h senders are held i p at =
       map_some (λ job. (get_elem? (numbers h.taker) i ≡ some (told job.half).number) × IsNew (told job.half))
       (λ job. (s : Sender O) × (get_elem? senders i ≡ some s) × ((told job.half).number ≡ (out s.half).number)) p.worker
@@ -29,5 +29,5 @@ module _ {R I O P T : Type 0} (told : I → IncomingView) (out : O → OutgoingV
 
 module _ {R I O P : Type 0} (told : I → IncomingView) (out : O → OutgoingView) where
   -- so it is with a recorder
-  pub held_paired : (h : Owner R I P (Recorder O)) → IsHeld told (λ r. numbers_of out r.senders.items) h → ArePaired told out h.places.items h.taker.senders.items
+  pub held_paired : (h : Owner R I P (Recorder O)) → IsHeld told (λ r. numbers_of out r.senders.items) h → ArePaired told out h.positions.items h.taker.senders.items
   held_paired h held = paired told out (λ r. numbers_of out r.senders.items) h h.taker.senders.items refl held

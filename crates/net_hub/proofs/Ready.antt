@@ -6,8 +6,8 @@ use Rattle.net_traits.specs.Halves.{IncomingView, OutgoingView}
 use Rattle.net_hub.specs.Backs.{AreReady}
 use Rattle.net_owner.specs.Events as owner
 use Rattle.net_owner.specs.Halves.{IsNew}
-use Rattle.net_owner.specs.Places.{IsPlaced, are_over, are_started}
-use Rattle.net_owner.specs.declared.place.Place.{Place}
+use Rattle.net_owner.specs.Positions.{IsPlaced, are_over, are_started}
+use Rattle.net_owner.specs.declared.position.Slot.{Slot}
 use Rattle.net_owner.specs.declared.item.Item.{Item}
 use Rattle.net_owner.specs.declared.reader.ReaderJob.{ReaderJob}
 use Rattle.net_hub.specs.Sendings.{numbers_of}
@@ -27,9 +27,9 @@ the_some None e = absurd (true≢false (sym e))
 the_some (Some a) e = (a, refl)
 
 module _ {R I O P : Type 0} (told : I → IncomingView) (out : O → OutgoingView) (es : List owner.Event) (got : List (Item P)) (same : ReaderJob R I P → Type 0) where
-  pub ready : (k : ℕ) (ps : List (Place R I P)) (ss : List (Sender O)) → length ss ≡ length ps → are_started ps ≡ true → are_over ps ≡ true
-      → ((i : ℕ) (p : Place R I P) → get_elem? ps i ≡ some p → IsPlaced es got (k + i) p × IfSome p.worker same)
-      → ((i : ℕ) (p : Place R I P) → get_elem? ps i ≡ some p → IfSome p.worker (λ job. (get_elem? (numbers_of out ss) i ≡ some (told job.half).number) × IsNew (told job.half)))
+  pub ready : (k : ℕ) (ps : List (Slot R I P)) (ss : List (Sender O)) → length ss ≡ length ps → are_started ps ≡ true → are_over ps ≡ true
+      → ((i : ℕ) (p : Slot R I P) → get_elem? ps i ≡ some p → IsPlaced es got (k + i) p × IfSome p.worker same)
+      → ((i : ℕ) (p : Slot R I P) → get_elem? ps i ≡ some p → IfSome p.worker (λ job. (get_elem? (numbers_of out ss) i ≡ some (told job.half).number) × IsNew (told job.half)))
       → AreReady told out got same k ps ss
   unfolding are_started are_over
   ready k [] [] many started over placed held = tt
@@ -59,9 +59,9 @@ module _ {R I O P : Type 0} (told : I → IncomingView) (out : O → OutgoingVie
 
 module _ {R I P : Type 0} where
   -- none of them has no reader
-  pub all_some : (ps : List (Place R I P)) → are_started ps ≡ true → (i : ℕ) (p : Place R I P) → get_elem? ps i ≡ some p → p.worker ≡ None → ⊥
+  pub all_some : (ps : List (Slot R I P)) → are_started ps ≡ true → (i : ℕ) (p : Slot R I P) → get_elem? ps i ≡ some p → p.worker ≡ None → ⊥
   unfolding are_started
   all_some [] started i p at none = some-ne-none p (sym at)
   all_some (q ∷ ps) started zero p at none =
-      let go = if_both (is_some q.worker) (are_started ps) started in true≢false (sym go.0 ∙ ap is_some (ap (λ (r : Place R I P). r.worker) (some-injective q p at) ∙ none))
+      let go = if_both (is_some q.worker) (are_started ps) started in true≢false (sym go.0 ∙ ap is_some (ap (λ (r : Slot R I P). r.worker) (some-injective q p at) ∙ none))
   all_some (q ∷ ps) started (suc i) p at none = all_some ps (if_both (is_some q.worker) (are_started ps) started).1 i p at none

@@ -5,13 +5,13 @@ use lib.ListN.{get_elem?}
 use Rattle.net_traits.specs.Halves.{IncomingView, OutgoingView}
 use Rattle.net_hub.proofs.Feeds.{bytes_pieces, pieces_of, read_all, told_pieces}
 use Rattle.net_hub.specs.Backs.{AreBack, IsBack}
-use Rattle.net_hub.specs.Served.{AreServed, IsServed, joined}
+use Rattle.net_hub.specs.Served.{AreServed, IsLinkServed, joined}
 use Rattle.cmd_journal.specs.AccountsFiles.{AccountsView}
 use Rattle.cmd_journal.specs.Journals.{EventView}
 use Rattle.net_traits.specs.Links.{LinkView}
 use Rattle.net_owner.specs.Events as owner
-use Rattle.net_owner.specs.Places.{IsPlaced, feed_from}
-use Rattle.net_owner.specs.declared.place.Place.{Place}
+use Rattle.net_owner.specs.Positions.{IsPlaced, feed_from}
+use Rattle.net_owner.specs.declared.position.Slot.{Slot}
 use Rattle.net_owner.specs.Merge.{items_of}
 use Rattle.net_owner.specs.Feeds.{bytes_of, number}
 use Rattle.net_owner.specs.Readers.{HasStopped}
@@ -27,9 +27,9 @@ unbroken false faults broke none = refl
 
 module _ {R I O P : Type 0} (told : I → IncomingView) (out : O → OutgoingView) (got : List (Item P)) (file : AccountsView) (events : List EventView) (es : List owner.Event) (are : es ≡ map bare events) where
   -- one connection
-  served : (k : ℕ) (p : Place R I P) (s : Sender O) (link : LinkView) → IsPlaced es got k p → IsBack told out got k p s link
-      → HasSent (put_for k (run_of_file file events).outs) s.broken (out s.half) → (p.worker ≡ None → ⊥) → IsServed file events k link
-  served k p s link placed back sent there = subst (IsServed file events k) (sym back.link_is) (record {
+  served : (k : ℕ) (p : Slot R I P) (s : Sender O) (link : LinkView) → IsPlaced es got k p → IsBack told out got k p s link
+      → HasSent (put_for k (run_of_file file events).outs) s.broken (out s.half) → (p.worker ≡ None → ⊥) → IsLinkServed file events k link
+  served k p s link placed back sent there = subst (IsLinkServed file events k) (sym back.link_is) (record {
     pieces = pieces;
     feed = ap (owner.shown k) (sym are) ∙ placed.events_are ∙ ap (λ l. owner.Connect ∷ l) (from p.worker there);
     read = read_all (told back.job.half).read (told back.half).read (bytes_of taken) (joined pieces) back.new.1.read back.given.read back.given.silent bytes;
@@ -52,8 +52,8 @@ module _ {R I O P : Type 0} (told : I → IncomingView) (out : O → OutgoingVie
       from (Some _) some_one = ap owner.told_of back.given.feed.whole ∙ told_pieces back.given.feed.body back.given.feed.last back.given.feed.pieces back.given.ended
 
   -- all of them
-  pub all_served : (k : ℕ) (ps : List (Place R I P)) (ss : List (Sender O)) (ls : List LinkView)
-      → ((i : ℕ) (p : Place R I P) → get_elem? ps i ≡ some p → IsPlaced es got (k + i) p × (p.worker ≡ None → ⊥))
+  pub all_served : (k : ℕ) (ps : List (Slot R I P)) (ss : List (Sender O)) (ls : List LinkView)
+      → ((i : ℕ) (p : Slot R I P) → get_elem? ps i ≡ some p → IsPlaced es got (k + i) p × (p.worker ≡ None → ⊥))
       → ((i : ℕ) (s : Sender O) → get_elem? ss i ≡ some s → HasSent (put_for (k + i) (run_of_file file events).outs) s.broken (out s.half))
       → AreBack told out got k ps ss ls → AreServed file events k ls × (length ls ≡ length ps)
   all_served k [] [] [] placed sent back = (tt, refl)

@@ -7,8 +7,8 @@ use Rattle.net_hub.specs.Backs.{AreBack}
 use Rattle.net_hub.specs.Served.{IsWritten}
 use Rattle.net_traits.specs.Links.{LinkView}
 use Rattle.net_owner.specs.Events as owner
-use Rattle.net_owner.specs.Places.{AreKept, IsPlaced, are_started}
-use Rattle.net_owner.specs.declared.place.Place.{Place}
+use Rattle.net_owner.specs.Positions.{AreKept, IsPlaced, are_started}
+use Rattle.net_owner.specs.declared.position.Slot.{Slot}
 use Rattle.net_owner.specs.declared.item.Item.{Item}
 use Rattle.net_hub.proofs.MoreEvents.{bares_are}
 use Rattle.net_hub.specs.Records.{IsKept, bares_of, run_of_file, views_of}
@@ -17,15 +17,15 @@ use Rattle.net_hub.specs.Puts.{put_for}
 use Rattle.net_hub.specs.Sendings.{HasSent}
 use Rattle.cmd_rerun.specs.Journaling.{journal_text}
 
-module _ {R I O P : Type 0} (told : I → IncomingView) (out : O → OutgoingView) (got : List (Item P)) (r : Recorder O) (places : List (Place R I P)) where
-  pub is_written : (n : ℕ) (moment : Option ℕ) (drawn : Option (List ℕ)) (old new links : List LinkView) (text : List ℕ) → AreKept (bares_of r.events.items) got places → IsKept out moment drawn r
-      → are_started places ≡ true → length places ≡ n → AreBack told out got 1 places r.senders.items links → new ≡ old ++ links → text ≡ journal_text r.file (views_of r.events.items)
+module _ {R I O P : Type 0} (told : I → IncomingView) (out : O → OutgoingView) (got : List (Item P)) (r : Recorder O) (positions : List (Slot R I P)) where
+  pub is_written : (n : ℕ) (moment : Option ℕ) (drawn : Option (List ℕ)) (old new links : List LinkView) (text : List ℕ) → AreKept (bares_of r.events.items) got positions → IsKept out moment drawn r
+      → are_started positions ≡ true → length positions ≡ n → AreBack told out got 1 positions r.senders.items links → new ≡ old ++ links → text ≡ journal_text r.file (views_of r.events.items)
       → IsWritten r.file n moment drawn old new text
   is_written n moment drawn old new links text placed kept started many back given is =
       let events = views_of r.events.items in
       let same = bares_are r.events.items in
-      let all = all_served told out got r.file events (bares_of r.events.items) same 1 places r.senders.items links
-      (λ i p at. (subst (λ k. IsPlaced (bares_of r.events.items) got k p) (next i) (placed.placed i p at), all_some places started i p at))
+      let all = all_served told out got r.file events (bares_of r.events.items) same 1 positions r.senders.items links
+      (λ i p at. (subst (λ k. IsPlaced (bares_of r.events.items) got k p) (next i) (placed.placed i p at), all_some positions started i p at))
       (λ i s at. subst (λ k. HasSent (put_for k (run_of_file r.file events).outs) s.broken (out s.half)) (next i) (kept.sent i s at)) back in record {
         events = events;
         links = links;

@@ -6,7 +6,7 @@ use Rattle.net_traits.specs.Halves.{IncomingView, OutgoingView, link_of}
 use Rattle.net_traits.specs.Links.{LinkView}
 use Rattle.net_owner.specs.Halves.{IsNew}
 use Rattle.net_owner.specs.Owners.{HasGiven}
-use Rattle.net_owner.specs.declared.place.Place.{Place}
+use Rattle.net_owner.specs.declared.position.Slot.{Slot}
 use Rattle.net_owner.specs.Merge.{items_of}
 use Rattle.net_owner.specs.Feeds.{has_end, number}
 use Rattle.net_owner.specs.Readers.{HasRead}
@@ -16,13 +16,13 @@ use Rattle.net_owner.specs.declared.reader.ReaderJob.{ReaderJob}
 use Rattle.net_hub.specs.declared.sender.Sender.{Sender}
 
 -- the second list begins with the first
-abbrev pub AreBehind : List LinkView → List LinkView → Type 0
-AreBehind old new = (links : List LinkView) × (new ≡ old ++ links)
+abbrev pub AreAfter : List LinkView → List LinkView → Type 0
+AreAfter old new = (links : List LinkView) × (new ≡ old ++ links)
 
 module _ {R I O P : Type 0} (told : I → IncomingView) (out : O → OutgoingView) where
   -- the half of each reader is of the same link as the half that stands at its place
-  abbrev pub ArePaired : List (Place R I P) → List (Sender O) → Type 0
-  ArePaired places senders = (i : ℕ) (p : Place R I P) → get_elem? places i ≡ some p
+  abbrev pub ArePaired : List (Slot R I P) → List (Sender O) → Type 0
+  ArePaired positions senders = (i : ℕ) (p : Slot R I P) → get_elem? positions i ≡ some p
       → IfSome p.worker (λ job. (s : Sender O) × (get_elem? senders i ≡ some s) × ((told job.half).number ≡ (out s.half).number))
 
   -- the link of a reader that was joined: its one half is what the reader answered, and its other half is the sender's
@@ -40,21 +40,21 @@ module _ {R I O P : Type 0} (told : I → IncomingView) (out : O → OutgoingVie
   AreLeftFrom (Some job) Others (s ∷ ss) (l ∷ ls) = IsLeft job s l × Others ss ls
 
   -- the links of all readers that were started, in the order of their places, each with the sender at its place
-  abbrev pub AreLeft : List (Place R I P) → List (Sender O) → List LinkView → Type 0
+  abbrev pub AreLeft : List (Slot R I P) → List (Sender O) → List LinkView → Type 0
   AreLeft [] senders [] = Unit {0}
   AreLeft [] senders (l ∷ ls) = ⊥
   AreLeft (p ∷ ps) senders links = AreLeftFrom p.worker (AreLeft ps) senders links
 
   -- These links were given back, and these places and senders are left: with whatever links are theirs, those of all are given
   -- back.
-  pub record AreLeftYet (places left : List (Place R I P)) (senders rest : List (Sender O)) (old now : List LinkView) : Type 0 where
+  pub record AreLeftYet (positions left : List (Slot R I P)) (senders rest : List (Sender O)) (old now : List LinkView) : Type 0 where
     pub links : List LinkView
     pub given : now ≡ old ++ links
-    pub whole : (more : List LinkView) → AreLeft left rest more → AreLeft places senders (links ++ more)
+    pub whole : (more : List LinkView) → AreLeft left rest more → AreLeft positions senders (links ++ more)
 
   module _ (got : List (Item P)) where
     -- the reader of connection k was started and has ended; its half was new, and is of the same link as the sender's
-    pub record IsReady (same : ReaderJob R I P → Type 0) (k : ℕ) (p : Place R I P) (s : Sender O) : Type 0 where
+    pub record IsReady (same : ReaderJob R I P → Type 0) (k : ℕ) (p : Slot R I P) (s : Sender O) : Type 0 where
       pub job : ReaderJob R I P
       pub worker : p.worker ≡ Some job
       pub queue : same job
@@ -64,14 +64,14 @@ module _ {R I O P : Type 0} (told : I → IncomingView) (out : O → OutgoingVie
       pub new : IsNew (told job.half)
 
     -- so are all, from k on
-    abbrev pub AreReady : (ReaderJob R I P → Type 0) → ℕ → List (Place R I P) → List (Sender O) → Type 0
+    abbrev pub AreReady : (ReaderJob R I P → Type 0) → ℕ → List (Slot R I P) → List (Sender O) → Type 0
     AreReady same k [] [] = Unit {0}
     AreReady same k [] (s ∷ ss) = ⊥
     AreReady same k (p ∷ ps) [] = ⊥
     AreReady same k (p ∷ ps) (s ∷ ss) = IsReady same k p s × AreReady same (k + 1) ps ss
 
     -- the link of connection k: what its half gave is what was taken of its reader, and its other half is the sender's
-    pub record IsBack (k : ℕ) (p : Place R I P) (s : Sender O) (link : LinkView) : Type 0 where
+    pub record IsBack (k : ℕ) (p : Slot R I P) (s : Sender O) (link : LinkView) : Type 0 where
       pub job : ReaderJob R I P
       pub half : I
       pub given : HasGiven told job (items_of number k got) half
@@ -79,7 +79,7 @@ module _ {R I O P : Type 0} (told : I → IncomingView) (out : O → OutgoingVie
       pub link_is : link ≡ link_of (told half) (out s.half)
 
     -- the links of all, from k on
-    abbrev pub AreBack : ℕ → List (Place R I P) → List (Sender O) → List LinkView → Type 0
+    abbrev pub AreBack : ℕ → List (Slot R I P) → List (Sender O) → List LinkView → Type 0
     AreBack k [] [] [] = Unit {0}
     AreBack k [] [] (l ∷ ls) = ⊥
     AreBack k [] (s ∷ ss) links = ⊥
@@ -89,11 +89,11 @@ module _ {R I O P : Type 0} (told : I → IncomingView) (out : O → OutgoingVie
 
 module _ {R I O P : Type 0} (told : I → IncomingView) (out : O → OutgoingView) (got : List (Item P)) where
   -- the first n links were given back, and these places and senders are left
-  pub record AreBackYet (n : ℕ) (places left : List (Place R I P)) (senders rest : List (Sender O)) (old now : List LinkView) : Type 0 where
-    pub ps : List (Place R I P)
+  pub record AreBackYet (n : ℕ) (positions left : List (Slot R I P)) (senders rest : List (Sender O)) (old now : List LinkView) : Type 0 where
+    pub ps : List (Slot R I P)
     pub ss : List (Sender O)
     pub links : List LinkView
-    pub places_are : places ≡ ps ++ left
+    pub positions_are : positions ≡ ps ++ left
     pub senders_are : senders ≡ ss ++ rest
     pub many : length ps ≡ n
     pub given : now ≡ old ++ links

@@ -25,7 +25,7 @@ joined pieces = flat_map (λ piece. piece) pieces
 -- The events of connection k are its feed, and the pieces of this are what its link gave, joined, where the link tells it: all,
 -- since a read failed, or found the end, or the link gave as much as one may. What was written on the link is what the server
 -- put for the connection, or the front of that where a write failed.
-pub record IsServed (file : AccountsView) (events : List EventView) (k : ℕ) (link : LinkView) : Type 0 where
+pub record IsLinkServed (file : AccountsView) (events : List EventView) (k : ℕ) (link : LinkView) : Type 0 where
   pub pieces : List (List ℕ)
   pub feed : shown k (map bare events) ≡ feed_of pieces
   pub read : IfSome link.read (λ bytes. bytes ≡ joined pieces)
@@ -36,7 +36,7 @@ pub record IsServed (file : AccountsView) (events : List EventView) (k : ℕ) (l
 -- the links of the connections from k on
 abbrev pub AreServed : AccountsView → List EventView → ℕ → List LinkView → Type 0
 AreServed file events k [] = Unit {0}
-AreServed file events k (link ∷ links) = IsServed file events k link × AreServed file events (k + 1) links
+AreServed file events k (link ∷ links) = IsLinkServed file events k link × AreServed file events (k + 1) links
 
 -- A server of this accounts file served n connections, with the numbers from 1, and its journal is this text: of these events,
 -- which are a merge of the connections' feeds. `told` and `drawn` are the clock's moment and the random bytes, where these are

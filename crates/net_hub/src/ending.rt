@@ -36,12 +36,12 @@ fn append_archives(
     server: &Server,
 ) -> Result<(), NoMemory>
     requires { length registrations.now < 2 ^ 32 }
-    ensures { OnOk result (out.new.items ≡ out.old.items ++ flat_map (archive_text version) (named_archives registrations.now server.now.hall.archives)) }
+    ensures { OnOk result (out.new.items ≡ out.old.items ++ flat_map (archive_text version) (named_archives registrations.now server.now.server_state.archives)) }
 {
-    let mut place = 0u32;
+    let mut position = 0u32;
     for r in registrations {
-        append_kept(out, version, r.name.as_str(), server.archive(place))?;
-        place += 1;
+        append_kept(out, version, r.name.as_str(), server.archive(position))?;
+        position += 1;
     }
     Ok(())
 }
@@ -53,7 +53,7 @@ pub(crate) fn finish(
     file: &AccountsFile,
 ) -> Result<Bytes, NoMemory>
     requires { length file.now.accounts < 2 ^ 32 }
-    ensures { IfOk result (λ text. text.items ≡ journal.items ++ ending_text file.now.version (named_archives file.now.accounts server.hall.archives)) }
+    ensures { IfOk result (λ text. text.items ≡ journal.items ++ ending_text file.now.version (named_archives file.now.accounts server.server_state.archives)) }
 {
     append_archives(
         &mut journal,

@@ -6,7 +6,7 @@ ghost use Rattle.net_traits.specs.Links.{LinkView};
 ghost use Rattle.net_owner.specs.StartedReaders.{readers_in};
 
 use crate::sender::Sender;
-use net_owner::{Place, ReaderAnswer};
+use net_owner::{ReaderAnswer, Slot};
 use net_traits::{Halves, Incoming, Outgoing, Pair};
 use std::collections::VecDeque;
 use std::sync::Wait;
@@ -19,24 +19,24 @@ pub(crate) fn give_back<
     I: Incoming + Drop,
     O: Outgoing + Drop,
     D: Halves<Incoming = I, Outgoing = O>,
->(rt: &R, places: Vec<Place<R, I, Pair<I, O>>>, senders: Vec<Sender<O>>, door: &mut D)
-    requires { ArePaired I.told O.told places.items senders.items }
-    ensures given { (links : List LinkView) × (D.given door.new ≡ D.given door.old ++ links) × AreLeft I.told O.told places.items senders.items links }
-    ensures readers { AreMore (readers_in places.items) (D.given door.old) (D.given door.new) }
+>(rt: &R, positions: Vec<Slot<R, I, Pair<I, O>>>, senders: Vec<Sender<O>>, door: &mut D)
+    requires { ArePaired I.told O.told positions.items senders.items }
+    ensures given { (links : List LinkView) × (D.given door.new ≡ D.given door.old ++ links) × AreLeft I.told O.told positions.items senders.items links }
+    ensures readers { AreMore (readers_in positions.items) (D.given door.old) (D.given door.new) }
     ensures faults { D.faults door.new ≡ D.faults door.old }
     ensures handed { D.handed door.new ≡ D.handed door.old }
 {
     let mut senders = VecDeque::from_vec(senders);
-    for place in places {
+    for position in positions {
         match senders.pop_front() {
-            Some(sender) => match place.worker {
+            Some(sender) => match position.worker {
                 Some(worker) => {
                     let ReaderAnswer { half, pass: _ } = worker.join(rt);
                     door.give_back_halves(half, sender.half);
                 }
                 None => {}
             },
-            None => match place.worker {
+            None => match position.worker {
                 Some(_) => unreachable!(),
                 None => {}
             },

@@ -70,7 +70,7 @@ impl<O: Outgoing + Drop> Recorder<O> {
         half: O,
     ) -> Result<(), NoMemory>
         requires kept { (moment : Option ℕ) × (drawn : Option (List ℕ)) × IsKept O.told moment drawn self.old }
-        requires place { k ≡ length (numbers_of O.told self.old.senders.items) + 1 }
+        requires position { k ≡ length (numbers_of O.told self.old.senders.items) + 1 }
         requires moment { IsTrue (is_moment now) }
         requires entropy { IsTrue (all_bytes entropy.now) × (length entropy.now ≡ 24) }
         requires blank { IsBlank (O.told half) }
@@ -96,7 +96,7 @@ impl<O: Outgoing + Drop> Recorder<O> {
 
     // A piece came on connection `k`, and what it leads to is sent, in one write for each connection that gets bytes.
     pub(crate) fn hear(&mut self, k: u64, now: u64, piece: Bytes) -> Result<(), NoMemory>
-        requires place { (1 ≤ k) × (k ≤ length (numbers_of O.told self.old.senders.items)) }
+        requires position { (1 ≤ k) × (k ≤ length (numbers_of O.told self.old.senders.items)) }
         requires moment { IsTrue (is_moment now) }
         requires some { 0 < length piece.items }
         ensures events { OnOk result (views_of self.new.events.items ≡ views_of self.old.events.items ++ Piece k now piece.items ∷ []) }
@@ -121,7 +121,7 @@ impl<O: Outgoing + Drop> Recorder<O> {
 
     // Connection `k` is gone, and its half is closed.
     pub(crate) fn leave(&mut self, k: u64, now: u64) -> Result<(), NoMemory>
-        requires place { (1 ≤ k) × (k ≤ length (numbers_of O.told self.old.senders.items)) }
+        requires position { (1 ≤ k) × (k ≤ length (numbers_of O.told self.old.senders.items)) }
         requires moment { IsTrue (is_moment now) }
         ensures events { OnOk result (views_of self.new.events.items ≡ views_of self.old.events.items ++ Gone k now ∷ []) }
         ensures halves { numbers_of O.told self.new.senders.items ≡ numbers_of O.told self.old.senders.items }

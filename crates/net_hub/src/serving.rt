@@ -3,7 +3,7 @@ ghost use Rattle.std.specs.Prelude.{◌≡◌, ◌≢◌, ◌⊎◌, ◌<◌, �
 ghost use Rattle.crossbeam_channel.specs.Claims.{IsSeatAt, view};
 ghost use Rattle.crossbeam_channel.specs.Ends.{sends_on};
 ghost use Rattle.base_io.specs.Counts.{Rose};
-ghost use Rattle.net_hub.specs.Backs.{AreBehind, AreLeft};
+ghost use Rattle.net_hub.specs.Backs.{AreAfter, AreLeft};
 ghost use Rattle.net_hub.specs.Joined.{AreMore, HasReaders};
 ghost use Rattle.net_hub.specs.Served.{HasServed, IsOwn, IsRefusal, IsWritten};
 ghost use Rattle.cmd_journal.specs.AccountsFiles.{accounts_text};
@@ -11,7 +11,7 @@ ghost use Rattle.net_traits.specs.Links.{LinkView};
 ghost use Rattle.net_owner.specs.Arrivals.{has_closed};
 ghost use Rattle.net_owner.specs.Halves.{IsHeld};
 ghost use Rattle.net_owner.specs.Owners.{IsGoing};
-ghost use Rattle.net_owner.specs.Places.{are_over};
+ghost use Rattle.net_owner.specs.Positions.{are_over};
 ghost use Rattle.net_owner.specs.StartedReaders.{readers_in};
 ghost use Rattle.net_owner.specs.Troubles.{HasMet};
 ghost use Rattle.net_owner.specs.Merge.{items_of};
@@ -44,14 +44,18 @@ fn leave<
     acceptor: Worker<AcceptorJob<R, D, Pair<I, O>>>,
 ) -> D
     requires held { IsHeld I.told (λ r. numbers_of O.told r.senders.items) owner }
-    requires over { are_over owner.places.items ≡ true }
-    ensures left { (links : List LinkView) × (D.given result ≡ D.given acceptor.door ++ links) × AreLeft I.told O.told owner.places.items owner.taker.senders.items links }
-    ensures readers { AreMore (readers_in owner.places.items) (D.given acceptor.door) (D.given result) }
+    requires over { are_over owner.positions.items ≡ true }
+    ensures left { (links : List LinkView) × (D.given result ≡ D.given acceptor.door ++ links) × AreLeft I.told O.told owner.positions.items owner.taker.senders.items links }
+    ensures readers { AreMore (readers_in owner.positions.items) (D.given acceptor.door) (D.given result) }
 {
     let AcceptorAnswer { mut door, .. } = acceptor.join(rt);
-    let Owner { places, taker, .. } = owner;
+    let Owner {
+        positions,
+        taker,
+        ..
+    } = owner;
     let Recorder { senders, .. } = taker;
-    give_back(rt, places, senders, &mut door);
+    give_back(rt, positions, senders, &mut door);
     door
 }
 
@@ -68,8 +72,8 @@ fn finish<
 ) -> (Result<Bytes, HubFault>, D)
     requires going { IsGoing (λ r. bares_of r.events.items) owner }
     requires held { IsHeld I.told (λ r. numbers_of O.told r.senders.items) owner }
-    requires many { length (numbers_of O.told owner.taker.senders.items) ≡ length owner.places.items }
-    requires over { are_over owner.places.items ≡ true }
+    requires many { length (numbers_of O.told owner.taker.senders.items) ≡ length owner.positions.items }
+    requires over { are_over owner.positions.items ≡ true }
     requires closed { has_closed (items_of number 0 (view owner.pass).got) ≡ true }
     requires met { owner.met ≡ None }
     requires queue { sends_on acceptor.to ≡ sends_on owner.to }
@@ -77,14 +81,14 @@ fn finish<
     ensures served { (moment : Option ℕ) (drawn : Option (List ℕ)) → IsKept O.told moment drawn owner.taker
         → IfOk result.0 (λ text. IsWritten owner.taker.file acceptor.count moment drawn (D.given acceptor.door) (D.given result.1) text.items) }
     ensures all_back { AreGivenBack (D.handed acceptor.door) (D.handed result.1) (D.given acceptor.door) (D.given result.1) }
-    ensures readers { AreMore (readers_in owner.places.items) (D.given acceptor.door) (D.given result.1) }
+    ensures readers { AreMore (readers_in owner.positions.items) (D.given acceptor.door) (D.given result.1) }
     ensures faults { IfErr result.0 (λ e. (e ≡ HubFault.LinkFault) ⊎ (e ≡ HubFault.NoMemory)) }
     ensures failed { IsErrOf result.0 HubFault.LinkFault → Rose (D.faults acceptor.door) (D.faults result.1) × AreFewer acceptor.count (D.given acceptor.door) (D.given result.1) }
 {
     let Owner {
         to,
         mut pass,
-        places,
+        positions,
         taker,
         ..
     } = owner;
@@ -96,7 +100,7 @@ fn finish<
         senders,
     } = taker;
     let (mut door, failed) = settle_acceptor(rt, &to, &mut pass, acceptor);
-    settle_all(rt, &to, &mut pass, places, senders, &mut door);
+    settle_all(rt, &to, &mut pass, positions, senders, &mut door);
     if failed {
         return (Err(HubFault::LinkFault), door);
     }
@@ -137,13 +141,13 @@ pub fn serve_started<
 ) -> (Result<Bytes, HubFault>, D)
     requires going { IsGoing (λ r. bares_of r.events.items) owner }
     requires held { IsHeld I.told (λ r. numbers_of O.told r.senders.items) owner }
-    requires many { length (numbers_of O.told owner.taker.senders.items) ≡ length owner.places.items }
+    requires many { length (numbers_of O.told owner.taker.senders.items) ≡ length owner.positions.items }
     requires kept { IsKept O.told (C.moment clock.old) (E.bytes entropy.old) owner.taker }
     requires met { owner.met ≡ None }
     requires queue { sends_on acceptor.to ≡ sends_on owner.to }
     ensures served { IfOk result.0 (λ text. HasServed (accounts_text owner.taker.file) acceptor.count (C.moment clock.old) (E.bytes entropy.old) (D.given acceptor.door) (D.given result.1) text.items) }
-    ensures given { AreBehind (D.given acceptor.door) (D.given result.1) }
-    ensures readers { HasReaders (readers_in owner.places.items) (D.given acceptor.door) (D.given result.1) (S.started spawner.old) (S.started spawner.new) }
+    ensures given { AreAfter (D.given acceptor.door) (D.given result.1) }
+    ensures readers { HasReaders (readers_in owner.positions.items) (D.given acceptor.door) (D.given result.1) (S.started spawner.old) (S.started spawner.new) }
     ensures faults { IfErr result.0 (λ e. IsOwn e) }
     ensures all_back { result.0 ≢ Err HubFault.NoWorker → result.0 ≢ Err HubFault.EntropyFault → result.0 ≢ Err HubFault.NoMemory
         → AreGivenBack (D.handed acceptor.door) (D.handed result.1) (D.given acceptor.door) (D.given result.1) }

@@ -6,7 +6,7 @@ ghost use Rattle.net_hub.specs.Backs.{AreBack, AreReady};
 ghost use Rattle.net_traits.specs.Links.{LinkView};
 
 use crate::sender::Sender;
-use net_owner::{Item, Place, Receipt, Sending, settle};
+use net_owner::{Item, Receipt, Sending, Slot, settle};
 use net_traits::{Halves, Incoming, Outgoing, Pair};
 use std::collections::VecDeque;
 use std::sync::Wait;
@@ -23,24 +23,24 @@ pub(crate) fn settle_all<
     rt: &R,
     to: &Sending<Item<Pair<I, O>>>,
     pass: &mut Receipt<Item<Pair<I, O>>>,
-    places: Vec<Place<R, I, Pair<I, O>>>,
+    positions: Vec<Slot<R, I, Pair<I, O>>>,
     senders: Vec<Sender<O>>,
     door: &mut D,
 )
     requires channel { IsSeatAt (sends_on to.now) pass.old }
     requires owner { ((view pass.old).takes ≡ true) × ((view pass.old).sends ≡ false) }
-    requires ready { AreReady I.told O.told (view pass.old).got (λ job. sends_on job.to ≡ sends_on to.now) 1 places.items senders.items }
-    requires few { length places.items < 2 ^ 63 }
-    ensures back { (links : List LinkView) × (D.given door.new ≡ D.given door.old ++ links) × AreBack I.told O.told (view pass.old).got 1 places.items senders.items links }
+    requires ready { AreReady I.told O.told (view pass.old).got (λ job. sends_on job.to ≡ sends_on to.now) 1 positions.items senders.items }
+    requires few { length positions.items < 2 ^ 63 }
+    ensures back { (links : List LinkView) × (D.given door.new ≡ D.given door.old ++ links) × AreBack I.told O.told (view pass.old).got 1 positions.items senders.items links }
     ensures faults { D.faults door.new ≡ D.faults door.old }
     ensures handed { D.handed door.new ≡ D.handed door.old }
 {
     let mut senders = VecDeque::from_vec(senders);
     let mut number: u64 = 0;
-    for place in places {
+    for position in positions {
         number += 1;
         match senders.pop_front() {
-            Some(sender) => match place.worker {
+            Some(sender) => match position.worker {
                 Some(worker) => {
                     let half = settle(rt, to, pass, number, worker);
                     door.give_back_halves(half, sender.half);

@@ -1,7 +1,7 @@
 //! Connections that come in at a port are served at the same time.
 ghost use Rattle.std.specs.Prelude.{◌≡◌, ◌≢◌, ◌⊎◌, ℕ, List, Option, [], Err, IfErr, IfOk, IfSome, IsErrOf, IsSome, MatchOption};
 ghost use Rattle.base_io.specs.Counts.{Rose};
-ghost use Rattle.net_hub.specs.Backs.{AreBehind};
+ghost use Rattle.net_hub.specs.Backs.{AreAfter};
 ghost use Rattle.net_hub.specs.Joined.{HasWorkers};
 ghost use Rattle.net_hub.specs.Served.{HasServed, IsOwn, IsRefusal};
 ghost use Rattle.cmd_journal.specs.AccountsFiles.{IsAccountsFile, accounts_text};
@@ -43,7 +43,7 @@ where
     requires kept { IsKept O.told (C.moment clock.old) (E.bytes entropy.old) recorder }
     requires fresh { (recorder.events.items ≡ []) × (recorder.senders.items ≡ []) }
     ensures served { IfOk result.0 (λ text. IfSome result.1 (λ new. HasServed (accounts_text recorder.file) n (C.moment clock.old) (E.bytes entropy.old) (D.given door) (D.given new) text.items)) }
-    ensures given { IfSome result.1 (λ new. AreBehind (D.given door) (D.given new)) }
+    ensures given { IfSome result.1 (λ new. AreAfter (D.given door) (D.given new)) }
     ensures workers { MatchOption result.1 (S.started spawner.new ≡ S.started spawner.old) (λ new. HasWorkers (D.given door) (D.given new) (S.started spawner.old) (S.started spawner.new)) }
     ensures faults { IfErr result.0 (λ e. IsOwn e) }
     ensures all_back { result.0 ≢ Err HubFault.NoWorker → result.0 ≢ Err HubFault.EntropyFault → result.0 ≢ Err HubFault.NoMemory
@@ -118,7 +118,7 @@ where
     D::Link: Send + 'static,
     ensures served { IfOk result.0 (λ text. IfSome result.1 (λ new. HasServed accounts.now n (C.moment clock.old) (E.bytes entropy.old) (D.given door) (D.given new) text.items)) }
     ensures bad { IfErr result.0 (λ e. IsRefusal accounts.now e) }
-    ensures back { IfSome result.1 (λ new. AreBehind (D.given door) (D.given new)) }
+    ensures back { IfSome result.1 (λ new. AreAfter (D.given door) (D.given new)) }
     ensures workers { MatchOption result.1 (S.started spawner.new ≡ S.started spawner.old) (λ new. HasWorkers (D.given door) (D.given new) (S.started spawner.old) (S.started spawner.new)) }
     ensures all_back { result.0 ≢ Err HubFault.NoWorker → result.0 ≢ Err HubFault.EntropyFault → result.0 ≢ Err HubFault.NoMemory
         → IfSome result.1 (λ new. AreGivenBack (D.handed door) (D.handed new) (D.given door) (D.given new)) }

@@ -10,7 +10,7 @@ use std::mem;
 #[derive(Drop)]
 pub struct Shelf {
     link: Option<LinkState>,
-    behind: Option<Box<Shelf>>,
+    following: Option<Box<Shelf>>,
 }
 
 impl Shelf {
@@ -20,7 +20,7 @@ impl Shelf {
     {
         Shelf {
             link: None,
-            behind: None,
+            following: None,
         }
     }
 
@@ -32,10 +32,10 @@ impl Shelf {
     }
 
     /// The shelf behind, with the links that were put there before.
-    pub fn behind(&self) -> Option<&Shelf>
+    pub fn following(&self) -> Option<&Shelf>
         ensures { MatchOption (option_copied result) (before_of self.now ≡ []) (λ shelf. links_of shelf ≡ before_of self.now) }
     {
-        match &self.behind {
+        match &self.following {
             Some(shelf) => Some(shelf),
             None => None,
         }
@@ -47,6 +47,6 @@ pub(crate) fn put(shelf: &mut Shelf, mut room: Box<Shelf>, link: LinkState)
     ensures { links_of shelf.new ≡ links_of shelf.old ++ link.told ∷ [] }
 {
     room.link = shelf.link.replace(link);
-    room.behind = shelf.behind.take();
-    shelf.behind = Some(room);
+    room.following = shelf.following.take();
+    shelf.following = Some(room);
 }

@@ -4,9 +4,9 @@ use mathlib.Core.Logic.{dite}
 use native.Mathlib.Decide.{ℕ_discrete}
 use Rattle.net_owner.proofs.WholeFeeds.{and_left, head_is}
 use Rattle.net_owner.specs.Arrivals.{AreHere, arrivals, has_closed, is_closed}
-use Rattle.net_owner.specs.Places.{are_started}
+use Rattle.net_owner.specs.Positions.{are_started}
 use Rattle.net_owner.specs.Troubles.{first_of}
-use Rattle.net_owner.specs.declared.place.Place.{Place}
+use Rattle.net_owner.specs.declared.position.Slot.{Slot}
 use Rattle.net_owner.specs.declared.trouble.Trouble.{Trouble}
 use Rattle.net_owner.proofs.ItemsOf.{items_of-another, items_of-next}
 use Rattle.net_owner.specs.Merge.{items_of}
@@ -76,21 +76,21 @@ never_none None new trouble is e = true≢false (ap is_some (sym is ∙ e))
 never_none (Some met) new trouble is e = true≢false (ap is_some (sym is ∙ e))
 
 module _ {R I P : Type 0} where
-  started_more : (ps : List (Place R I P)) (p : Place R I P) → are_started ps ≡ true → is_some p.worker ≡ true → are_started (ps ++ p ∷ []) ≡ true
+  started_more : (ps : List (Slot R I P)) (p : Slot R I P) → are_started ps ≡ true → is_some p.worker ≡ true → are_started (ps ++ p ∷ []) ≡ true
   unfolding are_started
   started_more [] p all one = rw one refl
   started_more (q ∷ ps) p all one = elim (is_some q.worker) as (λ b. cond b (are_started ps) false ≡ true → cond b (are_started (ps ++ p ∷ [])) false ≡ true) [ true ↦ (λ rest. started_more ps p rest one) | false ↦ (λ e. e) ] all
 
-  started_set : (ps : List (Place R I P)) (i : ℕ) (p : Place R I P) → are_started ps ≡ true → is_some p.worker ≡ true → are_started (set ps i p) ≡ true
+  started_set : (ps : List (Slot R I P)) (i : ℕ) (p : Slot R I P) → are_started ps ≡ true → is_some p.worker ≡ true → are_started (set ps i p) ≡ true
   unfolding are_started
   started_set [] i p all one = refl
   started_set (q ∷ ps) zero p all one = elim (is_some q.worker) as (λ b. cond b (are_started ps) false ≡ true → cond (is_some p.worker) (are_started ps) false ≡ true) [ true ↦ (λ rest. rw one rest) | false ↦ (λ e. absurd (true≢false (sym e))) ] all
   started_set (q ∷ ps) (suc i) p all one = elim (is_some q.worker) as (λ b. cond b (are_started ps) false ≡ true → cond b (are_started (set ps i p)) false ≡ true) [ true ↦ (λ rest. started_set ps i p rest one) | false ↦ (λ e. e) ] all
 
   -- an item was taken that is no connection of the acceptor
-  pub here_past : (waiting : ℕ) (got : List (Item P)) (closed : Bool) (met : Option Trouble) (places : List (Place R I P)) (x : Item P) → (x.from ≢ 0) ⊎ (is_arrival x.what ≡ false)
-      → AreHere waiting got closed met places → AreHere waiting (got ++ x ∷ []) closed met places
-  here_past waiting got closed met places x why here = dite (ℕ_discrete x.from 0)
+  pub here_past : (waiting : ℕ) (got : List (Item P)) (closed : Bool) (met : Option Trouble) (positions : List (Slot R I P)) (x : Item P) → (x.from ≢ 0) ⊎ (is_arrival x.what ≡ false)
+      → AreHere waiting got closed met positions → AreHere waiting (got ++ x ∷ []) closed met positions
+  here_past waiting got closed met positions x why here = dite (ℕ_discrete x.from 0)
       (λ is. let more = items_of-next number 0 x got is in record {
         last = λ e. subst (λ l. has_closed l ≡ true) (sym more) (still_closed (items_of number 0 got) x (here.last e));
         started = here.started;
@@ -103,46 +103,46 @@ module _ {R I P : Type 0} where
       })
 
   -- a connection was taken, and waits for its place
-  pub here_came : (got : List (Item P)) (closed : Bool) (met : Option Trouble) (places : List (Place R I P)) (x : Item P) → x.from ≡ 0 → is_arrival x.what ≡ true
-      → AreHere 0 got closed met places → AreHere 1 (got ++ x ∷ []) closed met places
-  here_came got closed met places x from is here = let more = items_of-next number 0 x got from in record {
+  pub here_came : (got : List (Item P)) (closed : Bool) (met : Option Trouble) (positions : List (Slot R I P)) (x : Item P) → x.from ≡ 0 → is_arrival x.what ≡ true
+      → AreHere 0 got closed met positions → AreHere 1 (got ++ x ∷ []) closed met positions
+  here_came got closed met positions x from is here = let more = items_of-next number 0 x got from in record {
     last = λ e. subst (λ l. has_closed l ≡ true) (sym more) (still_closed (items_of number 0 got) x (here.last e));
     started = here.started;
     many = λ e. (let before = here.many e in let one = one_more (items_of number 0 got) x is in
-        let next : length places + 1 ≡ arrivals (items_of number 0 got ++ x ∷ []) = omega (arith, before, one) in next ∙ ap arrivals (sym more));
+        let next : length positions + 1 ≡ arrivals (items_of number 0 got ++ x ∷ []) = omega (arith, before, one) in next ∙ ap arrivals (sym more));
   }
 
   -- the acceptor's last item was taken
-  pub here_closed : (got : List (Item P)) (closed : Bool) (met : Option Trouble) (places : List (Place R I P)) (x : Item P) → x.from ≡ 0 → is_closed x.what ≡ true
-      → AreHere 0 got closed met places → AreHere 0 (got ++ x ∷ []) true met places
-  here_closed got closed met places x from is here = let more = items_of-next number 0 x got from in record {
+  pub here_closed : (got : List (Item P)) (closed : Bool) (met : Option Trouble) (positions : List (Slot R I P)) (x : Item P) → x.from ≡ 0 → is_closed x.what ≡ true
+      → AreHere 0 got closed met positions → AreHere 0 (got ++ x ∷ []) true met positions
+  here_closed got closed met positions x from is here = let more = items_of-next number 0 x got from in record {
     last = λ e. subst (λ l. has_closed l ≡ true) (sym more) (closed_here (items_of number 0 got) x is);
     started = here.started;
     many = λ e. here.many e ∙ sym (no_more (items_of number 0 got) x (closed_is x.what is)) ∙ ap arrivals (sym more);
   }
 
   -- a connection has got its place, and its reader, or something went wrong
-  pub here_placed : (got : List (Item P)) (closed : Bool) (met new : Option Trouble) (places : List (Place R I P)) (p : Place R I P) → (new ≡ None → (met ≡ None) × (is_some p.worker ≡ true))
-      → AreHere 1 got closed met places → AreHere 0 got closed new (places ++ p ∷ [])
-  here_placed got closed met new places p fine here = record {
+  pub here_placed : (got : List (Item P)) (closed : Bool) (met new : Option Trouble) (positions : List (Slot R I P)) (p : Slot R I P) → (new ≡ None → (met ≡ None) × (is_some p.worker ≡ true))
+      → AreHere 1 got closed met positions → AreHere 0 got closed new (positions ++ p ∷ [])
+  here_placed got closed met new positions p bounded here = record {
     last = here.last;
-    started = λ e. started_more places p (here.started (fine e).0) (fine e).1;
-    many = λ e. (let before = here.many (fine e).0 in let n = length-append places (p ∷ []) in omega (arith, before, n));
+    started = λ e. started_more positions p (here.started (bounded e).0) (bounded e).1;
+    many = λ e. (let before = here.many (bounded e).0 in let n = length-append positions (p ∷ []) in omega (arith, before, n));
   }
 
   -- a connection was refused
-  pub here_refused : (got : List (Item P)) (closed : Bool) (met new : Option Trouble) (places : List (Place R I P)) → (new ≡ None → ⊥) → AreHere 1 got closed met places → AreHere 0 got closed new places
-  here_refused got closed met new places bad here = record {
+  pub here_refused : (got : List (Item P)) (closed : Bool) (met new : Option Trouble) (positions : List (Slot R I P)) → (new ≡ None → ⊥) → AreHere 1 got closed met positions → AreHere 0 got closed new positions
+  here_refused got closed met new positions bad here = record {
     last = here.last;
     started = λ e. absurd (bad e);
     many = λ e. absurd (bad e);
   }
 
   -- the end of a reader was marked
-  pub here_marked : (got : List (Item P)) (closed : Bool) (met : Option Trouble) (places : List (Place R I P)) (i : ℕ) (p : Place R I P) → is_some p.worker ≡ true
-      → AreHere 0 got closed met places → AreHere 0 got closed met (set places i p)
-  here_marked got closed met places i p one here = record {
+  pub here_marked : (got : List (Item P)) (closed : Bool) (met : Option Trouble) (positions : List (Slot R I P)) (i : ℕ) (p : Slot R I P) → is_some p.worker ≡ true
+      → AreHere 0 got closed met positions → AreHere 0 got closed met (set positions i p)
+  here_marked got closed met positions i p one here = record {
     last = here.last;
-    started = λ e. started_set places i p (here.started e) one;
-    many = λ e. ap (λ n. n + 0) (length-set places i p) ∙ here.many e;
+    started = λ e. started_set positions i p (here.started e) one;
+    many = λ e. ap (λ n. n + 0) (length-set positions i p) ∙ here.many e;
   }

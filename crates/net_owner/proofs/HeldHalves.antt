@@ -7,10 +7,10 @@ use Rattle.atomic_table.proofs.Lists.{at_set}
 use Rattle.crossbeam_channel.specs.Claims.{Pass, view, IsSeatAt}
 use Rattle.crossbeam_channel.specs.Ends.{receives_on, sends_on}
 use Rattle.net_traits.specs.Halves.{IncomingView}
-use Rattle.net_owner.proofs.KeptPlaces.{at_end}
+use Rattle.net_owner.proofs.KeptPositions.{at_end}
 use Rattle.net_owner.specs.Halves.{AreFirst, IsHeld, IsNew}
 use Rattle.net_owner.specs.declared.owner.Owner.{Owner}
-use Rattle.net_owner.specs.declared.place.Place.{Place}
+use Rattle.net_owner.specs.declared.position.Slot.{Slot}
 use Rattle.net_owner.specs.declared.trouble.Trouble.{Trouble}
 use Rattle.net_owner.specs.declared.rule.Known.{Known}
 use Rattle.net_owner.specs.declared.item.Item.{Item}
@@ -36,10 +36,10 @@ map_some P Q (Some a) f h = f a h
 
 module _ {R I P T : Type 0} (told : I → IncomingView) (numbers : T → List ℕ) where
   -- the reader at index i has a half of the link that stands there
-  abbrev pub Matches : List ℕ → ℕ → Place R I P → Type 0
+  abbrev pub Matches : List ℕ → ℕ → Slot R I P → Type 0
   Matches ns i p = IfSome p.worker (λ job. (get_elem? ns i ≡ some (told job.half).number) × IsNew (told job.half))
 
-  still_matches : (xs ys : List ℕ) (i : ℕ) (p : Place R I P) → AreFirst xs ys → Matches xs i p → Matches ys i p
+  still_matches : (xs ys : List ℕ) (i : ℕ) (p : Slot R I P) → AreFirst xs ys → Matches xs i p → Matches ys i p
   still_matches xs ys i p first h =
       map_some (λ job. (get_elem? xs i ≡ some (told job.half).number) × IsNew (told job.half)) (λ job. (get_elem? ys i ≡ some (told job.half).number) × IsNew (told job.half)) p.worker
       (λ job e. (at_first xs ys i (told job.half).number first e.0, e.1)) h
@@ -55,22 +55,22 @@ module _ {R I P T : Type 0} (told : I → IncomingView) (numbers : T → List �
   }
 
   -- a place is marked
-  pub held_marked : (h : Owner R I P T) (places : Vec (Place R I P) Global) (taker : T) (i : ℕ) (p q : Place R I P) → AreFirst (numbers h.taker) (numbers taker) → places.items ≡ set h.places.items i q
-      → get_elem? h.places.items i ≡ some p → q.worker ≡ p.worker → IsHeld told numbers h → IsHeld told numbers (record h { places = places; taker = taker })
-  held_marked h places taker i p q first are at same held = record {
+  pub held_marked : (h : Owner R I P T) (positions : Vec (Slot R I P) Global) (taker : T) (i : ℕ) (p q : Slot R I P) → AreFirst (numbers h.taker) (numbers taker) → positions.items ≡ set h.positions.items i q
+      → get_elem? h.positions.items i ≡ some p → q.worker ≡ p.worker → IsHeld told numbers h → IsHeld told numbers (record h { positions = positions; taker = taker })
+  held_marked h positions taker i p q first are at same held = record {
     ends = held.ends;
     seat = held.seat;
     takes = held.takes;
     paired = λ j r there. still_matches (numbers h.taker) (numbers taker) j r first (⊎_elim
-        (λ (e : (j ≡ i) × (q ≡ r)). subst (λ (y : ℕ × Place R I P). Matches (numbers h.taker) y.0 y.1) (λ n. (sym e.0 n, e.1 n))
+        (λ (e : (j ≡ i) × (q ≡ r)). subst (λ (y : ℕ × Slot R I P). Matches (numbers h.taker) y.0 y.1) (λ n. (sym e.0 n, e.1 n))
         (subst (λ w. IfSome w (λ job. (get_elem? (numbers h.taker) i ≡ some (told job.half).number) × IsNew (told job.half))) (sym same) (held.paired i p at)))
-        (λ (e : (j ≢ i) × (get_elem? h.places.items j ≡ some r)). held.paired j r e.1)
-        (at_set h.places.items i j q r (sym (ap (λ l. get_elem? l j) are) ∙ there)));
+        (λ (e : (j ≢ i) × (get_elem? h.positions.items j ≡ some r)). held.paired j r e.1)
+        (at_set h.positions.items i j q r (sym (ap (λ l. get_elem? l j) are) ∙ there)));
   }
 
   -- there is more room for places
-  pub held_roomed : (h : Owner R I P T) (places : Vec (Place R I P) Global) → places.items ≡ h.places.items → IsHeld told numbers h → IsHeld told numbers (record h { places = places })
-  held_roomed h places same held = record {
+  pub held_roomed : (h : Owner R I P T) (positions : Vec (Slot R I P) Global) → positions.items ≡ h.positions.items → IsHeld told numbers h → IsHeld told numbers (record h { positions = positions })
+  held_roomed h positions same held = record {
     ends = held.ends;
     seat = held.seat;
     takes = held.takes;
@@ -88,24 +88,24 @@ module _ {R I P T : Type 0} (told : I → IncomingView) (numbers : T → List �
   }
 
   -- a connection has got its place
-  pub held_came : (h : Owner R I P T) (pass : Pass (Item P) (Known (Item P))) (places : Vec (Place R I P) Global) (taker : T) (met : Option Trouble) (p : Place R I P) (n : ℕ)
-      → IsSeatAt (sends_on h.to) pass → (view pass).takes ≡ true → places.items ≡ h.places.items ++ p ∷ [] → length (numbers h.taker) ≡ length h.places.items
+  pub held_came : (h : Owner R I P T) (pass : Pass (Item P) (Known (Item P))) (positions : Vec (Slot R I P) Global) (taker : T) (met : Option Trouble) (p : Slot R I P) (n : ℕ)
+      → IsSeatAt (sends_on h.to) pass → (view pass).takes ≡ true → positions.items ≡ h.positions.items ++ p ∷ [] → length (numbers h.taker) ≡ length h.positions.items
       → numbers taker ≡ numbers h.taker ++ n ∷ [] → IfSome p.worker (λ job. (n ≡ (told job.half).number) × IsNew (told job.half))
-      → IsHeld told numbers h → IsHeld told numbers (record h { pass = pass; places = places; taker = taker; met = met })
-  held_came h pass places taker met p n seat takes grown many wider same held = record {
+      → IsHeld told numbers h → IsHeld told numbers (record h { pass = pass; positions = positions; taker = taker; met = met })
+  held_came h pass positions taker met p n seat takes grown many wider same held = record {
     ends = held.ends;
     seat = seat;
     takes = takes;
     paired = λ i q there. ⊎_elim
-        (λ (e : get_elem? h.places.items i ≡ some q). still_matches (numbers h.taker) (numbers taker) i q (n ∷ [], wider) (held.paired i q e))
-        (λ (e : (i ≡ length h.places.items) × (p ≡ q)). subst (λ (y : ℕ × Place R I P). Matches (numbers taker) y.0 y.1) (λ m. (sym (e.0 ∙ sym many) m, e.1 m))
+        (λ (e : get_elem? h.positions.items i ≡ some q). still_matches (numbers h.taker) (numbers taker) i q (n ∷ [], wider) (held.paired i q e))
+        (λ (e : (i ≡ length h.positions.items) × (p ≡ q)). subst (λ (y : ℕ × Slot R I P). Matches (numbers taker) y.0 y.1) (λ m. (sym (e.0 ∙ sym many) m, e.1 m))
         (map_some (λ job. (n ≡ (told job.half).number) × IsNew (told job.half)) (λ job. (get_elem? (numbers taker) (length (numbers h.taker)) ≡ some (told job.half).number) × IsNew (told job.half)) p.worker
         (λ job is. (ap (λ l. get_elem? l (length (numbers h.taker))) wider ∙ last_at (numbers h.taker) n ∙ ap some is.0, is.1)) same))
-        (at_end h.places.items p q i (sym (ap (λ l. get_elem? l i) grown) ∙ there));
+        (at_end h.positions.items p q i (sym (ap (λ l. get_elem? l i) grown) ∙ there));
   }
 
   -- nothing was taken yet
-  pub held_at_first : (h : Owner R I P T) → (receives_on h.at ≡ sends_on h.to) × IsSeatAt (sends_on h.to) h.pass → (view h.pass).takes ≡ true → h.places.items ≡ [] → IsHeld told numbers h
+  pub held_at_first : (h : Owner R I P T) → (receives_on h.at ≡ sends_on h.to) × IsSeatAt (sends_on h.to) h.pass → (view h.pass).takes ≡ true → h.positions.items ≡ [] → IsHeld told numbers h
   held_at_first h ends takes none = record {
     ends = ends.0;
     seat = ends.1;

@@ -7,7 +7,7 @@ pub mod LongerFeeds
 -- what an acceptor has sent
 pub mod LongerArrivals
 -- what happens to one connection, where one event more happened; each place after each kind of item
-pub mod KeptPlaces
+pub mod KeptPositions
 -- nothing is left behind the end of a reader
 pub mod WholeFeeds
 -- the owner after each kind of item

@@ -26,7 +26,7 @@ module _ {T : Type 0} (from : T → ℕ) where
   at_end (x ∷ xs) a b (suc j) e = ⊎_elim (λ t. inl t) (λ t. inr (ap suc t.0, t.1)) (at_end xs a b j e)
 
   abbrev Fits : ℕ → (ℕ → Option ℕ) → List T → List T → ℕ → Known T → Type 0
-  Fits place seat got all pass v = FitsSender from seat all pass v × FitsOwner from place seat got all pass v
+  Fits position seat got all pass v = FitsSender from seat all pass v × FitsOwner from position seat got all pass v
 
   pub begins : Carries from [] (owner ∷ [])
   unfolding items_of
@@ -37,9 +37,9 @@ module _ {T : Type 0} (from : T → ℕ) where
       first (suc j) v e = absurd (some-ne-none v (sym e))
 
   -- an owner's knowledge stays while another sender sends
-  stays : (place : ℕ) (seat : ℕ → Option ℕ) (got all : List T) (x : T) (port j : ℕ) (u : Known T) → seat (from x) ≡ some port
-      → FitsOwner from place seat got all j u → FitsOwner from place seat got (all ++ x ∷ []) j u
-  stays place seat got all x port j u at fits takes = let f = fits takes in
+  stays : (position : ℕ) (seat : ℕ → Option ℕ) (got all : List T) (x : T) (port j : ℕ) (u : Known T) → seat (from x) ≡ some port
+      → FitsOwner from position seat got all j u → FitsOwner from position seat got (all ++ x ∷ []) j u
+  stays position seat got all x port j u at fits takes = let f = fits takes in
       let apart : (k : ℕ) → seat k ≡ none → from x ≢ k = λ k free e. some-ne-none port (sym at ∙ ap seat e ∙ free) in (
         f.0,
         f.1,
@@ -83,7 +83,7 @@ module _ {T : Type 0} (from : T → ℕ) where
     refl,
   )
 
-  -- where a seat is given to one number
+  -- where a reservation is given to one number
   abbrev given : (ℕ → Option ℕ) → ℕ → Option ℕ → ℕ → Option ℕ
   given seat k o j = cond (eqb j k) o (seat j)
 
@@ -97,7 +97,7 @@ module _ {T : Type 0} (from : T → ℕ) where
   forks pass v may mute items views h at = let l : Known T = with_more v in let r : Known T = sender v.made in let mine = h.5 pass v at in let here = mine.1 may in
       let vs : List (Known T) = set views pass l in let n = length vs in let k = v.made in let new = here.2 k (omega arith) in
       let seat : ℕ → Option ℕ = given h.1 k (some n) in
-      -- a sender that has a seat is not the new one
+      -- a sender that has a reservation is not the new one
       let apart : (j p : ℕ) → h.1 j ≡ some p → j ≢ k = λ j p e q. some-ne-none p (sym e ∙ ap h.1 q ∙ new.0) in
       let old : All (Fits h.0 seat h.2 h.3) vs = all_set (Fits h.0 seat h.2 h.3) views pass l (
         (λ p. absurd (true≢false (sym p ∙ mute))),

@@ -1,7 +1,7 @@
 -- The connections that came in, and their places.
 use Rattle.std.specs.Prelude.{◌≡◌, ℕ, suc, ◌+◌, Bool, true, false, List, [], ◌∷◌, length, if◌then◌else◌, Option, None}
-use Rattle.net_owner.specs.Places.{are_started}
-use Rattle.net_owner.specs.declared.place.Place.{Place}
+use Rattle.net_owner.specs.Positions.{are_started}
+use Rattle.net_owner.specs.declared.position.Slot.{Slot}
 use Rattle.net_owner.specs.declared.trouble.Trouble.{Trouble}
 use Rattle.net_owner.specs.Merge.{items_of}
 use Rattle.net_owner.specs.Acceptors.{is_arrival}
@@ -32,7 +32,7 @@ module _ {P : Type 0} where
 module _ {R I P : Type 0} where
   -- The door is closed only once the acceptor's last item was taken. As long as nothing went wrong outside, each connection that
   -- was taken of the acceptor has its place and its reader, but for so many that wait for them.
-  pub record AreHere (waiting : ℕ) (got : List (Item P)) (closed : Bool) (met : Option Trouble) (places : List (Place R I P)) : Type 0 where
+  pub record AreHere (waiting : ℕ) (got : List (Item P)) (closed : Bool) (met : Option Trouble) (positions : List (Slot R I P)) : Type 0 where
     pub last : closed ≡ true → has_closed (items_of number 0 got) ≡ true
-    pub started : met ≡ None → are_started places ≡ true
-    pub many : met ≡ None → length places + waiting ≡ arrivals (items_of number 0 got)
+    pub started : met ≡ None → are_started positions ≡ true
+    pub many : met ≡ None → length positions + waiting ≡ arrivals (items_of number 0 got)

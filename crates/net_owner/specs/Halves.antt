@@ -6,7 +6,7 @@ use Rattle.crossbeam_channel.specs.Claims.{view, IsSeatAt}
 use Rattle.crossbeam_channel.specs.Ends.{sends_on, receives_on}
 use Rattle.net_traits.specs.Halves.{IncomingView, IsUnusedPair, OutgoingView}
 use Rattle.net_owner.specs.declared.owner.Owner.{Owner}
-use Rattle.net_owner.specs.declared.place.Place.{Place}
+use Rattle.net_owner.specs.declared.position.Slot.{Slot}
 
 -- the second list begins with the first
 abbrev pub AreFirst : List ℕ → List ℕ → Type 0
@@ -26,5 +26,5 @@ module _ {R I P T : Type 0} where
     pub ends : receives_on h.at ≡ sends_on h.to
     pub seat : IsSeatAt (sends_on h.to) h.pass
     pub takes : (view h.pass).takes ≡ true
-    pub paired : (i : ℕ) (p : Place R I P) → get_elem? h.places.items i ≡ some p
+    pub paired : (i : ℕ) (p : Slot R I P) → get_elem? h.positions.items i ≡ some p
         → IfSome p.worker (λ job. (get_elem? (numbers h.taker) i ≡ some (told job.half).number) × IsNew (told job.half))

@@ -13,7 +13,7 @@ pub mod Acceptors
 pub mod Readers
 -- law
 pub mod Events
-pub mod Places
+pub mod Positions
 pub mod Arrivals
 pub mod StartedReaders
 -- view

@@ -40,13 +40,13 @@ module _ {T : Type 0} where
 
     -- the owner has its pass, and knows what it took; no sender has a number from `made` on; what it was told is all of it
     abbrev pub FitsOwner : ℕ → (ℕ → Option ℕ) → List T → List T → ℕ → Known T → Type 0
-    FitsOwner place seat got all pass v = v.takes ≡ true
-        → (pass ≡ place) × (v.got ≡ got)
+    FitsOwner position seat got all pass v = v.takes ≡ true
+        → (pass ≡ position) × (v.got ≡ got)
         × ((k : ℕ) → v.made ≤ k → (seat k ≡ none) × (items_of from k all ≡ []))
         × (v.told ≡ true → (v.told_from < v.made) × (seat v.told_from ≡ none) × (items_of from v.told_from all ≡ v.told_put))
 
     -- The rule: all that was sent is what was taken and then what the queue holds.
     abbrev pub Carries : List T → List (Known T) → Type 0
     Carries items views =
-        (place : ℕ) × (seat : ℕ → Option ℕ) × (got : List T) × (all : List T) × (all ≡ got ++ items)
-        × ((pass : ℕ) (v : Known T) → get_elem? views pass ≡ some v → FitsSender seat all pass v × FitsOwner place seat got all pass v)
+        (position : ℕ) × (seat : ℕ → Option ℕ) × (got : List T) × (all : List T) × (all ≡ got ++ items)
+        × ((pass : ℕ) (v : Known T) → get_elem? views pass ≡ some v → FitsSender seat all pass v × FitsOwner position seat got all pass v)

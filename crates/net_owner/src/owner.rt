@@ -1,6 +1,6 @@
 //! The owner of the queue.
 use crate::item::Item;
-use crate::place::Place;
+use crate::position::Slot;
 use crate::queue::{Receipt, Receiving, Sending};
 use crate::trouble::Trouble;
 use net_traits::Incoming;
@@ -16,7 +16,7 @@ pub struct Owner<R: Wait + Drop, I: Incoming + Drop, P: Drop, T: Drop> {
     pub to: Sending<Item<P>>,
     pub at: Receiving<Item<P>>,
     pub pass: Receipt<Item<P>>,
-    pub places: Vec<Place<R, I, P>>,
+    pub positions: Vec<Slot<R, I, P>>,
     pub taker: T,
     pub closed: bool,
     pub met: Option<Trouble>,

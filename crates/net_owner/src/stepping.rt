@@ -8,7 +8,7 @@ ghost use Rattle.net_owner.specs.Arrivals.{has_closed};
 ghost use Rattle.net_owner.specs.Events.{AreMerged};
 ghost use Rattle.net_owner.specs.Halves.{IsHeld};
 ghost use Rattle.net_owner.specs.Owners.{IsComing, IsGoing, IsPending};
-ghost use Rattle.net_owner.specs.Places.{HasNoReader, IsStarted, are_over, feeds, is_over};
+ghost use Rattle.net_owner.specs.Positions.{HasNoReader, IsStarted, are_over, feeds, is_over};
 ghost use Rattle.net_owner.specs.StartedReaders.{HasStarted, workers_of};
 ghost use Rattle.net_owner.specs.Troubles.{HasMet};
 ghost use Rattle.net_owner.specs.Merge.{items_of};
@@ -18,7 +18,7 @@ ghost use Rattle.net_owner.specs.declared.item.What.TheVariants.{Ended, Gave};
 
 use crate::item::{Item, Piece, What};
 use crate::owner::Owner;
-use crate::place::Place;
+use crate::position::Slot;
 use crate::queue::{Receipt, Sending, hire, open, take};
 use crate::reader::ReaderJob;
 use crate::spawner::Spawner;
@@ -34,16 +34,16 @@ const ROOM: usize = 64;
 
 // The index of the place of a reader that was started.
 fn started<R: Wait + Drop, I: Incoming + Drop, P: Drop>(
-    places: &[Place<R, I, P>],
+    positions: &[Slot<R, I, P>],
     from: u64,
 ) -> Option<usize>
-    ensures { MatchOption result (HasNoReader places.now from) (λ i. (i + 1 ≡ from) × IsStarted places.now i) }
+    ensures { MatchOption result (HasNoReader positions.now from) (λ i. (i + 1 ≡ from) × IsStarted positions.now i) }
 {
-    if from == 0 || from > places.len() as u64 {
+    if from == 0 || from > positions.len() as u64 {
         return None;
     }
     let index = (from - 1) as usize;
-    if places[index].worker.is_some() {
+    if positions[index].worker.is_some() {
         Some(index)
     } else {
         None
@@ -51,22 +51,22 @@ fn started<R: Wait + Drop, I: Incoming + Drop, P: Drop>(
 }
 
 // Whether a connection has no reader that goes on.
-fn is_done<R: Wait + Drop, I: Incoming + Drop, P: Drop>(place: &Place<R, I, P>) -> bool
-    ensures { result ≡ is_over place.now }
+fn is_done<R: Wait + Drop, I: Incoming + Drop, P: Drop>(position: &Slot<R, I, P>) -> bool
+    ensures { result ≡ is_over position.now }
 {
-    match &place.worker {
+    match &position.worker {
         None => true,
-        Some(_) => place.ended,
+        Some(_) => position.ended,
     }
 }
 
 // Whether each reader that was started has ended.
-#[tactic(auto, unfolding(crate::specs::Places::are_over))]
-fn all_ended<R: Wait + Drop, I: Incoming + Drop, P: Drop>(places: &[Place<R, I, P>]) -> bool
-    ensures { result ≡ are_over places.now }
+#[tactic(auto, unfolding(crate::specs::Positions::are_over))]
+fn all_ended<R: Wait + Drop, I: Incoming + Drop, P: Drop>(positions: &[Slot<R, I, P>]) -> bool
+    ensures { result ≡ are_over positions.now }
 {
-    for place in places {
-        if !is_done(place) {
+    for position in positions {
+        if !is_done(position) {
             return false;
         }
     }
@@ -95,7 +95,7 @@ impl<
         requires { T.events taker ≡ [] }
         ensures going { IfOk result (λ r. IsGoing T.events r.0) }
         ensures held { IfOk result (λ r. IsHeld I.told T.numbers r.0) }
-        ensures places { IfOk result (λ r. r.0.places.items ≡ []) }
+        ensures positions { IfOk result (λ r. r.0.positions.items ≡ []) }
         ensures met { IfOk result (λ r. r.0.met ≡ None) }
         ensures taker { IfOk result (λ r. r.0.taker ≡ taker) }
         ensures acceptor { IfOk result (λ r. IsSeatAt (sends_on r.1) r.2 × (view r.2 ≡ sender 0)) }
@@ -110,7 +110,7 @@ impl<
             to,
             at,
             pass,
-            places: Vec::new(alloc),
+            positions: Vec::new(alloc),
             taker,
             closed: false,
             met: None,
@@ -127,13 +127,13 @@ impl<
     ) -> Result<(), NoMemory>
         requires going { IsGoing T.events self.old }
         requires held { IsHeld I.told T.numbers self.old }
-        requires many { length (T.numbers self.old.taker) ≡ length self.old.places.items }
+        requires many { length (T.numbers self.old.taker) ≡ length self.old.positions.items }
         requires right { T.keeps self.old.taker (C.moment clock.old) (E.bytes entropy.old) }
         ensures going { OnOk result (IsGoing T.events self.new) }
         ensures queue { self.new.to ≡ self.old.to }
         ensures held { IsHeld I.told T.numbers self.new }
-        ensures readers { HasStarted self.old.places.items self.new.places.items (S.started spawner.old) (S.started spawner.new) }
-        ensures many { OnOk result (length (T.numbers self.new.taker) ≡ length self.new.places.items) }
+        ensures readers { HasStarted self.old.positions.items self.new.positions.items (S.started spawner.old) (S.started spawner.new) }
+        ensures many { OnOk result (length (T.numbers self.new.taker) ≡ length self.new.positions.items) }
         ensures right { OnOk result (T.keeps self.new.taker (C.moment clock.old) (E.bytes entropy.old)) }
         ensures met { (s e : ℕ) → HasMet self.old.met s e (S.faults spawner.old) (E.faults entropy.old) → OnOk result (HasMet self.new.met s e (S.faults spawner.new) (E.faults entropy.new)) }
         ensures fixed { T.fixed self.new.taker ≡ T.fixed self.old.taker }
@@ -155,13 +155,13 @@ impl<
     ) -> Result<(), NoMemory>
         requires going { IsPending T.events self.old item }
         requires held { IsHeld I.told T.numbers self.old }
-        requires many { length (T.numbers self.old.taker) ≡ length self.old.places.items }
+        requires many { length (T.numbers self.old.taker) ≡ length self.old.positions.items }
         requires right { T.keeps self.old.taker (C.moment clock.old) (E.bytes entropy.old) }
         ensures going { OnOk result (IsGoing T.events self.new) }
         ensures queue { self.new.to ≡ self.old.to }
         ensures held { IsHeld I.told T.numbers self.new }
-        ensures readers { HasStarted self.old.places.items self.new.places.items (S.started spawner.old) (S.started spawner.new) }
-        ensures many { OnOk result (length (T.numbers self.new.taker) ≡ length self.new.places.items) }
+        ensures readers { HasStarted self.old.positions.items self.new.positions.items (S.started spawner.old) (S.started spawner.new) }
+        ensures many { OnOk result (length (T.numbers self.new.taker) ≡ length self.new.positions.items) }
         ensures right { OnOk result (T.keeps self.new.taker (C.moment clock.old) (E.bytes entropy.old)) }
         ensures met { (s e : ℕ) → HasMet self.old.met s e (S.faults spawner.old) (E.faults entropy.old) → OnOk result (HasMet self.new.met s e (S.faults spawner.new) (E.faults entropy.new)) }
         ensures fixed { T.fixed self.new.taker ≡ T.fixed self.old.taker }
@@ -190,18 +190,18 @@ impl<
     fn gave<C: Clock>(&mut self, clock: &mut C, from: u64, piece: Piece) -> Result<(), NoMemory>
         requires going { IsPending T.events self.old (record { from = from; what = Gave piece }) }
         requires held { IsHeld I.told T.numbers self.old }
-        requires many { length (T.numbers self.old.taker) ≡ length self.old.places.items }
+        requires many { length (T.numbers self.old.taker) ≡ length self.old.positions.items }
         ensures going { OnOk result (IsGoing T.events self.new) }
         ensures queue { self.new.to ≡ self.old.to }
         ensures held { IsHeld I.told T.numbers self.new }
-        ensures workers { workers_of self.new.places.items ≡ workers_of self.old.places.items }
-        ensures many { length (T.numbers self.new.taker) ≡ length self.new.places.items }
+        ensures workers { workers_of self.new.positions.items ≡ workers_of self.old.positions.items }
+        ensures many { length (T.numbers self.new.taker) ≡ length self.new.positions.items }
         ensures right { (drawn : Option (List ℕ)) → T.keeps self.old.taker (C.moment clock.old) drawn → OnOk result (T.keeps self.new.taker (C.moment clock.old) drawn) }
         ensures met { self.new.met ≡ self.old.met }
         ensures fixed { T.fixed self.new.taker ≡ T.fixed self.old.taker }
         ensures moment { C.moment clock.new ≡ C.moment clock.old }
     {
-        match started(self.places.as_slice(), from) {
+        match started(self.positions.as_slice(), from) {
             None => Ok(()),
             Some(_) => self.taker.piece(clock, from, piece),
         }
@@ -211,21 +211,21 @@ impl<
     fn ended<C: Clock>(&mut self, clock: &mut C, from: u64) -> Result<(), NoMemory>
         requires going { IsPending T.events self.old (record { from = from; what = Ended }) }
         requires held { IsHeld I.told T.numbers self.old }
-        requires many { length (T.numbers self.old.taker) ≡ length self.old.places.items }
+        requires many { length (T.numbers self.old.taker) ≡ length self.old.positions.items }
         ensures going { OnOk result (IsGoing T.events self.new) }
         ensures queue { self.new.to ≡ self.old.to }
         ensures held { IsHeld I.told T.numbers self.new }
-        ensures workers { workers_of self.new.places.items ≡ workers_of self.old.places.items }
-        ensures many { length (T.numbers self.new.taker) ≡ length self.new.places.items }
+        ensures workers { workers_of self.new.positions.items ≡ workers_of self.old.positions.items }
+        ensures many { length (T.numbers self.new.taker) ≡ length self.new.positions.items }
         ensures right { (drawn : Option (List ℕ)) → T.keeps self.old.taker (C.moment clock.old) drawn → OnOk result (T.keeps self.new.taker (C.moment clock.old) drawn) }
         ensures met { self.new.met ≡ self.old.met }
         ensures fixed { T.fixed self.new.taker ≡ T.fixed self.old.taker }
         ensures moment { C.moment clock.new ≡ C.moment clock.old }
     {
-        match started(self.places.as_slice(), from) {
+        match started(self.positions.as_slice(), from) {
             None => Ok(()),
             Some(index) => {
-                self.places[index].ended = true;
+                self.positions[index].ended = true;
                 self.taker.gone(clock, from)
             }
         }
@@ -235,12 +235,12 @@ impl<
     fn mark(&mut self, from: u64)
         requires held { IsHeld I.told T.numbers self.old }
         ensures held { IsHeld I.told T.numbers self.new }
-        ensures workers { workers_of self.new.places.items ≡ workers_of self.old.places.items }
+        ensures workers { workers_of self.new.positions.items ≡ workers_of self.old.positions.items }
         ensures same { (self.new.taker ≡ self.old.taker) × (self.new.to ≡ self.old.to) }
     {
-        match started(self.places.as_slice(), from) {
+        match started(self.positions.as_slice(), from) {
             None => {}
-            Some(index) => self.places[index].ended = true,
+            Some(index) => self.positions[index].ended = true,
         }
     }
 
@@ -255,13 +255,13 @@ impl<
     ) -> Result<(), NoMemory>
         requires coming { IsComing T.events self.old }
         requires held { IsHeld I.told T.numbers self.old }
-        requires many { length (T.numbers self.old.taker) ≡ length self.old.places.items }
+        requires many { length (T.numbers self.old.taker) ≡ length self.old.positions.items }
         requires right { T.keeps self.old.taker (C.moment clock.old) (E.bytes entropy.old) }
         ensures going { OnOk result (IsGoing T.events self.new) }
         ensures queue { self.new.to ≡ self.old.to }
         ensures held { IsHeld I.told T.numbers self.new }
-        ensures readers { HasStarted self.old.places.items self.new.places.items (S.started spawner.old) (S.started spawner.new) }
-        ensures many { OnOk result (length (T.numbers self.new.taker) ≡ length self.new.places.items) }
+        ensures readers { HasStarted self.old.positions.items self.new.positions.items (S.started spawner.old) (S.started spawner.new) }
+        ensures many { OnOk result (length (T.numbers self.new.taker) ≡ length self.new.positions.items) }
         ensures right { OnOk result (T.keeps self.new.taker (C.moment clock.old) (E.bytes entropy.old)) }
         ensures met { (s e : ℕ) → HasMet self.old.met s e (S.faults spawner.old) (E.faults entropy.old) → OnOk result (HasMet self.new.met s e (S.faults spawner.new) (E.faults entropy.new)) }
         ensures fixed { T.fixed self.new.taker ≡ T.fixed self.old.taker }
@@ -280,11 +280,11 @@ impl<
         ensures coming { IsComing T.events self.new }
         ensures queue { self.new.to ≡ self.old.to }
         ensures held { IsHeld I.told T.numbers self.new }
-        ensures places { self.new.places.items ≡ self.old.places.items }
+        ensures positions { self.new.positions.items ≡ self.old.positions.items }
         ensures same { (self.new.taker ≡ self.old.taker) × (self.new.met ≡ self.old.met) }
-        ensures room { OnOk result (vec_len self.new.places < vec_capacity self.new.places) }
+        ensures room { OnOk result (vec_len self.new.positions < vec_capacity self.new.positions) }
     {
-        self.places.reserve(1)?;
+        self.positions.reserve(1)?;
         Ok(())
     }
 
@@ -300,22 +300,22 @@ impl<
     ) -> Result<(), NoMemory>
         requires coming { IsComing T.events self.old }
         requires held { IsHeld I.told T.numbers self.old }
-        requires many { length (T.numbers self.old.taker) ≡ length self.old.places.items }
+        requires many { length (T.numbers self.old.taker) ≡ length self.old.positions.items }
         requires right { T.keeps self.old.taker (C.moment clock.old) (E.bytes entropy.old) }
-        requires room { vec_len self.old.places < vec_capacity self.old.places }
+        requires room { vec_len self.old.positions < vec_capacity self.old.positions }
         requires pair { IsUnusedPair (I.told incoming) (O.told outgoing) }
         ensures going { OnOk result (IsGoing T.events self.new) }
         ensures queue { self.new.to ≡ self.old.to }
         ensures held { IsHeld I.told T.numbers self.new }
-        ensures readers { HasStarted self.old.places.items self.new.places.items (S.started spawner.old) (S.started spawner.new) }
-        ensures many { OnOk result (length (T.numbers self.new.taker) ≡ length self.new.places.items) }
+        ensures readers { HasStarted self.old.positions.items self.new.positions.items (S.started spawner.old) (S.started spawner.new) }
+        ensures many { OnOk result (length (T.numbers self.new.taker) ≡ length self.new.positions.items) }
         ensures right { OnOk result (T.keeps self.new.taker (C.moment clock.old) (E.bytes entropy.old)) }
         ensures met { (s e : ℕ) → HasMet self.old.met s e (S.faults spawner.old) (E.faults entropy.old) → OnOk result (HasMet self.new.met s e (S.faults spawner.new) (E.faults entropy.new)) }
         ensures fixed { T.fixed self.new.taker ≡ T.fixed self.old.taker }
         ensures moment { C.moment clock.new ≡ C.moment clock.old }
         ensures bytes { E.bytes entropy.new ≡ E.bytes entropy.old }
     {
-        let number = self.places.as_slice().len() as u64 + 1;
+        let number = self.positions.as_slice().len() as u64 + 1;
         let to = self.to.try_clone()?;
         if !self.taker.connect(clock, entropy, number, outgoing)? {
             self.met = first(self.met, Trouble::Entropy);
@@ -325,7 +325,7 @@ impl<
         let job = ReaderJob::new(self.rt, self.alloc, incoming, to, pass, number);
         match spawner.start(job) {
             Ok(worker) => {
-                self.places.push_reserved(Place {
+                self.positions.push_reserved(Slot {
                     worker: Some(worker),
                     ended: false,
                 });
@@ -334,7 +334,7 @@ impl<
             Err(_) => {
                 self.met = first(self.met, Trouble::Worker);
                 self.taker.gone(clock, number)?;
-                self.places.push_reserved(Place {
+                self.positions.push_reserved(Slot {
                     worker: None,
                     ended: false,
                 });
@@ -356,17 +356,17 @@ impl<
     ) -> Result<(), NoMemory>
         requires going { IsGoing T.events self.old }
         requires held { IsHeld I.told T.numbers self.old }
-        requires many { length (T.numbers self.old.taker) ≡ length self.old.places.items }
+        requires many { length (T.numbers self.old.taker) ≡ length self.old.positions.items }
         requires right { T.keeps self.old.taker (C.moment clock.old) (E.bytes entropy.old) }
         requires met { self.old.met ≡ None }
         ensures going { OnOk result (IsGoing T.events self.new) }
-        ensures over { OnOk result (are_over self.new.places.items ≡ true) }
+        ensures over { OnOk result (are_over self.new.positions.items ≡ true) }
         ensures closed { OnOk result (has_closed (items_of number 0 (view self.new.pass).got) ≡ true) }
-        ensures merged { OnOk result (AreMerged (T.events self.new.taker) (feeds self.new.places.items (view self.new.pass).got)) }
+        ensures merged { OnOk result (AreMerged (T.events self.new.taker) (feeds self.new.positions.items (view self.new.pass).got)) }
         ensures queue { self.new.to ≡ self.old.to }
         ensures held { IsHeld I.told T.numbers self.new }
-        ensures readers { HasStarted self.old.places.items self.new.places.items (S.started spawner.old) (S.started spawner.new) }
-        ensures many { OnOk result (length (T.numbers self.new.taker) ≡ length self.new.places.items) }
+        ensures readers { HasStarted self.old.positions.items self.new.positions.items (S.started spawner.old) (S.started spawner.new) }
+        ensures many { OnOk result (length (T.numbers self.new.taker) ≡ length self.new.positions.items) }
         ensures right { OnOk result (T.keeps self.new.taker (C.moment clock.old) (E.bytes entropy.old)) }
         ensures met { OnOk result (HasMet self.new.met (S.faults spawner.old) (E.faults entropy.old) (S.faults spawner.new) (E.faults entropy.new)) }
         ensures fixed { T.fixed self.new.taker ≡ T.fixed self.old.taker }
@@ -375,7 +375,7 @@ impl<
     {
         let rt = self.rt;
         for _ in rt.forever() {
-            if self.closed && all_ended(self.places.as_slice()) {
+            if self.closed && all_ended(self.positions.as_slice()) {
                 return Ok(());
             }
             self.step(spawner, clock, entropy)?;
@@ -387,7 +387,7 @@ impl<
     fn pass_by(&mut self, item: Item<Pair<I, O>>)
         requires held { IsHeld I.told T.numbers self.old }
         ensures held { IsHeld I.told T.numbers self.new }
-        ensures workers { workers_of self.new.places.items ≡ workers_of self.old.places.items }
+        ensures workers { workers_of self.new.positions.items ≡ workers_of self.old.positions.items }
         ensures taker { self.new.taker ≡ self.old.taker }
     {
         let Item { from, what } = item;
@@ -406,7 +406,7 @@ impl<
     fn close_halves(&mut self)
         requires held { IsHeld I.told T.numbers self.old }
         ensures held { IsHeld I.told T.numbers self.new }
-        ensures places { self.new.places ≡ self.old.places }
+        ensures positions { self.new.positions ≡ self.old.positions }
         ensures shut { T.shut self.new.taker }
     {
         self.taker.close_all();
@@ -418,14 +418,14 @@ impl<
     pub fn drain(&mut self)
         requires held { IsHeld I.told T.numbers self.old }
         ensures held { IsHeld I.told T.numbers self.new }
-        ensures workers { workers_of self.new.places.items ≡ workers_of self.old.places.items }
+        ensures workers { workers_of self.new.positions.items ≡ workers_of self.old.positions.items }
         ensures shut { T.shut self.new.taker }
-        ensures over { are_over self.new.places.items ≡ true }
+        ensures over { are_over self.new.positions.items ≡ true }
     {
         self.close_halves();
         let rt = self.rt;
         for _ in rt.forever() {
-            if self.closed && all_ended(self.places.as_slice()) {
+            if self.closed && all_ended(self.positions.as_slice()) {
                 return;
             }
             let item = take(&self.rt, &self.at, &mut self.pass);

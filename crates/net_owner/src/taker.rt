@@ -33,7 +33,7 @@ pub trait Taker<O: Outgoing> {
         half: O,
     ) -> Result<bool, NoMemory>
         requires fresh { (j : ℕ) → k ≤ j → shown j (events self.old) ≡ [] }
-        requires place { k ≡ length (numbers self.old) + 1 }
+        requires position { k ≡ length (numbers self.old) + 1 }
         requires blank { IsBlank (O.told half) }
         requires right { keeps self.old (C.moment clock.old) (E.bytes entropy.old) }
         ensures came { IfOk result (λ came. events self.new ≡ (if came then events self.old ++ event k Connect ∷ [] else events self.old)) }
@@ -48,7 +48,7 @@ pub trait Taker<O: Outgoing> {
 
     /// A piece came on connection `k`.
     fn piece<C: Clock>(&mut self, clock: &mut C, k: u64, piece: Piece) -> Result<(), NoMemory>
-        requires place { (1 ≤ k) × (k ≤ length (numbers self.old)) }
+        requires position { (1 ≤ k) × (k ≤ length (numbers self.old)) }
         ensures gave { OnOk result (events self.new ≡ events self.old ++ event k (Gave piece.bytes.items) ∷ []) }
         ensures halves { numbers self.new ≡ numbers self.old }
         ensures right { (drawn : Option (List ℕ)) → keeps self.old (C.moment clock.old) drawn → OnOk result (keeps self.new (C.moment clock.old) drawn) }
@@ -57,7 +57,7 @@ pub trait Taker<O: Outgoing> {
 
     /// Connection `k` is gone. Its half was closed.
     fn gone<C: Clock>(&mut self, clock: &mut C, k: u64) -> Result<(), NoMemory>
-        requires place { (1 ≤ k) × (k ≤ length (numbers self.old)) }
+        requires position { (1 ≤ k) × (k ≤ length (numbers self.old)) }
         ensures gone { OnOk result (events self.new ≡ events self.old ++ event k Gone ∷ []) }
         ensures halves { numbers self.new ≡ numbers self.old }
         ensures right { (drawn : Option (List ℕ)) → keeps self.old (C.moment clock.old) drawn → OnOk result (keeps self.new (C.moment clock.old) drawn) }

@@ -45,5 +45,5 @@ is_empty p = length p.bytes == 0
 abbrev pub is_end_due : Pipe → Bool
 is_end_due p = is_empty p && p.ended && not p.told
 
-abbrev pub with_end_told : Pipe → Pipe
-with_end_told p = record p { told = true }
+abbrev pub with_end_reported : Pipe → Pipe
+with_end_reported p = record p { told = true }

@@ -1,7 +1,7 @@
 //! One direction of a connection.
 ghost use Rattle.std.specs.Prelude.{◌≡◌, ◌≤◌, length, take, true, IsOk, OnErr, OnOk};
 ghost use Rattle.net_pipes.specs.Pipes;
-ghost use Rattle.net_pipes.specs.Pipes.{closed, cut_to, empty_pipe, emptied, entered, handed, risen, with_end_told};
+ghost use Rattle.net_pipes.specs.Pipes.{closed, cut_to, empty_pipe, emptied, entered, handed, risen, with_end_reported};
 
 use base_io::NoMemory;
 use std::alloc::Global;
@@ -155,7 +155,7 @@ impl Pipe {
 
     /// The end was told. It takes no memory.
     pub fn tell_end(&mut self)
-        ensures { self.new ≡ with_end_told self.old }
+        ensures { self.new ≡ with_end_reported self.old }
     {
         self.told = true;
     }

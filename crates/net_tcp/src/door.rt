@@ -128,7 +128,13 @@ where
 fn keep<S: Drop>(given: &mut GivenBack<Counts>, incoming: TcpIncoming<S>, outgoing: TcpOutgoing<S>)
     ensures { told_links given.new ≡ told_links given.old ++ link_of_halves incoming outgoing ∷ [] }
 {
-    let TcpIncoming { faults, ends, log, room, .. } = incoming;
+    let TcpIncoming {
+        faults,
+        ends,
+        log,
+        room,
+        ..
+    } = incoming;
     let counts = Counts {
         read_faults: faults,
         ends,

@@ -11,12 +11,12 @@ use Rattle.sim_1_applications.specs.Stanzas.Down.{Res, Fin, NotFound}
 use Rattle.sim_1_applications.specs.Devices.{Reading, Device, OpenPage, Answer, log_of}
 use Rattle.sim_1_applications.specs.Devices.Row.{Present}
 use Rattle.sim_1_applications.specs.Devices.Stage.{Known}
-use Rattle.sim_1_applications.specs.Answers.{behind, last_in, answer_of, is_place, page_from, edge, size}
+use Rattle.sim_1_applications.specs.Answers.{following, last_in, page_answer_of, is_position, page_from, edge, size}
 use Rattle.sim_1_applications.specs.Events.{number_or_none}
 use Rattle.sim_1_applications.specs.Events as events
-use Rattle.sim_1_applications.specs.Kept.{IsFront, IsPlace, IsAnswered, IsAt, IsOpen, IsPage, PageKept, AreLogged, request_of}
+use Rattle.sim_1_applications.specs.Kept.{IsFront, IsPosition, IsAnswered, IsAt, IsOpen, IsPage, PageKept, AreLogged, request_of}
 use Rattle.sim_1_applications.proofs.Numbered.{requests_append, answers_append}
-use Rattle.sim_1_applications.proofs.Intervals.{next_of_page, not_found_next, new_behind}
+use Rattle.sim_1_applications.proofs.Intervals.{next_of_page, not_found_next, new_after}
 use Rattle.sim_1_applications.proofs.Logs.{IsTaken, broken_after, run_after, taken, logged_then}
 
 -- the next stanza is the next one of the answer to the open page
@@ -70,7 +70,7 @@ next_answer keep first last d z rest on split is kept = of_page d.reading.page r
 
 -- the numbers of the page
 abbrev pub numbers_of : Answer → OpenPage → List ℕ
-numbers_of a page = behind (edge a.first page.after) (size (edge a.first page.after) a.last page.max)
+numbers_of a page = following (edge a.first page.after) (size (edge a.first page.after) a.last page.max)
 
 abbrev pub end_of : Answer → OpenPage → Down
 end_of a page = Fin page.number (nat_le (a.last - edge a.first page.after) page.max) (last_in (numbers_of a page)) (a.last + 1 - a.first)
@@ -78,20 +78,20 @@ end_of a page = Fin page.number (nat_le (a.last - edge a.first page.after) page.
 -- a result and more to come; the page's end; or the place wasn't kept
 pub data Kind (page : OpenPage) (a : Answer) (z : Down) (tail : List Down) : Type 0 where
   AResult : (n : ℕ) (more : List ℕ) → z ≡ Res page.number n → numbers_of a page ≡ page.results ++ n ∷ more → tail ≡ map (Res page.number) more ++ end_of a page ∷ [] → Kind page a z tail
-  AnEnd : is_place a.first a.last page.after ≡ true → z ≡ end_of a page → page.results ≡ numbers_of a page → tail ≡ [] → Kind page a z tail
-  NoPlace : is_place a.first a.last page.after ≡ false → z ≡ NotFound page.number → page.results ≡ [] → tail ≡ [] → Kind page a z tail
+  AnEnd : is_position a.first a.last page.after ≡ true → z ≡ end_of a page → page.results ≡ numbers_of a page → tail ≡ [] → Kind page a z tail
+  NoPlace : is_position a.first a.last page.after ≡ false → z ≡ NotFound page.number → page.results ≡ [] → tail ≡ [] → Kind page a z tail
 
-pub kind_of : (page : OpenPage) (a : Answer) (z : Down) (tail : List Down) → map (Res page.number) page.results ++ z ∷ tail ≡ answer_of a.first a.last (request_of page) → Kind page a z tail
-kind_of page a z tail same = chosen (is_place a.first a.last page.after) refl same
+pub kind_of : (page : OpenPage) (a : Answer) (z : Down) (tail : List Down) → map (Res page.number) page.results ++ z ∷ tail ≡ page_answer_of a.first a.last (request_of page) → Kind page a z tail
+kind_of page a z tail same = chosen (is_position a.first a.last page.after) refl same
   where
-    chosen : (b : Bool) → is_place a.first a.last page.after ≡ b →
+    chosen : (b : Bool) → is_position a.first a.last page.after ≡ b →
         map (Res page.number) page.results ++ z ∷ tail ≡ cond b (page_from (edge a.first page.after) a.first a.last (request_of page)) (NotFound page.number ∷ []) → Kind page a z tail
-    chosen true place e =
+    chosen true position e =
         elim (next_of_page page.number page.results (numbers_of a page) z (end_of a page) tail (λ n wrong. let bad : ⊥ = cc in bad) e) [
           | inl more ↦ AResult more.0 more.1 more.2 more.3 more.4
-          | inr over ↦ AnEnd place over.0 over.1 over.2
+          | inr over ↦ AnEnd position over.0 over.1 over.2
         ]
-    chosen false place e = let three = not_found_next page.number page.number page.results z tail e in NoPlace place three.1 three.0 three.2
+    chosen false position e = let three = not_found_next page.number page.number page.results z tail e in NoPlace position three.1 three.0 three.2
 
 -- A result.
 
@@ -143,7 +143,7 @@ page_result keep x d page a n more rest tail next numbers tail_is on known_stage
           kept = known.kept;
           first_rises = known.first_rises;
           last_rises = known.last_rises;
-          place = known.place;
+          position = known.position;
           logged = known.logged;
           began = known.began;
         };
@@ -161,11 +161,11 @@ nothing_underway [] tail front none = refl
 nothing_underway (z ∷ xs) tail front none = absurd (let all : tail ≡ z ∷ (xs ++ front.0) = front.1 in let bad : ⊥ = cc in bad)
 
 -- the place is a number, below the archive's first
-pub lost_place : (first last : ℕ) (run : List ℕ) (after : Option ℕ) → is_place first last after ≡ false → IsPlace first run after → number_or_none (last_in run) ≤ last →
+pub lost_position : (first last : ℕ) (run : List ℕ) (after : Option ℕ) → is_position first last after ≡ false → IsPosition first run after → number_or_none (last_in run) ≤ last →
     (n : ℕ) × (after ≡ Some n) × (number_or_none (last_in run) < first)
-lost_place first last run None lost place logged = absurd (let bad : ⊥ = cc in bad)
-lost_place first last run (Some n) lost place logged =
-    elim place.behind [
+lost_position first last run None lost position logged = absurd (let bad : ⊥ = cc in bad)
+lost_position first last run (Some n) lost position logged =
+    elim position.following [
       | inr purged ↦ absurd (let e : Some n ≡ None = purged.0 in let bad : ⊥ = cc in bad)
       | inl is ↦
           let e : n ≡ number_or_none (last_in run) = ap number_or_none is in (
@@ -187,9 +187,9 @@ reads_restart x b page n is after =
 
 -- a request more, with nothing of an answer under way
 asked_again : (keep : ℕ) (x : events.Around) (after : Option ℕ) (max began : ℕ) (b : Reading) (d : Device) (z : Down) (rest : List Down) → 1 ≤ max → max ≤ 100 →
-    requests d.sessions.now.up_rest ≡ [] → answers rest ≡ [] → IsPlace x.first b.run after → began ≤ x.last → b.faulty ≡ false → d.sessions.online ≡ true → d.sessions.now.stage ≡ Known →
+    requests d.sessions.now.up_rest ≡ [] → answers rest ≡ [] → IsPosition x.first b.run after → began ≤ x.last → b.faulty ≡ false → d.sessions.online ≡ true → d.sessions.now.stage ≡ Known →
     PageKept keep x.first x.last (events.reacted (events.asking after max began b) z rest d)
-asked_again keep x after max began b d z rest low high request underway place early_enough no_fault on known_stage =
+asked_again keep x after max began b d z rest low high request underway position early_enough no_fault on known_stage =
     let r : Request = record { number = b.asked + 1; after = after; max = max } in
     record {
       early = λ stage. absurd (stage known_stage);
@@ -202,7 +202,7 @@ asked_again keep x after max began b d z rest low high request underway place ea
           request = requests_append d.sessions.now.up_rest (Query r ∷ []) ∙ ap (λ rs. rs ++ r ∷ []) request;
           underway = underway;
           results = refl;
-          place = place;
+          position = position;
           began = early_enough;
         };
       };
@@ -211,18 +211,18 @@ asked_again keep x after max began b d z rest low high request underway place ea
 
 -- A6 behind a restart
 pub page_restart : (keep : ℕ) (x : events.Around) (d : Device) (page : OpenPage) (a : Answer) (rest tail : List Down) →
-    IsNext keep x.first x.last d page a (NotFound page.number) rest tail → is_place a.first a.last page.after ≡ false → tail ≡ [] →
+    IsNext keep x.first x.last d page a (NotFound page.number) rest tail → is_position a.first a.last page.after ≡ false → tail ≡ [] →
     d.sessions.online ≡ true → d.sessions.now.stage ≡ Known → PageKept keep x.first x.last d →
     PageKept keep x.first x.last (events.reacted (events.reads x (NotFound page.number) d.reading) (NotFound page.number) rest d)
 page_restart keep x d page a rest tail next lost over on known_stage kept =
     let known = next.answered in
     let opened = next.opened in
-    let place = lost_place a.first a.last d.reading.run page.after lost known.place known.logged in
+    let position = lost_position a.first a.last d.reading.run page.after lost known.position known.logged in
     let first = known.first_rises in
     let last = known.last_rises in
-    subst (λ reaction. PageKept keep x.first x.last (events.reacted reaction (NotFound page.number) rest d)) (sym (reads_restart x d.reading page place.0 next.page_is place.1))
+    subst (λ reaction. PageKept keep x.first x.last (events.reacted reaction (NotFound page.number) rest d)) (sym (reads_restart x d.reading page position.0 next.page_is position.1))
     (asked_again keep x None page.max page.began d.reading d (NotFound page.number) rest opened.some opened.most known.request (nothing_underway (answers rest) tail next.underway over)
-    (record { behind = inr (refl, let low = place.2 in omega arith); reaches = λ n at. let low = known.place.reaches n at in omega arith })
+    (record { following = inr (refl, let low = position.2 in omega arith); reaches = λ n at. let low = known.position.reaches n at in omega arith })
     (let b = known.began in omega arith) kept.no_fault on known_stage)
 
 -- The end of a page.
@@ -234,9 +234,9 @@ four_true true false e f p q r s = q
 four_true true true false f p q r s = r
 four_true true true true false p q r s = s
 
-same_place_self : (o : Option ℕ) → events.same_place o o ≡ true
-same_place_self None = refl
-same_place_self (Some n) = eq-eqb n n refl
+same_position_self : (o : Option ℕ) → events.same_position o o ≡ true
+same_position_self None = refl
+same_position_self (Some n) = eq-eqb n n refl
 
 -- what the client does at the end
 abbrev pub ended : events.Around → Bool → ℕ → OpenPage → Reading → events.Reaction
@@ -250,19 +250,19 @@ reads_end : (x : events.Around) (b : Reading) (page : OpenPage) (complete : Bool
 reads_end x b page complete last count is same new some =
     ap (λ o. option_map_or (λ p. events.fin x page.number complete last count p b) o (events.refuse b)) is
     ∙ ap (λ t. cond t (ended x complete count page b) (events.refuse b))
-    (four_true _ _ _ _ (eq-eqb page.number page.number refl) (ap (λ o. events.same_place o (last_in page.results)) same ∙ same_place_self (last_in page.results)) new some)
+    (four_true _ _ _ _ (eq-eqb page.number page.number refl) (ap (λ o. events.same_position o (last_in page.results)) same ∙ same_position_self (last_in page.results)) new some)
 
 -- the results of a page that isn't complete
-some_results : (n k : ℕ) → 1 ≤ k → not (events.is_empty (behind n k)) ≡ true
+some_results : (n k : ℕ) → 1 ≤ k → not (events.is_empty (following n k)) ≡ true
 some_results n zero low = absurd (omega arith)
 some_results n (suc k) low = refl
 
-complete_or_some : (low last max : ℕ) → 1 ≤ max → (nat_le (last - low) max || not (events.is_empty (behind low (size low last max)))) ≡ true
+complete_or_some : (low last max : ℕ) → 1 ≤ max → (nat_le (last - low) max || not (events.is_empty (following low (size low last max)))) ≡ true
 complete_or_some low last max some = elim (cases_Bool (nat_le (last - low) max)) [
-  | inl is ↦ ap (λ b. b || not (events.is_empty (behind low (size low last max)))) is
+  | inl is ↦ ap (λ b. b || not (events.is_empty (following low (size low last max)))) is
   | inr not_all ↦
       let more = leb-false (last - low) max not_all in
-      ap (λ b. b || not (events.is_empty (behind low (size low last max)))) not_all ∙ some_results low (size low last max) (omega arith)
+      ap (λ b. b || not (events.is_empty (following low (size low last max)))) not_all ∙ some_results low (size low last max) (omega arith)
 ]
 
 -- what the page leaves of the log, at the archive's ends of then
@@ -272,12 +272,12 @@ TakenThen b page a =
     (broken_after page.after b.broken b.run (numbers_of a page)) (run_after page.after b.run (numbers_of a page))
 
 pub taken_then : (keep first last : ℕ) (d : Device) (page : OpenPage) (a : Answer) (z : Down) (rest tail : List Down) → 1 ≤ keep → IsNext keep first last d page a z rest tail →
-    is_place a.first a.last page.after ≡ true → AreLogged first last d.reading.broken d.reading.run → TakenThen d.reading page a
+    is_position a.first a.last page.after ≡ true → AreLogged first last d.reading.broken d.reading.run → TakenThen d.reading page a
 taken_then keep first last d page a z rest tail some next placed known =
     let answered = next.answered in
     taken keep a.first a.last a.first a.last page.max d.reading.broken d.reading.run page.after
-    (logged_then first last a.first a.last d.reading.broken d.reading.run known answered.place.reaches answered.logged)
-    answered.place placed answered.kept some next.opened.some (omega arith) (omega arith)
+    (logged_then first last a.first a.last d.reading.broken d.reading.run known answered.position.reaches answered.logged)
+    answered.position placed answered.kept some next.opened.some (omega arith) (omega arith)
 
 -- what is read at the end of a page
 pub end_is_read : (keep : ℕ) (x : events.Around) (d : Device) (page : OpenPage) (a : Answer) (rest tail : List Down) → IsNext keep x.first x.last d page a (end_of a page) rest tail →
@@ -286,7 +286,7 @@ pub end_is_read : (keep : ℕ) (x : events.Around) (d : Device) (page : OpenPage
 end_is_read keep x d page a rest tail next results then =
     let low = edge a.first page.after in
     reads_end x d.reading page (nat_le (a.last - low) page.max) (last_in (numbers_of a page)) (a.last + 1 - a.first) next.page_is (ap last_in (sym results))
-    (ap (events.are_new (log_of d.reading)) results ∙ new_behind (log_of d.reading) low (size low a.last page.max) then.new)
+    (ap (events.are_new (log_of d.reading)) results ∙ new_after (log_of d.reading) low (size low a.last page.max) then.new)
     (ap (λ ns. nat_le (a.last - low) page.max || not (events.is_empty ns)) results ∙ complete_or_some low a.last page.max next.opened.some)
 
 -- A6 behind the end of a page
@@ -315,7 +315,7 @@ page_end keep x d page a rest tail next results over then on known_stage kept =
         asked_again keep x (last_in (run_after page.after d.reading.run page.results)) page.max x.last (events.over x false count page d.reading) d (end_of a page) rest
         next.opened.some next.opened.most next.answered.request nothing
         (record {
-          behind = inl refl;
+          following = inl refl;
           reaches = subst (λ ns. (n : ℕ) → slice_get (run_after page.after d.reading.run ns) 0 ≡ Some n → n ≤ x.first) (sym results)
               (λ n at. let r = then.logged.reaches n at in omega arith);
         })

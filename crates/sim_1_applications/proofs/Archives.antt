@@ -5,13 +5,13 @@ use Rattle.std.proofs.lemmas.List.Elements.{filter-append}
 use Rattle.std.specs.List.{filter, AllByRecursion, slice_get}
 use Rattle.sim_1_applications.specs.Stanzas.{Submission, Up, messages}
 use Rattle.sim_1_applications.specs.Stanzas.Up.{Carbons, Presence, Message, Query}
-use Rattle.sim_1_applications.specs.Devices.{Device, Take, Made, World, epoch_of, concerns, last_of, up_put}
+use Rattle.sim_1_applications.specs.Devices.{Device, Take, Made, AppWorld, epoch_of, concerns, last_of, up_put}
 use Rattle.sim_1_applications.specs.Events as events
 use Rattle.sim_1_applications.specs.Kept.{is_of, said_in, TakesKept, AreMoments, AreNumbered, SessionsKept, IsSettledAt}
 use Rattle.sim_1_applications.proofs.Lists.{all_append, all_weaker}
 use Rattle.sim_1_applications.proofs.Numbered.{messages_append, numbered_rest}
 use Rattle.sim_1_applications.proofs.Takes.{handled_becomes, is_of_taken, account_hear_all, account_own}
-use Rattle.sim_1_applications.proofs.Worlds.{same_place, at_place}
+use Rattle.sim_1_applications.proofs.Worlds.{same_position, at_position}
 
 -- what holds of each take of a message to an account that exists holds of the takes of an act
 taking_all : (P : Take → Type 0) (accounts : List (List ℕ)) (moment i : ℕ) (account : List ℕ) (zs : List Up) →
@@ -67,13 +67,13 @@ taken_is_new accounts moment i (events.Act.Say to text private) d may kept = tt
 taken_is_new accounts moment i (events.Act.CatchUp max) d may kept = tt
 taken_is_new accounts moment i events.Act.ClientHandles d may kept = tt
 
-pub account_becomes : (w : World) (new : List Take) (i : ℕ) (act : events.Act) (j : ℕ) (d : Device) → (events.becomes w new i act j d).account ≡ d.account
+pub account_becomes : (w : AppWorld) (new : List Take) (i : ℕ) (act : events.Act) (j : ℕ) (d : Device) → (events.becomes w new i act j d).account ≡ d.account
 account_becomes w new i act j d =
     account_hear_all (w.takes ++ new) (events.full_of act) new j _
-    ∙ at_place (j == i) _ _ (λ e. e.account ≡ d.account) (λ _. account_own (events.around w d) act d) (λ _. refl)
+    ∙ at_position (j == i) _ _ (λ e. e.account ≡ d.account) (λ _. account_own (events.around w d) act d) (λ _. refl)
 
 -- A4 of each device of the next world
-pub takes_becomes : (w : World) (i : ℕ) (act : events.Act) (own : Device) (j : ℕ) (d : Device) →
+pub takes_becomes : (w : AppWorld) (i : ℕ) (act : events.Act) (own : Device) (j : ℕ) (d : Device) →
     slice_get w.devices i ≡ Some own → slice_get w.devices j ≡ Some d → TakesKept w.accounts w.takes j d →
     TakesKept w.accounts (w.takes ++ events.taken_by w.accounts w.clock i own act) j (events.becomes w (events.taken_by w.accounts w.clock i own act) i act j d)
 takes_becomes w i act own j d at here kept =
@@ -94,7 +94,7 @@ takes_becomes w i act own j d at here kept =
   where
     new_home : (b : Bool) → (j == i) ≡ b → AllByRecursion (λ t. t.account ≡ d.account) (cond b (events.taken_by w.accounts w.clock i own act) [])
     new_home true is =
-        let j_is_i = same_place j i is in
+        let j_is_i = same_position j i is in
         let same : own ≡ d = (let g : slice_get w.devices j ≡ slice_get w.devices i = ap (slice_get w.devices) j_is_i in cc) in
         taken_all (λ t. t.account ≡ d.account) w.accounts w.clock i act own (λ m rest split. ap (λ e. e.account) same)
     new_home false is = tt

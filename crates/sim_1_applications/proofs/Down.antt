@@ -9,10 +9,10 @@ use Rattle.sim_1_applications.specs.Stanzas.{Request, Up, Down, requests}
 use Rattle.sim_1_applications.specs.Stanzas.Up.{Carbons, Presence, Message, Query}
 use Rattle.sim_1_applications.specs.Stanzas.Down.{Bounced, NotFound, Res, Fin, Live}
 use Rattle.sim_1_applications.specs.Devices.{Device, OpenPage, Session, Take, last_of, new_device}
-use Rattle.sim_1_applications.specs.Answers.{answer_of, behind, edge, is_place, last_in, page_from, size}
+use Rattle.sim_1_applications.specs.Answers.{edge, following, is_position, last_in, page_answer_of, page_from, size}
 use Rattle.sim_1_applications.specs.Events as events
 use Rattle.sim_1_applications.specs.Kept.{SessionsKept}
-use Rattle.sim_1_applications.proofs.Intervals.{length_behind}
+use Rattle.sim_1_applications.proofs.Intervals.{length_after}
 use Rattle.sim_1_applications.proofs.Lists.{all_append, all_rest, all_weaker}
 use Rattle.sim_1_applications.proofs.Numbered.{requests_append}
 use Rattle.sim_1_applications.specs.Counts.{IsDownFew}
@@ -35,10 +35,10 @@ length_answer : (first last : ℕ) (r : Request) (b : Bool) → (let zs : List D
 length_answer first last r false = omega arith
 length_answer first last r true =
     let low = edge first r.after in
-    let ns = behind low (size low last r.max) in
+    let ns = following low (size low last r.max) in
     let ends = length_push (map (Res r.number) ns) (Fin r.number (nat_le (last - low) r.max) (last_in ns) (last + 1 - first)) in
     let many = length-map {B = Down} ns (Res r.number) in
-    let count = length_behind low (size low last r.max) in
+    let count = length_after low (size low last r.max) in
     omega arith
 
 length_bounce : (b : Bool) (e n : ℕ) → (let zs : List Down = cond b [] (Bounced e n ∷ []) in length zs ≤ 101)
@@ -49,7 +49,7 @@ length_reply : (a : events.Around) (z : Up) (rest : List Up) → AllByRecursion 
 length_reply a Carbons rest small = omega arith
 length_reply a Presence rest small = omega arith
 length_reply a (Message m) rest small = length_bounce (events.is_among m.to a.accounts) m.epoch m.n
-length_reply a (Query r) rest small = let few = length_answer a.first a.last r (is_place a.first a.last r.after) in let low = small.0 in omega arith
+length_reply a (Query r) rest small = let few = length_answer a.first a.last r (is_position a.first a.last r.after) in let low = small.0 in omega arith
 
 -- more takes
 
@@ -74,7 +74,7 @@ page_of_request : (a : events.Around) (r : Request) (o : Option OpenPage) (p : O
 page_of_request a r None p is = absurd (let no : ⊥ = cc in no)
 page_of_request a r (Some old) p is = chosen (old.number == r.number) (events.answered a r old) refl (same_Some (events.answered a r old) p is)
   where
-    chosen : (b : Bool) (new : OpenPage) → new ≡ cond b (record old { answer = Some (record { first = a.first; last = a.last; rest = answer_of a.first a.last r }) }) old → new ≡ p → HasMost (Some old) p
+    chosen : (b : Bool) (new : OpenPage) → new ≡ cond b (record old { answer = Some (record { first = a.first; last = a.last; rest = page_answer_of a.first a.last r }) }) old → new ≡ p → HasMost (Some old) p
     chosen true new made same = (old, refl, sym (ap (λ (q : OpenPage). q.max) same) ∙ ap (λ (q : OpenPage). q.max) made)
     chosen false new made same = (old, refl, sym (ap (λ (q : OpenPage). q.max) same) ∙ ap (λ (q : OpenPage). q.max) made)
 
@@ -102,7 +102,7 @@ served a fits (z ∷ rest) d k split kept =
           let got = length_push d.sessions.now.up_got z in
           let more = length-append d.sessions.now.down_rest (take fits (events.reply a z)) in
           let before = length-append d.sessions.now.down_got d.sessions.now.down_rest in
-          let behind_it = length-append d.sessions.now.down_got (d.sessions.now.down_rest ++ take fits (events.reply a z)) in
+          let after_it = length-append d.sessions.now.down_got (d.sessions.now.down_rest ++ take fits (events.reply a z)) in
           omega arith;
     }
 
@@ -187,7 +187,7 @@ hears takes full t j d k kept = record {
       let was = kept.now in
       let more = length-append d.sessions.now.down_rest live in
       let before = length-append d.sessions.now.down_got d.sessions.now.down_rest in
-      let behind_it = length-append d.sessions.now.down_got (d.sessions.now.down_rest ++ live) in
+      let after_it = length-append d.sessions.now.down_got (d.sessions.now.down_rest ++ live) in
       omega arith;
 }
 

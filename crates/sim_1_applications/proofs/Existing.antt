@@ -9,7 +9,7 @@ use Rattle.base_lemmas.proofs.Bytes.{bytes_eq-self}
 use Rattle.mam_log.specs.LogPages.{LogPage}
 use Rattle.cmd_report.specs.Lines.{logged_from, page_line, take_line}
 use Rattle.cmd_report.specs.Reports.{DeviceView, ReportView}
-use Rattle.cmd_report.specs.Worlds.{World}
+use Rattle.cmd_report.specs.Worlds.{ReportWorld}
 use Rattle.cmd_report.specs.declared.report.RefusedLine.{RefusedLine}
 use Rattle.cmd_schedule.specs.Contents.{Owned, accounts_of}
 use Rattle.cmd_schedule.specs.Schedules.{WireView, keep_of}
@@ -17,12 +17,12 @@ use Rattle.cmd_schedule.specs.WireGrammar.{IsWireSchedule, nothing_above}
 use Rattle.sim_1_applications.proofs.Later.{later_along}
 use Rattle.sim_1_applications.specs.Devices as sessions
 use Rattle.sim_1_applications.specs.Devices.{Device, Tile, epoch_of}
-use Rattle.sim_1_applications.specs.Events.{Event, Reaches}
+use Rattle.sim_1_applications.specs.Events.{AppEvent, Reaches}
 use Rattle.sim_1_applications.specs.Histories.{asked_of, states_of}
 use Rattle.sim_1_applications.proofs.LawsKept.{many_homes}
 use Rattle.sim_1_applications.proofs.Owners.{Differ, name_other, names_differ, names_of}
 use Rattle.sim_1_applications.proofs.WireSteps.{wire_stand}
-use Rattle.sim_1_applications.specs.Reported.{AreDeviceLines, AreShown, IsShown, account_line, held_line, history_at, pages_of, pages_with, said_of, take_of, underway_of}
+use Rattle.sim_1_applications.specs.Reported.{AreDeviceLines, AreRepresented, IsShown, account_line, held_line, history_at, pages_of, pages_with, said_of, take_of, underway_of}
 use Rattle.sim_1_applications.specs.Runs.{IsLineDone, IsRunOf, LineRun, begins, moves_of, owned_of, refused_by, steps_in}
 
 -- Worlds.
@@ -49,7 +49,7 @@ abbrev asked_for : Option Device → ℕ
 asked_for None = 0
 asked_for (Some d) = asked_of d.reading
 
-abbrev shown_by : List Owned → sessions.World → World
+abbrev shown_by : List Owned → sessions.AppWorld → ReportWorld
 shown_by owned w = record {
   archive = λ account. newest w.keep (history_at owned w.takes account);
   pages = λ name. pages_for w.keep owned w.takes (device_of owned w.devices name);
@@ -60,7 +60,7 @@ pages_many : (keep : ℕ) (history : List EntryView) (ts : List Tile) (numbers :
 pages_many keep history [] numbers = refl
 pages_many keep history (t ∷ ts) numbers = ap suc (pages_many keep history ts (drop t.count numbers))
 
-is_shown : (owned : List Owned) (w : sessions.World) → Differ (names_of owned) → IsShown owned w (shown_by owned w)
+is_shown : (owned : List Owned) (w : sessions.AppWorld) → Differ (names_of owned) → IsShown owned w (shown_by owned w)
 is_shown owned w differ = record {
   archive = λ account exists. refl;
   pages = λ i o d owner at. ap (λ found. length (pages_for w.keep owned w.takes found)) (device_found owned w.devices i o d differ owner at)
@@ -68,7 +68,7 @@ is_shown owned w differ = record {
   asked = λ i o d owner at. ap asked_for (device_found owned w.devices i o d differ owner at);
 }
 
-are_shown : (owned : List Owned) (ws : List sessions.World) → Differ (names_of owned) → AreShown owned ws (map (shown_by owned) ws)
+are_shown : (owned : List Owned) (ws : List sessions.AppWorld) → Differ (names_of owned) → AreRepresented owned ws (map (shown_by owned) ws)
 are_shown owned [] differ = tt
 are_shown owned (w ∷ ws) differ = (is_shown owned w differ, are_shown owned ws differ)
 
@@ -107,7 +107,7 @@ all_refused keep history refused [] ds = tt
 all_refused keep history refused (o ∷ owned) [] = tt
 all_refused keep history refused (o ∷ owned) (d ∷ ds) = (refl, all_refused keep history refused owned ds)
 
-abbrev report_by : WireView → List LineRun → sessions.World → ReportView
+abbrev report_by : WireView → List LineRun → sessions.AppWorld → ReportView
 report_by s runs last = record {
   version = s.version;
   wire = true;
@@ -117,12 +117,12 @@ report_by s runs last = record {
   devices = lines_by (keep_of s.version) (history_at (owned_of s) last.takes) (λ name. refused_by name runs) (owned_of s) last.devices;
 }
 
-pub reported : (s : WireView) (runs : List LineRun) (last : sessions.World) → IsWireSchedule s → map (λ (r : LineRun). r.line) runs ≡ s.lines → AllByRecursion (IsLineDone (owned_of s)) runs →
-    Reaches (flat_map (λ (move : List Event). move) (moves_of runs)) (begins s) last → length last.takes ≤ 4294967295 →
+pub reported : (s : WireView) (runs : List LineRun) (last : sessions.AppWorld) → IsWireSchedule s → map (λ (r : LineRun). r.line) runs ≡ s.lines → AllByRecursion (IsLineDone (owned_of s)) runs →
+    Reaches (flat_map (λ (move : List AppEvent). move) (moves_of runs)) (begins s) last → length last.takes ≤ 4294967295 →
     IsRunOf s (map (shown_by (owned_of s)) (states_of (begins s) (moves_of runs))) (report_by s runs last)
 reported s runs last right lines done reaches few =
     let differ = names_differ (steps_in s) (wire_stand [] nothing_above 2 s.lines refl right.lines) in
-    let later = later_along (flat_map (λ (move : List Event). move) (moves_of runs)) (begins s) last reaches in
+    let later = later_along (flat_map (λ (move : List AppEvent). move) (moves_of runs)) (begins s) last reaches in
     let history = history_at (owned_of s) last.takes in
     record {
       right = right;
@@ -144,6 +144,6 @@ reported s runs last right lines done reaches few =
     }
 
 -- and so there are some
-pub some_report : (s : WireView) (runs : List LineRun) (last : sessions.World) → IsWireSchedule s → map (λ (r : LineRun). r.line) runs ≡ s.lines → AllByRecursion (IsLineDone (owned_of s)) runs →
-    Reaches (flat_map (λ (move : List Event). move) (moves_of runs)) (begins s) last → length last.takes ≤ 4294967295 → (worlds : List World) × (r : ReportView) × IsRunOf s worlds r
+pub some_report : (s : WireView) (runs : List LineRun) (last : sessions.AppWorld) → IsWireSchedule s → map (λ (r : LineRun). r.line) runs ≡ s.lines → AllByRecursion (IsLineDone (owned_of s)) runs →
+    Reaches (flat_map (λ (move : List AppEvent). move) (moves_of runs)) (begins s) last → length last.takes ≤ 4294967295 → (worlds : List ReportWorld) × (r : ReportView) × IsRunOf s worlds r
 some_report s runs last right lines done reaches few = (map (shown_by (owned_of s)) (states_of (begins s) (moves_of runs)), report_by s runs last, reported s runs last right lines done reaches few)

@@ -8,7 +8,7 @@ use Rattle.std.proofs.lemmas.List.Elements.{filter-append}
 use Rattle.sim_1_applications.specs.Stanzas.{messages, requests, answers}
 use Rattle.sim_1_applications.specs.Devices.{Session, Device, OpenPage, Answer}
 use Rattle.sim_1_applications.specs.Devices.Row.{Present}
-use Rattle.sim_1_applications.specs.Answers.{behind, last_in}
+use Rattle.sim_1_applications.specs.Answers.{following, last_in}
 use Rattle.sim_1_applications.specs.Events.{is_among, is_number_among, number_or_none}
 use Rattle.sim_1_applications.specs.Kept.{IsSession, LogKept, PageKept, IsPage, IsAt}
 use Rattle.sim_1_applications.specs.Laws.{IsFrontTaken, IsUpToLast, IsSettled}
@@ -23,12 +23,12 @@ front_taken accounts s known =
       acknowledged = take-append-le s.acked s.up_got s.up_rest low;
     }
 
-some_among : (m n k : ℕ) → n < m → m ≤ n + k → is_number_among m (behind n k) ≡ true
+some_among : (m n k : ℕ) → n < m → m ≤ n + k → is_number_among m (following n k) ≡ true
 some_among m n zero low high = absurd (omega arith)
 some_among m n (suc k) low high = elim (cases_Bool (m == suc n)) [
-  | inl same ↦ ap (λ b. b || is_number_among m (behind (suc n) k)) same
+  | inl same ↦ ap (λ b. b || is_number_among m (following (suc n) k)) same
   | inr other ↦
-      ap (λ b. b || is_number_among m (behind (suc n) k)) other
+      ap (λ b. b || is_number_among m (following (suc n) k)) other
       ∙ some_among m (suc n) k (let apart : m ≡ suc n → ⊥ = λ e. let is = eq-eqb m (suc n) e in let bad : ⊥ = cc in bad in omega arith) (omega arith)
 ]
 
@@ -40,7 +40,7 @@ among_later m (n ∷ a) b is = either (m == n) (among_later m a b is)
     either true known = refl
     either false known = known
 
-first_number : (from : ℕ) (n : ℕ) (run : List ℕ) → n ∷ run ≡ behind from (length (n ∷ run)) → n ≡ suc from
+first_number : (from : ℕ) (n : ℕ) (run : List ℕ) → n ∷ run ≡ following from (length (n ∷ run)) → n ≡ suc from
 first_number from n run is = cc
 
 pub up_to_last : (first last : ℕ) (d : Device) → 1 ≤ first → LogKept first last d → IsUpToLast first d
@@ -50,7 +50,7 @@ up_to_last first last d some kept = λ n low high.
     ∙ some_among n kept.runs.from (length d.reading.run) (above n low d.reading.run high kept.runs.is_run kept.runs.reaches)
     (let top = number_of_run kept.runs.from d.reading.run kept.runs.is_run in omega arith))
   where
-    above : (n : ℕ) → first ≤ n → (run : List ℕ) → n ≤ number_or_none (last_in run) → run ≡ behind kept.runs.from (length run) →
+    above : (n : ℕ) → first ≤ n → (run : List ℕ) → n ≤ number_or_none (last_in run) → run ≡ following kept.runs.from (length run) →
         ((m : ℕ) → slice_get run 0 ≡ Some m → m ≤ first) → kept.runs.from < n
     above n low [] high is reaches = absurd (omega arith)
     above n low (m ∷ run) high is reaches = let head = first_number kept.runs.from m run is in let r = reaches m refl in omega arith

@@ -5,7 +5,7 @@ use Rattle.std.specs.List.{slice_get}
 use Rattle.std.specs.Option.{option_map, option_map_or}
 use Rattle.std.specs.Prelude.{◌&&◌, nat_lt}
 use Rattle.std.proofs.lemmas.Option.{slice_get_within}
-use Rattle.sim_1_applications.specs.Answers.{last_in, answer_of}
+use Rattle.sim_1_applications.specs.Answers.{last_in, page_answer_of}
 use Rattle.sim_1_applications.specs.Stanzas.{Up, Down}
 use Rattle.sim_1_applications.specs.Stanzas.Up.{Carbons, Presence, Message, Query}
 use Rattle.sim_1_applications.specs.Stanzas.Down.{Accepted, Bounced, Live, Res, Fin, NotFound}
@@ -67,7 +67,7 @@ laid l n last x complete count b p is seen = record {
   low = seen.low;
   tiles = λ k t at late. elim (pushed b.tiles (events.tile x complete count p) t k at) [
     | inl was ↦ seen.tiles k t was late
-    | inr new ↦ let began : p.began ≡ t.began = ap (λ u. u.began) new.0 in let place = new.1 in let old = seen.page p is (omega arith) in omega arith
+    | inr new ↦ let began : p.began ≡ t.began = ap (λ u. u.began) new.0 in let position = new.1 in let old = seen.page p is (omega arith) in omega arith
   ];
   page = λ q at late. absurd (let bad : ⊥ = cc in bad);
 }
@@ -123,7 +123,7 @@ seen_served l n x Presence b seen = seen
 seen_served l n x (Message m) b seen = seen
 seen_served l n x (Query r) b seen = of_page b.page refl
   where
-    began_of : (p : OpenPage) (c : Bool) → (cond c (record p { answer = Some (record { first = x.first; last = x.last; rest = answer_of x.first x.last r }) }) p).began ≡ p.began
+    began_of : (p : OpenPage) (c : Bool) → (cond c (record p { answer = Some (record { first = x.first; last = x.last; rest = page_answer_of x.first x.last r }) }) p).began ≡ p.began
     began_of p true = refl
     began_of p false = refl
 

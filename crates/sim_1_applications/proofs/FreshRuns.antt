@@ -2,22 +2,22 @@
 use Rattle.std.proofs.Common.{◌≡◌, ℕ, ◌+◌, ◌==◌, List, [], ◌∷◌, ◌++◌, Some, sym, ap, ◌∙◌, subst, arith}
 use Rattle.std.specs.List.{slice_get}
 use Rattle.std.specs.Option.{option_map}
-use Rattle.sim_1_applications.specs.Devices.{Device, Take, World, last_of}
+use Rattle.sim_1_applications.specs.Devices.{AppWorld, Device, Take, last_of}
 use Rattle.sim_1_applications.specs.Events as events
 use Rattle.sim_1_applications.specs.Histories.{asked_of}
-use Rattle.sim_1_applications.specs.Events.Event.{At, Tick}
+use Rattle.sim_1_applications.specs.Events.AppEvent.{At, Tick}
 use Rattle.sim_1_applications.proofs.Archives.{last_grows}
 use Rattle.sim_1_applications.proofs.Takes.{account_hear_all, account_own}
 use Rattle.sim_1_applications.proofs.TileRuns.{same_hear_all}
-use Rattle.sim_1_applications.proofs.Worlds.{at_place, get_each}
+use Rattle.sim_1_applications.proofs.Worlds.{at_position, get_each}
 use Rattle.sim_1_applications.proofs.Fresh.{Seen, seen_grows, seen_own, seen_now}
 
 abbrev pub SeenAt : ℕ → ℕ → List Take → Device → Type 0
 SeenAt l n takes d = Seen l n (last_of takes d.account) d.reading
 
-seen_becomes : (l n : ℕ) (w : World) (new : List Take) (i : ℕ) (act : events.Act) (j : ℕ) (d : Device) → SeenAt l n w.takes d → SeenAt l n (w.takes ++ new) (events.becomes w new i act j d)
+seen_becomes : (l n : ℕ) (w : AppWorld) (new : List Take) (i : ℕ) (act : events.Act) (j : ℕ) (d : Device) → SeenAt l n w.takes d → SeenAt l n (w.takes ++ new) (events.becomes w new i act j d)
 seen_becomes l n w new i act j d seen =
-    at_place (j == i) _ _ (λ e. SeenAt l n (w.takes ++ new) (events.hear_all (w.takes ++ new) (events.full_of act) new j e))
+    at_position (j == i) _ _ (λ e. SeenAt l n (w.takes ++ new) (events.hear_all (w.takes ++ new) (events.full_of act) new j e))
     (λ _.
     let acted = events.own (events.around w d) act d in
     heard acted (subst (λ a. Seen l n (last_of w.takes a) acted.reading) (sym (account_own (events.around w d) act d)) (seen_own l n (events.around w d) act d seen)))
@@ -32,12 +32,12 @@ seen_becomes l n w new i act j d seen =
         (seen_grows l n (last_of w.takes e.account) (last_of (w.takes ++ new) e.account) e.reading (omega arith) was))
 
 -- the device of the next world
-pub record Then (l n : ℕ) (next : World) (i : ℕ) : Type 0 where
+pub record Then (l n : ℕ) (next : AppWorld) (i : ℕ) : Type 0 where
   pub d : Device
   pub at : slice_get next.devices i ≡ Some d
   pub seen : SeenAt l n next.takes d
 
-seen_moves : (l n : ℕ) (event : events.Event) (w next : World) (i : ℕ) (d : Device) → events.Moves event w next → slice_get w.devices i ≡ Some d → SeenAt l n w.takes d → Then l n next i
+seen_moves : (l n : ℕ) (event : events.AppEvent) (w next : AppWorld) (i : ℕ) (d : Device) → events.Moves event w next → slice_get w.devices i ≡ Some d → SeenAt l n w.takes d → Then l n next i
 seen_moves l n (Tick ms) w next i d is at seen = subst (λ v. Then l n v i) (sym is) (record { d = d; at = at; seen = seen })
 seen_moves l n (At j act) w next i d is at seen =
     let new = events.taken_by w.accounts w.clock j is.0 act in
@@ -47,13 +47,13 @@ seen_moves l n (At j act) w next i d is at seen =
       seen = seen_becomes l n w new j act (0 + i) d seen;
     })
 
-seen_along : (l n : ℕ) (all : List events.Event) (w last : World) (i : ℕ) (d : Device) → events.Reaches all w last → slice_get w.devices i ≡ Some d → SeenAt l n w.takes d → Then l n last i
+seen_along : (l n : ℕ) (all : List events.AppEvent) (w last : AppWorld) (i : ℕ) (d : Device) → events.Reaches all w last → slice_get w.devices i ≡ Some d → SeenAt l n w.takes d → Then l n last i
 seen_along l n [] w last i d is at seen = subst (λ v. Then l n v i) (sym is) (record { d = d; at = at; seen = seen })
 seen_along l n (event ∷ all) w last i d reaches at seen =
     let next = seen_moves l n event w reaches.0 i d reaches.1 at seen in
     seen_along l n all reaches.0 last i next.d reaches.2 next.at next.seen
 
 -- What an earlier world had of the archive, each page that wasn't asked for there began at no less.
-pub fresh : (all : List events.Event) (v w : World) (i : ℕ) (d : Device) → events.Reaches all v w → slice_get v.devices i ≡ Some d →
+pub fresh : (all : List events.AppEvent) (v w : AppWorld) (i : ℕ) (d : Device) → events.Reaches all v w → slice_get v.devices i ≡ Some d →
     Then (last_of v.takes d.account) (asked_of d.reading) w i
 fresh all v w i d reaches at = seen_along (last_of v.takes d.account) (asked_of d.reading) all v w i d reaches at (seen_now (last_of v.takes d.account) d.reading)

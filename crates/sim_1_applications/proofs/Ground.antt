@@ -4,7 +4,7 @@ use Rattle.std.proofs.lemmas.Bool.{eq-eqb}
 use Rattle.std.specs.List.{AllByRecursion, filter, flat_map, slice_get}
 use Rattle.std.specs.Prelude.{◌&&◌, ◌||◌}
 use Rattle.std.specs.Str.{bytes_eq}
-use Rattle.mam_archive.proofs.NumberedEntries.{at_place}
+use Rattle.mam_archive.proofs.NumberedEntries.{at_position}
 use Rattle.base_lemmas.proofs.Lists.{AllByRecursion-weaker}
 use Rattle.cmd_report.specs.Lawful.{device_named, is_taken}
 use Rattle.cmd_report.specs.Lines.{take_line}
@@ -25,7 +25,7 @@ use Rattle.sim_1_applications.proofs.Owners.{Differ, line_of, name_is, name_tell
 use Rattle.sim_1_applications.proofs.SaidLines.{IsFound, said_found}
 use Rattle.sim_1_applications.specs.Reported.{AreDeviceLines, history_at, name_at, said_line, said_of, take_of}
 
-pub record Ground (keep : ℕ) (version : Version) (owned : List Owned) (accounts : List (List ℕ)) (w : sessions.World) (report : ReportView) : Type 0 where
+pub record Ground (keep : ℕ) (version : Version) (owned : List Owned) (accounts : List (List ℕ)) (w : sessions.AppWorld) (report : ReportView) : Type 0 where
   pub some : 1 ≤ keep
   pub few : length w.takes ≤ 4294967295
   pub differ : Differ (names_of owned)
@@ -80,10 +80,10 @@ pub record IsTakeLine (owned : List Owned) (report : ReportView) (i : ℕ) (t : 
   pub account : line.account ≡ t.account
   pub found : IsFound line.said t.said
 
-device_takes : (keep : ℕ) (version : Version) (owned : List Owned) (accounts : List (List ℕ)) (w : sessions.World) (report : ReportView) → Ground keep version owned accounts w report →
+device_takes : (keep : ℕ) (version : Version) (owned : List Owned) (accounts : List (List ℕ)) (w : sessions.AppWorld) (report : ReportView) → Ground keep version owned accounts w report →
     (i : ℕ) → i < length owned → AllByRecursion (IsTakeLine owned report i) (filter (is_of i) w.takes)
 device_takes keep version owned accounts w report g i within =
-    let owner = at_place i owned within in
+    let owner = at_position i owned within in
     let line = line_of keep (history_at owned w.takes) owned w.devices report.devices i owner.0 g.differ g.devices owner.1 in
     let known = g.taken.devices i line.d line.device in
     let named : device_named (name_at owned i) report.devices ≡ Some line.line = ap (λ name. device_named name report.devices) (name_is owned i owner.0 owner.1) ∙ line.named in
@@ -99,13 +99,13 @@ device_takes keep version owned accounts w report g i within =
     (filter (is_of i) w.takes) known.takes.home
     (unsaid (IsFound (said_of line.d.sessions)) (filter (is_of i) w.takes) (subst (AllByRecursion (IsFound (said_of line.d.sessions))) (sym known.takes.are) found))
 
-pub takes_within : (keep : ℕ) (version : Version) (owned : List Owned) (accounts : List (List ℕ)) (w : sessions.World) (report : ReportView) → Ground keep version owned accounts w report →
+pub takes_within : (keep : ℕ) (version : Version) (owned : List Owned) (accounts : List (List ℕ)) (w : sessions.AppWorld) (report : ReportView) → Ground keep version owned accounts w report →
     AllByRecursion (λ t. t.device < length owned) w.takes
 takes_within keep version owned accounts w report g =
     AllByRecursion-weaker _ (λ t. t.device < length owned) (λ t is. let low = is.device in let same = g.many in omega arith) w.takes g.taken.placed
 
 -- each take has a line of its device
-pub take_lines : (keep : ℕ) (version : Version) (owned : List Owned) (accounts : List (List ℕ)) (w : sessions.World) (report : ReportView) → Ground keep version owned accounts w report →
+pub take_lines : (keep : ℕ) (version : Version) (owned : List Owned) (accounts : List (List ℕ)) (w : sessions.AppWorld) (report : ReportView) → Ground keep version owned accounts w report →
     AllByRecursion (λ t. IsTakeLine owned report t.device t) w.takes
 take_lines keep version owned accounts w report g =
     by_device (IsTakeLine owned report) (length owned) w.takes (device_takes keep version owned accounts w report g) (takes_within keep version owned accounts w report g)

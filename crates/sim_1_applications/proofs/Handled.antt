@@ -9,16 +9,16 @@ use Rattle.sim_1_applications.specs.Stanzas.{Down, requests, answers, lives}
 use Rattle.sim_1_applications.specs.Stanzas.Down.{Accepted, Bounced, Live, Res, Fin, NotFound}
 use Rattle.sim_1_applications.specs.Devices.{Device, OpenPage, Answer, log_of}
 use Rattle.sim_1_applications.specs.Devices.Stage.{Known}
-use Rattle.sim_1_applications.specs.Answers.{is_place, edge, size}
+use Rattle.sim_1_applications.specs.Answers.{is_position, edge, size}
 use Rattle.sim_1_applications.specs.Events.{number_or_none, is_number_among}
 use Rattle.sim_1_applications.specs.Events as events
 use Rattle.sim_1_applications.specs.Kept.{PageKept, LogKept, AreLogged, AreApart}
 use Rattle.sim_1_applications.proofs.Numbered.{answers_append, lives_append}
-use Rattle.sim_1_applications.proofs.Intervals.{length_behind, among_append}
+use Rattle.sim_1_applications.proofs.Intervals.{length_after, among_append}
 use Rattle.sim_1_applications.proofs.Lists.{all_append, all_rest}
 use Rattle.sim_1_applications.proofs.Logs.{broken_after, run_after, logged_grows}
 use Rattle.sim_1_applications.proofs.Pages.{Quiet, page_quiet}
-use Rattle.sim_1_applications.proofs.Answered.{IsNext, Next, next_answer, Kind, AResult, AnEnd, NoPlace, kind_of, numbers_of, end_of, reads_result, page_result, page_restart, lost_place, reads_restart, ended, TakenThen, taken_then, end_is_read, page_end}
+use Rattle.sim_1_applications.proofs.Answered.{IsNext, Next, next_answer, Kind, AResult, AnEnd, NoPlace, kind_of, numbers_of, end_of, reads_result, page_result, page_restart, lost_position, reads_restart, ended, TakenThen, taken_then, end_is_read, page_end}
 
 -- both
 pub record ReadKept (keep first last : ℕ) (d : Device) : Type 0 where
@@ -104,7 +104,7 @@ read_result : (keep : ℕ) (x : events.Around) (d : Device) (page : OpenPage) (a
     d.sessions.online ≡ true → d.sessions.now.stage ≡ Known → ReadKept keep x.first x.last d →
     ReadKept keep x.first x.last (events.reacted (events.reads x (Res page.number n) d.reading) (Res page.number n) rest d)
 read_result keep x d page a n more rest tail split next numbers tail_is on known_stage kept =
-    let size_is = length_behind (edge a.first page.after) (size (edge a.first page.after) a.last page.max) in
+    let size_is = length_after (edge a.first page.after) (size (edge a.first page.after) a.last page.max) in
     let both = length-append page.results (n ∷ more) in
     let whole = ap length numbers in
     let short : length page.results < page.max = omega arith in
@@ -116,14 +116,14 @@ read_result keep x d page a n more rest tail split next numbers tail_is on known
 
 -- a restart
 read_restart : (keep : ℕ) (x : events.Around) (d : Device) (page : OpenPage) (a : Answer) (rest tail : List Down) → d.sessions.now.down_rest ≡ NotFound page.number ∷ rest →
-    IsNext keep x.first x.last d page a (NotFound page.number) rest tail → is_place a.first a.last page.after ≡ false → tail ≡ [] →
+    IsNext keep x.first x.last d page a (NotFound page.number) rest tail → is_position a.first a.last page.after ≡ false → tail ≡ [] →
     d.sessions.online ≡ true → d.sessions.now.stage ≡ Known → ReadKept keep x.first x.last d →
     ReadKept keep x.first x.last (events.reacted (events.reads x (NotFound page.number) d.reading) (NotFound page.number) rest d)
 read_restart keep x d page a rest tail split next lost over on known_stage kept =
-    let place = lost_place a.first a.last d.reading.run page.after lost next.answered.place next.answered.logged in
+    let position = lost_position a.first a.last d.reading.run page.after lost next.answered.position next.answered.logged in
     record {
       page = page_restart keep x d page a rest tail next lost over on known_stage kept.page;
-      log = subst (λ reaction. LogKept x.first x.last (events.reacted reaction (NotFound page.number) rest d)) (sym (reads_restart x d.reading page place.0 next.page_is place.1))
+      log = subst (λ reaction. LogKept x.first x.last (events.reacted reaction (NotFound page.number) rest d)) (sym (reads_restart x d.reading page position.0 next.page_is position.1))
           (record { runs = kept.log.runs; apart = kept.log.apart; held = kept.log.held; live = lives_rest _ d.sessions.now.down_rest (NotFound page.number) rest split kept.log.live });
     }
 
@@ -190,7 +190,7 @@ log_over x complete count d e page a broken run held results first last then liv
     }
 
 read_end : (keep : ℕ) (x : events.Around) (d : Device) (page : OpenPage) (a : Answer) (rest tail : List Down) → 1 ≤ keep → d.sessions.now.down_rest ≡ end_of a page ∷ rest →
-    IsNext keep x.first x.last d page a (end_of a page) rest tail → is_place a.first a.last page.after ≡ true → page.results ≡ numbers_of a page → tail ≡ [] →
+    IsNext keep x.first x.last d page a (end_of a page) rest tail → is_position a.first a.last page.after ≡ true → page.results ≡ numbers_of a page → tail ≡ [] →
     d.sessions.online ≡ true → d.sessions.now.stage ≡ Known → ReadKept keep x.first x.last d →
     ReadKept keep x.first x.last (events.reacted (events.reads x (end_of a page) d.reading) (end_of a page) rest d)
 read_end keep x d page a rest tail some split next placed results over on known_stage kept =

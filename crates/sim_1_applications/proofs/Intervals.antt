@@ -4,22 +4,22 @@ use Rattle.std.specs.Prelude.{◌&&◌, ◌||◌, not}
 use Rattle.std.proofs.lemmas.Bool.{eqb-true, false_from_ne_true}
 use Rattle.sim_1_applications.specs.Stanzas.{Request, Down, answers}
 use Rattle.sim_1_applications.specs.Stanzas.Down.{Accepted, Bounced, Live, Res, Fin, NotFound}
-use Rattle.sim_1_applications.specs.Answers.{behind, last_in, size, edge, is_place, page_from, answer_of}
+use Rattle.sim_1_applications.specs.Answers.{following, last_in, size, edge, is_position, page_from, page_answer_of}
 use Rattle.sim_1_applications.specs.Events.{is_number_among, are_new}
 
-pub length_behind : (n k : ℕ) → length (behind n k) ≡ k
-length_behind n zero = refl
-length_behind n (suc k) = ap suc (length_behind (suc n) k)
+pub length_after : (n k : ℕ) → length (following n k) ≡ k
+length_after n zero = refl
+length_after n (suc k) = ap suc (length_after (suc n) k)
 
-pub behind_append : (n j k : ℕ) → behind n (j + k) ≡ behind n j ++ behind (n + j) k
-behind_append n zero k = (let e : zero + k ≡ k = omega arith in ap (behind n) e) ∙ (let e : n ≡ n + zero = omega arith in ap (λ m. behind m k) e)
-behind_append n (suc j) k =
-    (let e : suc j + k ≡ suc (j + k) = omega arith in ap (behind n) e)
-    ∙ ap (λ l. suc n ∷ l) (behind_append (suc n) j k ∙ (let e : suc n + j ≡ n + suc j = omega arith in ap (λ m. behind (suc n) j ++ behind m k) e))
+pub after_append : (n j k : ℕ) → following n (j + k) ≡ following n j ++ following (n + j) k
+after_append n zero k = (let e : zero + k ≡ k = omega arith in ap (following n) e) ∙ (let e : n ≡ n + zero = omega arith in ap (λ m. following m k) e)
+after_append n (suc j) k =
+    (let e : suc j + k ≡ suc (j + k) = omega arith in ap (following n) e)
+    ∙ ap (λ l. suc n ∷ l) (after_append (suc n) j k ∙ (let e : suc n + j ≡ n + suc j = omega arith in ap (λ m. following (suc n) j ++ following m k) e))
 
-pub last_behind : (n k : ℕ) → last_in (behind n (suc k)) ≡ Some (n + suc k)
-last_behind n zero = (let e : suc n ≡ n + suc zero = omega arith in ap Some e)
-last_behind n (suc k) = last_behind (suc n) k ∙ (let e : suc n + suc k ≡ n + suc (suc k) = omega arith in ap Some e)
+pub last_after : (n k : ℕ) → last_in (following n (suc k)) ≡ Some (n + suc k)
+last_after n zero = (let e : suc n ≡ n + suc zero = omega arith in ap Some e)
+last_after n (suc k) = last_after (suc n) k ∙ (let e : suc n + suc k ≡ n + suc (suc k) = omega arith in ap Some e)
 
 different : (m n : ℕ) → m ≢ n → (m == n) ≡ false
 different m n other = false_from_ne_true (m == n) (λ h. other (eqb-true m n h))
@@ -28,7 +28,7 @@ or_false : (a b : Bool) → a ≡ false → b ≡ false → (a || b) ≡ false
 or_false a b first second = ap (λ c. c || b) first ∙ second
 
 -- above a list of numbers, or below
-pub none_among : (m n k : ℕ) → (m ≤ n) ⊎ (n + k < m) → is_number_among m (behind n k) ≡ false
+pub none_among : (m n k : ℕ) → (m ≤ n) ⊎ (n + k < m) → is_number_among m (following n k) ≡ false
 none_among m n zero apart = refl
 none_among m n (suc k) (inl low) = or_false (m == suc n) _ (different m (suc n) (λ e. omega arith)) (none_among m (suc n) k (inl (omega arith)))
 none_among m n (suc k) (inr high) = or_false (m == suc n) _ (different m (suc n) (λ e. omega arith)) (none_among m (suc n) k (inr (omega arith)))
@@ -43,11 +43,11 @@ among_append m (n ∷ a) b first second = first_of (m == n) first (among_append 
     first_of false known others = others known second
 
 -- numbers above all of the log are new to it
-pub new_behind : (log : List ℕ) (n k : ℕ) → ((m : ℕ) → n < m → is_number_among m log ≡ false) → are_new log (behind n k) ≡ true
-new_behind log n zero above = refl
-new_behind log n (suc k) above =
+pub new_after : (log : List ℕ) (n k : ℕ) → ((m : ℕ) → n < m → is_number_among m log ≡ false) → are_new log (following n k) ≡ true
+new_after log n zero above = refl
+new_after log n (suc k) above =
     both (is_number_among (suc n) log) _ (above (suc n) (omega arith))
-    (new_behind (suc n ∷ log) (suc n) k (λ m high. or_false (m == suc n) _ (different m (suc n) (λ e. omega arith)) (above m (omega arith))))
+    (new_after (suc n ∷ log) (suc n) k (λ m high. or_false (m == suc n) _ (different m (suc n) (λ e. omega arith)) (above m (omega arith))))
   where
     both : (c e : Bool) → c ≡ false → e ≡ true → (not c && e) ≡ true
     both true e wrong known = absurd (let none : ⊥ = cc in none)
@@ -69,8 +69,8 @@ not_found_taken zero q = refl
 not_found_taken (suc zero) q = refl
 not_found_taken (suc (suc k)) q = refl
 
-pub answer_taken : (k first last : ℕ) (r : Request) → answers (take k (answer_of first last r)) ≡ take k (answer_of first last r)
-answer_taken k first last r = chosen (is_place first last r.after)
+pub answer_taken : (k first last : ℕ) (r : Request) → answers (take k (page_answer_of first last r)) ≡ take k (page_answer_of first last r)
+answer_taken k first last r = chosen (is_position first last r.after)
   where
     chosen : (b : Bool) → (let zs : List Down = cond b (page_from (edge first r.after) first last r) (NotFound r.number ∷ []) in answers (take k zs) ≡ take k zs)
     chosen true = page_taken k r.number _ r.number _ _ _
@@ -91,15 +91,15 @@ none_taken (suc k) (Res q n ∷ zs) none = absurd (let wrong : Res q n ∷ answe
 none_taken (suc k) (Fin q c l t ∷ zs) none = absurd (let wrong : Fin q c l t ∷ answers zs ≡ [] = none in let bad : ⊥ = cc in bad)
 none_taken (suc k) (NotFound q ∷ zs) none = absurd (let wrong : NotFound q ∷ answers zs ≡ [] = none in let bad : ⊥ = cc in bad)
 
-pub answer_some : (first last : ℕ) (r : Request) → answer_of first last r ≢ []
-answer_some first last r = chosen (is_place first last r.after)
+pub answer_some : (first last : ℕ) (r : Request) → page_answer_of first last r ≢ []
+answer_some first last r = chosen (is_position first last r.after)
   where
     some : (a : List Down) (z : Down) → a ++ z ∷ [] ≢ []
     some [] z e = let none : ⊥ = cc in none
     some (x ∷ a) z e = let none : ⊥ = cc in none
 
     chosen : (b : Bool) → cond b (page_from (edge first r.after) first last r) (NotFound r.number ∷ []) ≢ []
-    chosen true = some (map (Res r.number) (behind (edge first r.after) (size (edge first r.after) last r.max))) (Fin r.number _ _ _)
+    chosen true = some (map (Res r.number) (following (edge first r.after) (size (edge first r.after) last r.max))) (Fin r.number _ _ _)
     chosen false = λ e. let none : ⊥ = cc in none
 
 -- what stands next in an answer: a result and more, or the end

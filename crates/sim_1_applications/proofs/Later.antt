@@ -6,13 +6,13 @@ use Rattle.std.specs.Option.{option_map, option_map_or}
 use Rattle.sim_1_applications.specs.Stanzas.{Up, Down}
 use Rattle.sim_1_applications.specs.Stanzas.Up.{Carbons, Presence, Message, Query}
 use Rattle.sim_1_applications.specs.Stanzas.Down.{Accepted, Bounced, Live, Res, Fin, NotFound}
-use Rattle.sim_1_applications.specs.Devices.{Device, OpenPage, Reading, Take, World}
+use Rattle.sim_1_applications.specs.Devices.{AppWorld, Device, OpenPage, Reading, Take}
 use Rattle.sim_1_applications.specs.Answers.{last_in}
 use Rattle.sim_1_applications.specs.Events as events
-use Rattle.sim_1_applications.specs.Events.Event.{At, Tick}
+use Rattle.sim_1_applications.specs.Events.AppEvent.{At, Tick}
 use Rattle.sim_1_applications.proofs.Takes.{account_hear_all, account_own}
 use Rattle.sim_1_applications.proofs.TileRuns.{same_hear_all}
-use Rattle.sim_1_applications.proofs.Worlds.{at_place, get_each, length_each}
+use Rattle.sim_1_applications.proofs.Worlds.{at_position, get_each, length_each}
 
 -- the one list is the other with more behind it
 abbrev pub Extends : {A : Type 0} → List A → List A → Type 0
@@ -96,24 +96,24 @@ later_hears takes full ts j d e later = record {
   tiles = subst (λ (b : Reading). Extends d.reading.tiles b.tiles) (sym (same_hear_all takes full ts j e)) later.tiles;
 }
 
-later_becomes : (w : World) (new : List Take) (i : ℕ) (act : events.Act) (j : ℕ) (d : Device) → IsLaterDevice d (events.becomes w new i act j d)
+later_becomes : (w : AppWorld) (new : List Take) (i : ℕ) (act : events.Act) (j : ℕ) (d : Device) → IsLaterDevice d (events.becomes w new i act j d)
 later_becomes w new i act j d =
     later_hears (w.takes ++ new) (events.full_of act) new j d _
-    (at_place (j == i) _ _ (IsLaterDevice d) (λ _. later_own (events.around w d) act d) (λ _. later_itself d))
+    (at_position (j == i) _ _ (IsLaterDevice d) (λ _. later_own (events.around w d) act d) (λ _. later_itself d))
 
-pub record LaterAt (v w : World) (i : ℕ) (d : Device) : Type 0 where
+pub record LaterAt (v w : AppWorld) (i : ℕ) (d : Device) : Type 0 where
   pub device : Device
   pub at : slice_get w.devices i ≡ Some device
   pub later : IsLaterDevice d device
 
-pub record IsLater (v w : World) : Type 0 where
+pub record IsLater (v w : AppWorld) : Type 0 where
   pub keep : w.keep ≡ v.keep
   pub accounts : w.accounts ≡ v.accounts
   pub many : length w.devices ≡ length v.devices
   pub takes : Extends v.takes w.takes
   pub devices : (i : ℕ) (d : Device) → slice_get v.devices i ≡ Some d → LaterAt v w i d
 
-is_itself : (v : World) → IsLater v v
+is_itself : (v : AppWorld) → IsLater v v
 is_itself v = record {
   keep = refl;
   accounts = refl;
@@ -122,7 +122,7 @@ is_itself v = record {
   devices = λ i d at. record { device = d; at = at; later = later_itself d };
 }
 
-later_both : (u v w : World) → IsLater u v → IsLater v w → IsLater u w
+later_both : (u v w : AppWorld) → IsLater u v → IsLater v w → IsLater u w
 later_both u v w first second = record {
   keep = second.keep ∙ first.keep;
   accounts = second.accounts ∙ first.accounts;
@@ -141,7 +141,7 @@ later_both u v w first second = record {
       };
 }
 
-later_acted : (w : World) (i : ℕ) (act : events.Act) (own : Device) → IsLater w (events.acted w i act own)
+later_acted : (w : AppWorld) (i : ℕ) (act : events.Act) (own : Device) → IsLater w (events.acted w i act own)
 later_acted w i act own =
     let new = events.taken_by w.accounts w.clock i own act in
     record {
@@ -156,7 +156,7 @@ later_acted w i act own =
       };
     }
 
-pub later_moves : (event : events.Event) (w next : World) → events.Moves event w next → IsLater w next
+pub later_moves : (event : events.AppEvent) (w next : AppWorld) → events.Moves event w next → IsLater w next
 later_moves (Tick ms) w next is = subst (IsLater w) (sym is) (record {
   keep = refl;
   accounts = refl;
@@ -166,6 +166,6 @@ later_moves (Tick ms) w next is = subst (IsLater w) (sym is) (record {
 })
 later_moves (At i act) w next is = subst (IsLater w) (sym is.3) (later_acted w i act is.0)
 
-pub later_along : (all : List events.Event) (w last : World) → events.Reaches all w last → IsLater w last
+pub later_along : (all : List events.AppEvent) (w last : AppWorld) → events.Reaches all w last → IsLater w last
 later_along [] w last is = subst (IsLater w) (sym is) (is_itself w)
 later_along (event ∷ all) w last reaches = later_both w reaches.0 last (later_moves event w reaches.0 reaches.1) (later_along all reaches.0 last reaches.2)

@@ -13,7 +13,7 @@ use Rattle.cmd_report.specs.LawfulRuns.{ArePagesOfRuns, IsLawfulKeeping, IsNewes
 use Rattle.cmd_report.specs.Lines.{entry_line, page_line}
 use Rattle.cmd_report.specs.Reports.{AccountView, DeviceView, ReportView}
 use Rattle.cmd_report.specs.Takes.{archive_of}
-use Rattle.cmd_report.specs.Worlds.{World}
+use Rattle.cmd_report.specs.Worlds.{ReportWorld}
 use Rattle.cmd_schedule.proofs.Lists.{all_map, all_of, map-map, map_nothing}
 use Rattle.cmd_schedule.proofs.StandingSteps.{AreStanding, home_in, homes_are, homes_exist}
 use Rattle.cmd_schedule.specs.Contents.{Owned, accounts_of, devices_of}
@@ -28,7 +28,7 @@ use Rattle.sim_1_applications.proofs.Spoken.{all_spoken, said_along, spoken_at}
 use Rattle.sim_1_applications.proofs.TileRuns.{read_along, read_beginning}
 use Rattle.sim_1_applications.specs.Devices as sessions
 use Rattle.sim_1_applications.specs.Devices.{Tile, first_of, last_of, new_device}
-use Rattle.sim_1_applications.specs.Events.{Event, devices_of as new_devices}
+use Rattle.sim_1_applications.specs.Events.{AppEvent, devices_of as new_devices}
 use Rattle.sim_1_applications.specs.Histories.{asked_of, state_after}
 use Rattle.sim_1_applications.specs.Kept.{LogKept, Read, Taken, TilesKept}
 use Rattle.sim_1_applications.proofs.Ground.{Ground}
@@ -39,7 +39,7 @@ use Rattle.sim_1_applications.proofs.Owners.{LineAt, names_differ}
 use Rattle.sim_1_applications.proofs.PageLaws.{Paged, pages_right}
 use Rattle.sim_1_applications.proofs.Shown.{ends_with, shown_at, shown_numbers}
 use Rattle.sim_1_applications.proofs.TakenLaws.{device_acknowledged, device_epochs, device_first, device_gapless, device_numbered, device_settled, each_device, history_is, moments_rise, takes_exist, takes_rise, takes_submitted}
-use Rattle.sim_1_applications.proofs.Turned.{history_few, history_follows, history_long}
+use Rattle.sim_1_applications.proofs.Rendered.{history_few, history_follows, history_long}
 use Rattle.sim_1_applications.specs.Reported.{AreDeviceLines, IsShown, account_line, history_at, pages_with}
 use Rattle.sim_1_applications.proofs.WireSteps.{wire_stand}
 use Rattle.sim_1_applications.specs.Runs.{IsRunOf, LineRun, begins, events_in, moves_of, owned_of, refused_by, steps_in}
@@ -50,7 +50,7 @@ keeps_some : (version : Version) → IsTrue (may_keep version) → 1 ≤ keep_of
 keeps_some One may = omega arith
 keeps_some (Two keep) may = leb-true 1 keep (and_parts _ _ may).0
 
-pub standing : (s : WireView) (worlds : List World) (r : ReportView) → IsRunOf s worlds r → AreStanding [] (steps_in s)
+pub standing : (s : WireView) (worlds : List ReportWorld) (r : ReportView) → IsRunOf s worlds r → AreStanding [] (steps_in s)
 standing s worlds r run = wire_stand [] nothing_above 2 s.lines refl run.right.lines
 
 home_at : (owned : List Owned) (i : ℕ) (o : Owned) → slice_get owned i ≡ Some o → slice_get (new_devices (map (λ (p : Owned). p.account) owned)) i ≡ Some (new_device o.account)
@@ -62,18 +62,18 @@ pub many_homes : (owned : List Owned) → length (new_devices (map (λ (p : Owne
 many_homes [] = refl
 many_homes (p ∷ owned) = ap suc (many_homes owned)
 
-run_taken : (s : WireView) (worlds : List World) (r : ReportView) (run : IsRunOf s worlds r) → Taken run.last
+run_taken : (s : WireView) (worlds : List ReportWorld) (r : ReportView) (run : IsRunOf s worlds r) → Taken run.last
 run_taken s worlds r run =
     taken_along (flat_map (λ move. move) (moves_of run.runs)) (begins s) run.last run.reaches
     (taken_beginning (keep_of s.version) (accounts_of (steps_in s)) (map (λ (o : Owned). o.account) (owned_of s)))
 
-run_read : (s : WireView) (worlds : List World) (r : ReportView) (run : IsRunOf s worlds r) → Read run.last
+run_read : (s : WireView) (worlds : List ReportWorld) (r : ReportView) (run : IsRunOf s worlds r) → Read run.last
 run_read s worlds r run =
     read_along (flat_map (λ move. move) (moves_of run.runs)) (begins s) run.last run.reaches
     (taken_beginning (keep_of s.version) (accounts_of (steps_in s)) (map (λ (o : Owned). o.account) (owned_of s)))
     (read_beginning (keep_of s.version) (keeps_some s.version run.right.keeps) (accounts_of (steps_in s)) (map (λ (o : Owned). o.account) (owned_of s)))
 
-pub ground_of : (s : WireView) (worlds : List World) (r : ReportView) (run : IsRunOf s worlds r) → Ground (keep_of s.version) s.version (owned_of s) (accounts_of (steps_in s)) run.last r
+pub ground_of : (s : WireView) (worlds : List ReportWorld) (r : ReportView) (run : IsRunOf s worlds r) → Ground (keep_of s.version) s.version (owned_of s) (accounts_of (steps_in s)) run.last r
 ground_of s worlds r run =
     let later = later_along (flat_map (λ move. move) (moves_of run.runs)) (begins s) run.last run.reaches in
     record {
@@ -86,9 +86,9 @@ ground_of s worlds r run =
       exist = later.accounts;
       many = later.many ∙ many_homes (owned_of s);
       homes = λ i o d owner at.
-          let behind = later.devices i (new_device o.account) (home_at (owned_of s) i o owner) in
-          let same : behind.device ≡ d = same_Some behind.device d (sym behind.at ∙ at) in
-          ap (λ (e : sessions.Device). e.account) (sym same) ∙ behind.later.account;
+          let following = later.devices i (new_device o.account) (home_at (owned_of s) i o owner) in
+          let same : following.device ≡ d = same_Some following.device d (sym following.at ∙ at) in
+          ap (λ (e : sessions.Device). e.account) (sym same) ∙ following.later.account;
       takes = run.reported.takes;
       devices = run.reported.devices;
     }
@@ -109,7 +109,7 @@ owned_lines keep history (o ∷ owned) (d ∷ ds) (l ∷ lines) known =
     ∙ ap (λ account. record { device = o.device; account = account } ∷ map (λ (e : DeviceView). (let p : Owned = record { device = e.name; account = e.account } in p)) lines) known.0.account
     ∙ ap (λ os. o ∷ os) (owned_lines keep history owned ds lines known.1)
 
-pub of_schedule : (s : WireView) (worlds : List World) (r : ReportView) → IsRunOf s worlds r → IsOfSchedule (seen_of s) r
+pub of_schedule : (s : WireView) (worlds : List ReportWorld) (r : ReportView) → IsRunOf s worlds r → IsOfSchedule (seen_of s) r
 of_schedule s worlds r run =
     let accounts = accounts_of (steps_in s) in
     let keep = keep_of s.version in
@@ -126,15 +126,15 @@ of_schedule s worlds r run =
 
 -- What became of the lines.
 
-same_events : (runs : List LineRun) → flat_map (λ (move : List Event). move) (moves_of runs) ≡ events_of runs
+same_events : (runs : List LineRun) → flat_map (λ (move : List AppEvent). move) (moves_of runs) ≡ events_of runs
 same_events [] = refl
-same_events (r ∷ runs) = flat_map-append (λ (move : List Event). move) r.moves (moves_of runs) ∙ ap (λ es. events_in r ++ es) (same_events runs)
+same_events (r ∷ runs) = flat_map-append (λ (move : List AppEvent). move) r.moves (moves_of runs) ∙ ap (λ es. events_in r ++ es) (same_events runs)
 
-device_outcomes : (s : WireView) (worlds : List World) (r : ReportView) (run : IsRunOf s worlds r) (i : ℕ) (line : DeviceView) →
+device_outcomes : (s : WireView) (worlds : List ReportWorld) (r : ReportView) (run : IsRunOf s worlds r) (i : ℕ) (line : DeviceView) →
     LineAt (keep_of s.version) (history_at (owned_of s) run.last.takes) (owned_of s) run.last.devices i line → AreOutcomes line.name (seen_of s).lines line.said (refused_by line.name run.runs)
 device_outcomes s worlds r run i line at =
     let g = ground_of s worlds r run in
-    let all = flat_map (λ (move : List Event). move) (moves_of run.runs) in
+    let all = flat_map (λ (move : List AppEvent). move) (moves_of run.runs) in
     let said = said_along all (begins s) run.last i [] run.reaches (record { device = new_device at.o.account; at = home_at (owned_of s) i at.o at.owner; whole = refl }) in
     let same : said.device ≡ at.d = same_Some said.device at.d (sym said.at ∙ at.device) in
     let spoken : all_spoken i at.d.sessions ≡ spoken_at i (events_of run.runs) = ap (λ (d : sessions.Device). all_spoken i d.sessions) (sym same) ∙ said.whole ∙ ap (spoken_at i) (same_events run.runs) in
@@ -146,7 +146,7 @@ all_pairs : (P Q : DeviceView → Type 0) (R : DeviceView → Type 0) → ((d : 
 all_pairs P Q R each [] first second = tt
 all_pairs P Q R each (d ∷ ds) first second = (each d first.0 second.0, all_pairs P Q R each ds first.1 second.1)
 
-pub said_right : (s : WireView) (worlds : List World) (r : ReportView) → IsRunOf s worlds r → AllByRecursion (λ d. AreOutcomes d.name (seen_of s).lines d.said d.refused) r.devices
+pub said_right : (s : WireView) (worlds : List ReportWorld) (r : ReportView) → IsRunOf s worlds r → AllByRecursion (λ d. AreOutcomes d.name (seen_of s).lines d.said d.refused) r.devices
 said_right s worlds r run =
     all_pairs (λ d. AreOutcomes d.name (seen_of s).lines d.said (refused_by d.name run.runs)) (λ d. d.refused ≡ refused_by d.name run.runs) (λ d. AreOutcomes d.name (seen_of s).lines d.said d.refused)
     (λ d are is. subst (AreOutcomes d.name (seen_of s).lines d.said) (sym is) are) r.devices
@@ -166,7 +166,7 @@ get_all P [] i x all at = absurd (none-some x at)
 get_all P (y ∷ xs) zero x all at = subst P (same_Some y x at) all.0
 get_all P (y ∷ xs) (suc i) x all at = get_all P xs i x all.1 at
 
-pub device_logged : (s : WireView) (worlds : List World) (r : ReportView) (run : IsRunOf s worlds r) (i : ℕ) (line : DeviceView) →
+pub device_logged : (s : WireView) (worlds : List ReportWorld) (r : ReportView) (run : IsRunOf s worlds r) (i : ℕ) (line : DeviceView) →
     (at : LineAt (keep_of s.version) (history_at (owned_of s) run.last.takes) (owned_of s) run.last.devices i line) → Logged (keep_of s.version) (history_at (owned_of s) run.last.takes at.o.account) at.d
 device_logged s worlds r run i line at =
     let g = ground_of s worlds r run in
@@ -186,15 +186,15 @@ device_logged s worlds r run i line at =
     }
 
 -- the world at a place, beside the device as it was
-record AtWorld (s : WireView) (account : List ℕ) (d : sessions.Device) (line : DeviceView) (shown : World) : Type 0 where
+record AtWorld (s : WireView) (account : List ℕ) (d : sessions.Device) (line : DeviceView) (shown : ReportWorld) : Type 0 where
   last : ℕ
   is_last : last_number (shown.archive line.account) ≡ last
   is_first : first_number (shown.archive line.account) ≡ suc (last - keep_of s.version)
   asked : (k : ℕ) (t : Tile) → slice_get d.reading.tiles k ≡ Some t → shown.asked line.name ≤ k → last ≤ t.given
   over : (k : ℕ) (t : Tile) → slice_get d.reading.tiles k ≡ Some t → k < length (shown.pages line.name) → t.given ≤ last
 
-at_world : (s : WireView) (worlds : List World) (r : ReportView) (run : IsRunOf s worlds r) (i : ℕ) (line : DeviceView) →
-    (at : LineAt (keep_of s.version) (history_at (owned_of s) run.last.takes) (owned_of s) run.last.devices i line) → (j : ℕ) (shown : World) → slice_get worlds j ≡ Some shown →
+at_world : (s : WireView) (worlds : List ReportWorld) (r : ReportView) (run : IsRunOf s worlds r) (i : ℕ) (line : DeviceView) →
+    (at : LineAt (keep_of s.version) (history_at (owned_of s) run.last.takes) (owned_of s) run.last.devices i line) → (j : ℕ) (shown : ReportWorld) → slice_get worlds j ≡ Some shown →
     AtWorld s at.o.account at.d line shown
 at_world s worlds r run i line at j shown found =
     let g = ground_of s worlds r run in
@@ -221,7 +221,7 @@ at_world s worlds r run i line at j shown found =
       over = λ k t there few. let high = was.over k t there (omega arith) in omega arith;
     }
 
-pub device_paged : (s : WireView) (worlds : List World) (r : ReportView) (run : IsRunOf s worlds r) (i : ℕ) (line : DeviceView) →
+pub device_paged : (s : WireView) (worlds : List ReportWorld) (r : ReportView) (run : IsRunOf s worlds r) (i : ℕ) (line : DeviceView) →
     (at : LineAt (keep_of s.version) (history_at (owned_of s) run.last.takes) (owned_of s) run.last.devices i line) → Paged (keep_of s.version) worlds (history_at (owned_of s) run.last.takes at.o.account) at.d line
 device_paged s worlds r run i line at =
     record {
@@ -242,7 +242,7 @@ device_paged s worlds r run i line at =
           (omega arith, omega arith);
       ends = ends_with (owned_of s) (moves_of run.runs) (begins s) worlds line run.shown
           (λ shown is.
-          let last : run.last ≡ state_after (begins s) (flat_map (λ (move : List Event). move) (moves_of run.runs)) = reaches_is (flat_map (λ (move : List Event). move) (moves_of run.runs)) (begins s) run.last run.reaches in
+          let last : run.last ≡ state_after (begins s) (flat_map (λ (move : List AppEvent). move) (moves_of run.runs)) = reaches_is (flat_map (λ (move : List AppEvent). move) (moves_of run.runs)) (begins s) run.last run.reaches in
           let here : IsShown (owned_of s) run.last shown = subst (λ v. IsShown (owned_of s) v shown) (sym last) is in
           ap (λ name. length (shown.pages name)) at.is.name ∙ here.pages i at.o at.d at.owner at.device ∙ sym (tiles_many (keep_of s.version) (history_at (owned_of s) run.last.takes at.o.account) at.d.reading.tiles _) ∙ sym (ap length at.is.pages));
     }
@@ -253,13 +253,13 @@ device_paged s worlds r run i line at =
 
 -- The laws.
 
-history_same : (keep : ℕ) (s : WireView) (worlds : List World) (r : ReportView) (run : IsRunOf s worlds r) → s.version ≡ Two keep → (account : List ℕ) → history_of r account ≡ history_at (owned_of s) run.last.takes account
+history_same : (keep : ℕ) (s : WireView) (worlds : List ReportWorld) (r : ReportView) (run : IsRunOf s worlds r) → s.version ≡ Two keep → (account : List ℕ) → history_of r account ≡ history_at (owned_of s) run.last.takes account
 history_same keep s worlds r run version account =
     ap (archive_of account)
     (history_is (keep_of s.version) (owned_of s) (accounts_of (steps_in s)) run.last r
     (subst (λ v. Ground (keep_of s.version) v (owned_of s) (accounts_of (steps_in s)) run.last r) (version ∙ ap Two (sym (ap keep_of version))) (ground_of s worlds r run)))
 
-newest_kept : (keep : ℕ) (s : WireView) (worlds : List World) (r : ReportView) (run : IsRunOf s worlds r) → s.version ≡ Two keep → AllByRecursion (λ a. IsNewestOf (keep_of s.version) (history_of r a.name) a) r.accounts
+newest_kept : (keep : ℕ) (s : WireView) (worlds : List ReportWorld) (r : ReportView) (run : IsRunOf s worlds r) → s.version ≡ Two keep → AllByRecursion (λ a. IsNewestOf (keep_of s.version) (history_of r a.name) a) r.accounts
 newest_kept keep s worlds r run version =
     let line : List ℕ → AccountView = λ name. account_line (keep_of s.version) (history_at (owned_of s) run.last.takes name) name in
     subst (AllByRecursion (λ a. IsNewestOf (keep_of s.version) (history_of r a.name) a)) (sym run.reported.accounts)
@@ -267,7 +267,7 @@ newest_kept keep s worlds r run version =
     (all_of (λ name. IsNewestOf (keep_of s.version) (history_of r name) (line name))
     (λ name. subst (λ history. IsNewestOf (keep_of s.version) history (line name)) (sym (history_same keep s worlds r run version name)) (record { entries = refl; last = refl })) (accounts_of (steps_in s))))
 
-pub once_in_order : (s : WireView) (worlds : List World) (r : ReportView) → IsRunOf s worlds r → IsOnceInOrder (seen_of s) r
+pub once_in_order : (s : WireView) (worlds : List ReportWorld) (r : ReportView) → IsRunOf s worlds r → IsOnceInOrder (seen_of s) r
 once_in_order s worlds r run =
     let g = ground_of s worlds r run in
     record {
@@ -276,7 +276,7 @@ once_in_order s worlds r run =
       gapless = device_gapless (keep_of s.version) s.version (seen_of s) (owned_of s) run.last r g;
     }
 
-pub acknowledged_right : (s : WireView) (worlds : List World) (r : ReportView) → IsRunOf s worlds r → IsAcknowledgedRight (seen_of s) r
+pub acknowledged_right : (s : WireView) (worlds : List ReportWorld) (r : ReportView) → IsRunOf s worlds r → IsAcknowledgedRight (seen_of s) r
 acknowledged_right s worlds r run =
     let g = ground_of s worlds r run in
     record {
@@ -287,7 +287,7 @@ acknowledged_right s worlds r run =
       direct = λ direct. absurd (false≢true (sym direct));
     }
 
-lawful_two : (keep : ℕ) (s : WireView) (worlds : List World) (r : ReportView) → s.version ≡ Two keep → IsRunOf s worlds r → IsLawfulKeeping (keep_of s.version) worlds (seen_of s) r
+lawful_two : (keep : ℕ) (s : WireView) (worlds : List ReportWorld) (r : ReportView) → s.version ≡ Two keep → IsRunOf s worlds r → IsLawfulKeeping (keep_of s.version) worlds (seen_of s) r
 lawful_two keep s worlds r version run =
     let g = ground_of s worlds r run in
     let accounts = accounts_of (steps_in s) in
@@ -320,5 +320,5 @@ lawful_two keep s worlds r version run =
       };
     }
 
-pub lawful_keeping : (keep : ℕ) (s : WireView) (worlds : List World) (r : ReportView) → s.version ≡ Two keep → IsRunOf s worlds r → IsLawfulKeeping keep worlds (seen_of s) r
+pub lawful_keeping : (keep : ℕ) (s : WireView) (worlds : List ReportWorld) (r : ReportView) → s.version ≡ Two keep → IsRunOf s worlds r → IsLawfulKeeping keep worlds (seen_of s) r
 lawful_keeping keep s worlds r version run = subst (λ k. IsLawfulKeeping k worlds (seen_of s) r) (ap keep_of version) (lawful_two keep s worlds r version run)

@@ -8,7 +8,7 @@ use Rattle.std.specs.List.{AllByRecursion, filter, flat_map, list_all, slice_get
 use Rattle.std.specs.List.Sorted.{IsNonDecreasing}
 use Rattle.std.specs.Str.{bytes_eq}
 use Rattle.mam_archive.proofs.Newest.{newest_few}
-use Rattle.mam_archive.proofs.NumberedEntries.{at_place}
+use Rattle.mam_archive.proofs.NumberedEntries.{at_position}
 use Rattle.mam_archive.specs.Entries.{EntryView, newest}
 use Rattle.base_lemmas.proofs.Bytes.{bytes_eq-self}
 use Rattle.base_lemmas.proofs.Lists.{AllByRecursion-weaker}
@@ -22,10 +22,10 @@ use Rattle.cmd_report.specs.Addresses.{origin_of}
 use Rattle.cmd_report.specs.EntryLines.{EntryLineView}
 use Rattle.cmd_report.specs.Lawful.{AgreeOnStamp, ArePages, EachPair, IsLawful, IsPrefixOfAccount, account_named, at_any_time, device_named, submission, take_named, takes_in, text_named}
 use Rattle.cmd_report.specs.LawfulRuns.{IsInForm, IsLastNumber, KeepsLaws, KeepsLawsOf, tells_moments}
-use Rattle.cmd_report.specs.Lines.{entry_line, take_line, told_moment}
+use Rattle.cmd_report.specs.Lines.{entry_line, reported_moment, take_line}
 use Rattle.cmd_report.specs.Reports.{AccountView, DeviceView, ReportView}
 use Rattle.cmd_report.specs.Takes.{Take, archive_of, concerns, entry_of, numbered_from}
-use Rattle.cmd_report.specs.Worlds.{World}
+use Rattle.cmd_report.specs.Worlds.{ReportWorld}
 use Rattle.cmd_report.specs.declared.report.TakeLine.{TakeLine}
 use Rattle.cmd_schedule.proofs.Lists.{all_append, all_filter, all_flat_map, all_map, all_of, map-map, map_same}
 use Rattle.cmd_schedule.proofs.StandingSteps.{home_in, homes_are, homes_exist}
@@ -54,7 +54,7 @@ use Rattle.sim_1_applications.proofs.Owners.{Differ, LineAt, name_is, name_tells
 use Rattle.sim_1_applications.proofs.PageLaws.{pages_right}
 use Rattle.sim_1_applications.proofs.Shown.{last_newest, shown_at}
 use Rattle.sim_1_applications.proofs.TakenLaws.{device_epochs, device_numbered, each_device, takes_exist, takes_submitted}
-use Rattle.sim_1_applications.proofs.Turned.{history_few, history_follows}
+use Rattle.sim_1_applications.proofs.Rendered.{history_few, history_follows}
 use Rattle.sim_1_applications.specs.Reported.{account_line, history_at, name_at, take_of}
 use Rattle.sim_1_applications.specs.Runs.{IsRunOf, begins, moves_of, owned_of, steps_in}
 use Rattle.sim_1_applications.proofs.Stamps.{IsStamped, moment_in, moments_found, stamps_agree, takes_apart}
@@ -89,20 +89,20 @@ name_has P (o ∷ owned) (suc i) all within = name_has P owned i all.1 (omega ar
 
 names_tell : (owned : List Owned) → Differ (names_of owned) → (i j : ℕ) → i < length owned → j < length owned → name_at owned i ≡ name_at owned j → i ≡ j
 names_tell owned differ i j first second same =
-    let o = at_place i owned first in
+    let o = at_position i owned first in
     let hit : bytes_eq o.0.device (name_at owned j) ≡ true = ap (bytes_eq o.0.device) (sym same ∙ name_is owned i o.0 o.1) ∙ bytes_eq-self o.0.device in
     sym (eqb-true j i (sym (name_tells owned i j o.0 differ o.1 second) ∙ hit))
 
 -- What is known of a run whose archives keep all.
 
-few_of : (s : WireView) (worlds : List World) (r : ReportView) (run : IsRunOf s worlds r) (account : List ℕ) → length (history_at (owned_of s) run.last.takes account) ≤ 4294967295
+few_of : (s : WireView) (worlds : List ReportWorld) (r : ReportView) (run : IsRunOf s worlds r) (account : List ℕ) → length (history_at (owned_of s) run.last.takes account) ≤ 4294967295
 few_of s worlds r run account = let few = history_few (owned_of s) run.last.takes account in let all = run.few in omega arith
 
-whole_of : (s : WireView) (worlds : List World) (r : ReportView) (run : IsRunOf s worlds r) (keep : ℕ) → keep ≡ 4294967295 → (account : List ℕ) →
+whole_of : (s : WireView) (worlds : List ReportWorld) (r : ReportView) (run : IsRunOf s worlds r) (keep : ℕ) → keep ≡ 4294967295 → (account : List ℕ) →
     newest keep (history_at (owned_of s) run.last.takes account) ≡ history_at (owned_of s) run.last.takes account
 whole_of s worlds r run keep wide account = newest_few keep (history_at (owned_of s) run.last.takes account) (let few = few_of s worlds r run account in omega arith)
 
-each_account : (P : AccountView → Type 0) (s : WireView) (worlds : List World) (r : ReportView) (run : IsRunOf s worlds r) →
+each_account : (P : AccountView → Type 0) (s : WireView) (worlds : List ReportWorld) (r : ReportView) (run : IsRunOf s worlds r) →
     ((name : List ℕ) → P (account_line (keep_of s.version) (history_at (owned_of s) run.last.takes name) name)) → AllByRecursion P r.accounts
 each_account P s worlds r run each =
     subst (AllByRecursion P) (sym run.reported.accounts)
@@ -111,7 +111,7 @@ each_account P s worlds r run each =
 
 -- The form.
 
-moment_told : (version : Version) (moment : ℕ) → is_some (told_moment version moment) ≡ tells_moments version
+moment_told : (version : Version) (moment : ℕ) → is_some (reported_moment version moment) ≡ tells_moments version
 moment_told One moment = refl
 moment_told (Two keep) moment = refl
 
@@ -119,7 +119,7 @@ keeps_all : (version : Version) → tells_moments version ≡ false → keep_of 
 keeps_all One untold = refl
 keeps_all (Two keep) untold = absurd (true≢false untold)
 
-form_of : (s : WireView) (worlds : List World) (r : ReportView) → IsRunOf s worlds r → IsInForm s.version r
+form_of : (s : WireView) (worlds : List ReportWorld) (r : ReportView) → IsRunOf s worlds r → IsInForm s.version r
 form_of s worlds r run =
     let g = ground_of s worlds r run in
     record {
@@ -142,7 +142,7 @@ named_back owned report version t is =
     ∙ ap (λ account. record { device = name_at owned t.device; account = account; epoch = t.said.epoch; n = t.said.n; to = t.said.to; text = text_named (submission t.said.epoch t.said.n is.line.said); moment = 0 }) is.account
     ∙ ap (λ said. record { device = name_at owned t.device; account = t.account; epoch = t.said.epoch; n = t.said.n; to = t.said.to; text = text_named said; moment = 0 }) is.found.1
 
-takes_untimed : (s : WireView) (worlds : List World) (r : ReportView) (run : IsRunOf s worlds r) → takes_in r ≡ map untimed (map (take_of (owned_of s)) run.last.takes)
+takes_untimed : (s : WireView) (worlds : List ReportWorld) (r : ReportView) (run : IsRunOf s worlds r) → takes_in r ≡ map untimed (map (take_of (owned_of s)) run.last.takes)
 takes_untimed s worlds r run =
     let owned = owned_of s in
     let named : TakeLine → Take = λ line. take_named line (device_named line.device r.devices) in
@@ -170,7 +170,7 @@ moments_from low now (t ∷ ts) known =
     let rest = moments_from t.moment now ts known.1 in
     ((known.0, AllByRecursion-weaker (λ u. t.moment ≤ u.moment) (λ u. low ≤ u.moment) (λ u is. let first = known.0 in omega arith) ts rest.0), rest)
 
-stamps_rise : (s : WireView) (worlds : List World) (r : ReportView) (run : IsRunOf s worlds r) (name : List ℕ) → IsNonDecreasing (map stamp_of (map entry_line (history_at (owned_of s) run.last.takes name)))
+stamps_rise : (s : WireView) (worlds : List ReportWorld) (r : ReportView) (run : IsRunOf s worlds r) (name : List ℕ) → IsNonDecreasing (map stamp_of (map entry_line (history_at (owned_of s) run.last.takes name)))
 stamps_rise s worlds r run name =
     let g = ground_of s worlds r run in
     let mine : List Take = filter (concerns name) (map (take_of (owned_of s)) run.last.takes) in
@@ -210,7 +210,7 @@ all_four : (P Q R S : sessions.Take → Type 0) → ((x : sessions.Take) → P x
 all_four P Q R S each [] first second third = tt
 all_four P Q R S each (x ∷ xs) first second third = (each x first.0 second.0 third.0, all_four P Q R S each xs first.1 second.1 third.1)
 
-takes_known : (s : WireView) (worlds : List World) (r : ReportView) (run : IsRunOf s worlds r) → AreCounted run.last → AllByRecursion (λ t. OfTake (owned_of s) run.last.takes (take_of (owned_of s) t)) run.last.takes
+takes_known : (s : WireView) (worlds : List ReportWorld) (r : ReportView) (run : IsRunOf s worlds r) → AreCounted run.last → AllByRecursion (λ t. OfTake (owned_of s) run.last.takes (take_of (owned_of s) t)) run.last.takes
 takes_known s worlds r run counted =
     let owned = owned_of s in
     let g = ground_of s worlds r run in
@@ -220,7 +220,7 @@ takes_known s worlds r run counted =
     (AllByRecursion-weaker (λ name. is_name name ≡ true) (λ name. list_all is_name_byte name ≡ true) (λ name is. name_bytes name is) (devices_of (steps_in s)) (wire_named nothing_above 2 s.lines run.right.lines)) in
     let many = g.many in
     let apart = takes_apart (length owned) run.last.takes within (λ i low.
-    let d = at_place i run.last.devices (omega arith) in (once_in_order run.last g.taken i d.0 d.1).rise) in
+    let d = at_position i run.last.devices (omega arith) in (once_in_order run.last g.taken i d.0 d.1).rise) in
     all_four (λ t. t.device < length owned) (λ t. (t.said.epoch < 2 ^ 64) × (t.said.n < 2 ^ 64)) (λ t. t.moment ≡ moment_in t.device t.said.epoch t.said.n run.last.takes)
     (λ t. OfTake owned run.last.takes (take_of owned t))
     (λ t low counts moment. record {
@@ -234,7 +234,7 @@ takes_known s worlds r run counted =
     })
     run.last.takes within counted (moments_found run.last.takes apart)
 
-entries_stamped : (s : WireView) (worlds : List World) (r : ReportView) (run : IsRunOf s worlds r) → AreCounted run.last → keep_of s.version ≡ 4294967295 → (name : List ℕ) →
+entries_stamped : (s : WireView) (worlds : List ReportWorld) (r : ReportView) (run : IsRunOf s worlds r) → AreCounted run.last → keep_of s.version ≡ 4294967295 → (name : List ℕ) →
     AllByRecursion (IsStamped (owned_of s) run.last.takes) (account_line (keep_of s.version) (history_at (owned_of s) run.last.takes name) name).entries
 entries_stamped s worlds r run counted wide name =
     let owned = owned_of s in
@@ -261,7 +261,7 @@ get_all P [] i x all at = absurd (none-some x at)
 get_all P (y ∷ xs) zero x all at = subst P (same_Some y x at) all.0
 get_all P (y ∷ xs) (suc i) x all at = get_all P xs i x all.1 at
 
-account_exists : (s : WireView) (worlds : List World) (r : ReportView) (run : IsRunOf s worlds r) (i : ℕ) (o : Owned) → slice_get (owned_of s) i ≡ Some o → is_among o.account (accounts_of (steps_in s)) ≡ true
+account_exists : (s : WireView) (worlds : List ReportWorld) (r : ReportView) (run : IsRunOf s worlds r) (i : ℕ) (o : Owned) → slice_get (owned_of s) i ≡ Some o → is_among o.account (accounts_of (steps_in s)) ≡ true
 account_exists s worlds r run i o owner =
     let all = steps_in s in
     let known = standing s worlds r run in
@@ -270,7 +270,7 @@ account_exists s worlds r run i o owner =
     (all_map (λ (p : Owned). is_among p.account (accounts_of all) ≡ true) (home_in all) (devices_of all) (homes_exist all [] all refl known)))
     owner
 
-prefix_of : (s : WireView) (worlds : List World) (r : ReportView) (run : IsRunOf s worlds r) → keep_of s.version ≡ 4294967295 → (i : ℕ) (line : DeviceView) →
+prefix_of : (s : WireView) (worlds : List ReportWorld) (r : ReportView) (run : IsRunOf s worlds r) → keep_of s.version ≡ 4294967295 → (i : ℕ) (line : DeviceView) →
     LineAt (keep_of s.version) (history_at (owned_of s) run.last.takes) (owned_of s) run.last.devices i line → IsPrefixOfAccount line (account_named line.account r.accounts)
 prefix_of s worlds r run wide i line at =
     let history = history_at (owned_of s) run.last.takes at.o.account in
@@ -283,8 +283,8 @@ prefix_of s worlds r run wide i line at =
     (ap (map entry_line) (whole_of s worlds r run (keep_of s.version) wide at.o.account)))
 
 -- what a world's archive has is as long as its last number says
-long_world : (s : WireView) (worlds : List World) (r : ReportView) (run : IsRunOf s worlds r) → keep_of s.version ≡ 4294967295 → (account : List ℕ) → is_among account (accounts_of (steps_in s)) ≡ true →
-    (j : ℕ) (shown : World) → slice_get worlds j ≡ Some shown → length (shown.archive account) ≡ last_number (shown.archive account)
+long_world : (s : WireView) (worlds : List ReportWorld) (r : ReportView) (run : IsRunOf s worlds r) → keep_of s.version ≡ 4294967295 → (account : List ℕ) → is_among account (accounts_of (steps_in s)) ≡ true →
+    (j : ℕ) (shown : ReportWorld) → slice_get worlds j ≡ Some shown → length (shown.archive account) ≡ last_number (shown.archive account)
 long_world s worlds r run wide account exists j shown found =
     let g = ground_of s worlds r run in
     let accounts = accounts_of (steps_in s) in
@@ -306,13 +306,13 @@ last_small : (o : Option (List ℕ)) (n : ℕ) → IsLastNumber o n → n ≤ 42
 last_small None n is = omega arith
 last_small (Some id) n is = is.1
 
-pages_of : (s : WireView) (worlds : List World) (r : ReportView) (run : IsRunOf s worlds r) → keep_of s.version ≡ 4294967295 → (i : ℕ) (line : DeviceView) →
+pages_of : (s : WireView) (worlds : List ReportWorld) (r : ReportView) (run : IsRunOf s worlds r) → keep_of s.version ≡ 4294967295 → (i : ℕ) (line : DeviceView) →
     LineAt (keep_of s.version) (history_at (owned_of s) run.last.takes) (owned_of s) run.last.devices i line → ArePages worlds (seen_of s) line
 pages_of s worlds r run wide i line at =
     let history = history_at (owned_of s) run.last.takes at.o.account in
     let all = pages_right (keep_of s.version) worlds (seen_of s) history at.d line refl (device_paged s worlds r run i line at) in
     let exists = account_exists s worlds r run i at.o at.owner in
-    let long : (j : ℕ) (shown : World) → slice_get worlds j ≡ Some shown → length (shown.archive line.account) ≡ last_number (shown.archive line.account) =
+    let long : (j : ℕ) (shown : ReportWorld) → slice_get worlds j ≡ Some shown → length (shown.archive line.account) ≡ last_number (shown.archive line.account) =
     λ j shown found. subst (λ account. length (shown.archive account) ≡ last_number (shown.archive account)) (sym at.is.account) (long_world s worlds r run wide at.o.account exists j shown found) in
     record {
       tiles = tiles_right (keep_of s.version) history at.d line (device_logged s worlds r run i line at) (let few = few_of s worlds r run at.o.account in omega arith) at.is.logged at.is.pages;
@@ -333,7 +333,7 @@ pages_of s worlds r run wide i line at =
 
 -- The laws.
 
-lawful_one : (s : WireView) (worlds : List World) (r : ReportView) (run : IsRunOf s worlds r) → AreCounted run.last → keep_of s.version ≡ 4294967295 → IsLawful worlds (seen_of s) r
+lawful_one : (s : WireView) (worlds : List ReportWorld) (r : ReportView) (run : IsRunOf s worlds r) → AreCounted run.last → keep_of s.version ≡ 4294967295 → IsLawful worlds (seen_of s) r
 lawful_one s worlds r run counted wide =
     let g = ground_of s worlds r run in
     let accounts = accounts_of (steps_in s) in
@@ -370,9 +370,9 @@ lawful_one s worlds r run counted wide =
       };
     }
 
-laws_of : (version : Version) (s : WireView) (worlds : List World) (r : ReportView) (run : IsRunOf s worlds r) → AreCounted run.last → s.version ≡ version → KeepsLawsOf version worlds (seen_of s) r
+laws_of : (version : Version) (s : WireView) (worlds : List ReportWorld) (r : ReportView) (run : IsRunOf s worlds r) → AreCounted run.last → s.version ≡ version → KeepsLawsOf version worlds (seen_of s) r
 laws_of One s worlds r run counted is = lawful_one s worlds r run counted (ap keep_of is)
 laws_of (Two keep) s worlds r run counted is = lawful_keeping keep s worlds r is run
 
-pub laws_kept : (s : WireView) (worlds : List World) (r : ReportView) (run : IsRunOf s worlds r) → AreCounted run.last → KeepsLaws worlds (seen_of s) r
+pub laws_kept : (s : WireView) (worlds : List ReportWorld) (r : ReportView) (run : IsRunOf s worlds r) → AreCounted run.last → KeepsLaws worlds (seen_of s) r
 laws_kept s worlds r run counted = record { form = form_of s worlds r run; laws = laws_of s.version s worlds r run counted refl }

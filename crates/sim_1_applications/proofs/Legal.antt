@@ -4,11 +4,11 @@ use Rattle.std.specs.Prelude.{◌&&◌, not, nat_le}
 use Rattle.std.specs.List.{slice_get}
 use Rattle.std.specs.Option.{option_map_or}
 use Rattle.std.proofs.lemmas.Bool.{leb-true}
-use Rattle.sim_1_applications.specs.Devices.{World, Device, OpenPage, Stage, Row}
+use Rattle.sim_1_applications.specs.Devices.{AppWorld, Device, OpenPage, Stage, Row}
 use Rattle.sim_1_applications.specs.Devices.Stage.{Named, Counted, Known}
 use Rattle.sim_1_applications.specs.Devices.Row.{NoRow, Unread, Present}
-use Rattle.sim_1_applications.specs.Events.{Event, Act, May, Moves, Reaches, after, acted, is_present}
-use Rattle.sim_1_applications.specs.Events.Event.{At, Tick}
+use Rattle.sim_1_applications.specs.Events.{AppEvent, Act, May, Moves, Reaches, after, acted, is_present}
+use Rattle.sim_1_applications.specs.Events.AppEvent.{At, Tick}
 use Rattle.sim_1_applications.specs.Histories.{state_after}
 use Rattle.sim_1_applications.specs.Events.Act.{Bind, ReadBound, Enable, ReadEnabled, End, Drop, Acknowledge, Say, CatchUp, ServerHandles, ClientHandles}
 
@@ -98,15 +98,15 @@ may_is (CatchUp max) d e = let p = both _ _ e in let q = both _ _ p.1 in let r =
 may_is (ServerHandles fits full) d e = let p = both _ _ e in let q = both _ _ p.1 in (present _ p.0, unnamed _ q.0, leb-true _ _ q.1)
 may_is ClientHandles d e = let p = both _ _ e in (p.0, leb-true _ _ p.1)
 
-abbrev pub happens : Event → World → Bool
+abbrev pub happens : AppEvent → AppWorld → Bool
 happens (Tick ms) w = true
 happens (At i act) w = option_map_or (may act) (slice_get w.devices i) false
 
-abbrev pub is_run : List Event → World → Bool
+abbrev pub is_run : List AppEvent → AppWorld → Bool
 is_run [] w = true
 is_run (event ∷ all) w = happens event w && is_run all (after w event)
 
-moves : (event : Event) (w : World) → happens event w ≡ true → Moves event w (after w event)
+moves : (event : AppEvent) (w : AppWorld) → happens event w ≡ true → Moves event w (after w event)
 moves (Tick ms) w e = refl
 moves (At i act) w e = found (slice_get w.devices i) refl e
   where
@@ -116,6 +116,6 @@ moves (At i act) w e = found (slice_get w.devices i) refl e
     found (Some d) at e2 = (d, at, may_is act d e2, ap (λ o. option_map_or (acted w i act) o w) at)
 
 -- what passes the test is a run
-pub runs : (all : List Event) (w : World) → is_run all w ≡ true → Reaches all w (state_after w all)
+pub runs : (all : List AppEvent) (w : AppWorld) → is_run all w ≡ true → Reaches all w (state_after w all)
 runs [] w e = refl
 runs (event ∷ all) w e = let p = both _ _ e in (after w event, moves event w p.0, runs all (after w event) p.1)

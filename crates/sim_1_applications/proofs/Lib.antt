@@ -41,7 +41,7 @@ pub mod Owners
 pub mod SaidLines
 pub mod Ground
 pub mod TakenLaws
-pub mod Turned
+pub mod Rendered
 pub mod LogLaws
 pub mod Outcomes
 pub mod Moments

@@ -23,7 +23,7 @@ use Rattle.sim_1_applications.specs.Devices.{Reading, log_of}
 use Rattle.sim_1_applications.specs.Devices as sessions
 use Rattle.sim_1_applications.specs.Events.{is_number_among}
 use Rattle.sim_1_applications.specs.Kept.{AreApart, LogKept, TilesKept}
-use Rattle.sim_1_applications.proofs.Turned.{device_turned, id_in_history, id_not_among, run_numbers, turns_of, turns_rise}
+use Rattle.sim_1_applications.proofs.Rendered.{device_rendered, id_in_history, id_not_among, run_numbers, turns_of, turns_rise}
 use Rattle.sim_1_applications.specs.Reported.{held_line, pages_of}
 
 -- what is known of a device's log beside its account's history
@@ -38,8 +38,8 @@ pub record Logged (keep : ℕ) (history : List EntryView) (d : sessions.Device) 
 pub rising : (keep : ℕ) (history : List EntryView) (d : sessions.Device) → Logged keep history d → AreRising 0 (length history) (turns_of d.reading.tiles)
 rising keep history d g = turns_rise keep 0 0 (length history) d.reading.tiles g.tiles.tiles
 
-pub turned : (keep : ℕ) (history : List EntryView) (d : sessions.Device) → Logged keep history d → pages_of keep history d.reading ≡ pages_by keep history 0 (turns_of d.reading.tiles)
-turned keep history d g = device_turned keep (length history) history d.reading g.some g.tiles refl g.follow
+pub rendered : (keep : ℕ) (history : List EntryView) (d : sessions.Device) → Logged keep history d → pages_of keep history d.reading ≡ pages_by keep history 0 (turns_of d.reading.tiles)
+rendered keep history d g = device_rendered keep (length history) history d.reading g.some g.tiles refl g.follow
 
 -- the numbers of the log
 log_numbers : (keep : ℕ) (history : List EntryView) (d : sessions.Device) → Logged keep history d → map (λ (e : EntryView). e.number) (run_by keep history 0 (turns_of d.reading.tiles)) ≡ log_of d.reading
@@ -85,7 +85,7 @@ runs_right keep history d line g logged held =
     let turns = turns_of d.reading.tiles in
     let run = run_by keep history 0 turns in
     let lines = logged_from 0 (pages_by keep history 0 turns) in
-    let is : line.logged ≡ lines = logged ∙ ap (logged_from 0) (turned keep history d g) in
+    let is : line.logged ≡ lines = logged ∙ ap (logged_from 0) (rendered keep history d g) in
     let rise = rising keep history d g in
     let low : 0 ≤ 0 = omega arith in
     let long : high ≤ high = omega arith in

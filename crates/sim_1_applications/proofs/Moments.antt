@@ -8,39 +8,39 @@ use Rattle.sim_1_applications.proofs.FreshRuns.{fresh}
 use Rattle.sim_1_applications.proofs.Later.{later_along}
 use Rattle.sim_1_applications.proofs.Runs.{taken_along}
 use Rattle.sim_1_applications.proofs.TileRuns.{read_along}
-use Rattle.sim_1_applications.specs.Devices.{Device, Tile, World, last_of}
+use Rattle.sim_1_applications.specs.Devices.{AppWorld, Device, Tile, last_of}
 use Rattle.sim_1_applications.specs.Events as events
-use Rattle.sim_1_applications.specs.Events.Event.{At, Tick}
+use Rattle.sim_1_applications.specs.Events.AppEvent.{At, Tick}
 use Rattle.sim_1_applications.specs.Histories.{asked_of, state_after, states_of}
 use Rattle.sim_1_applications.specs.Kept.{AreTiles, Read, Taken, end_of}
 
 -- a state that the run passes on its way to the last one
-pub record Passed (v last : World) : Type 0 where
+pub record Passed (v last : AppWorld) : Type 0 where
   pub taken : Taken v
   pub read : Read v
-  pub onward : List events.Event
+  pub onward : List events.AppEvent
   pub reaches : events.Reaches onward v last
 
-moves_is : (event : events.Event) (w next : World) → events.Moves event w next → next ≡ events.after w event
+moves_is : (event : events.AppEvent) (w next : AppWorld) → events.Moves event w next → next ≡ events.after w event
 moves_is (Tick ms) w next is = is
 moves_is (At i act) w next is = is.3 ∙ sym (ap (λ o. option_map_or (events.acted w i act) o w) is.1)
 
-pub reaches_is : (all : List events.Event) (w last : World) → events.Reaches all w last → last ≡ state_after w all
+pub reaches_is : (all : List events.AppEvent) (w last : AppWorld) → events.Reaches all w last → last ≡ state_after w all
 reaches_is [] w last is = is
 reaches_is (event ∷ all) w last reaches = reaches_is all reaches.0 last reaches.2 ∙ ap (λ v. state_after v all) (moves_is event w reaches.0 reaches.1)
 
-record Between (xs ys : List events.Event) (w last : World) : Type 0 where
-  mid : World
+record Between (xs ys : List events.AppEvent) (w last : AppWorld) : Type 0 where
+  mid : AppWorld
   first : events.Reaches xs w mid
   second : events.Reaches ys mid last
 
-split_run : (xs ys : List events.Event) (w last : World) → events.Reaches (xs ++ ys) w last → Between xs ys w last
+split_run : (xs ys : List events.AppEvent) (w last : AppWorld) → events.Reaches (xs ++ ys) w last → Between xs ys w last
 split_run [] ys w last reaches = record { mid = w; first = refl; second = reaches }
 split_run (x ∷ xs) ys w last reaches =
     let rest = split_run xs ys reaches.0 last reaches.2 in
     record { mid = rest.mid; first = (reaches.0, reaches.1, rest.first); second = rest.second }
 
-pub passed_at : (moves : List (List events.Event)) (w last : World) (j : ℕ) (v : World) → events.Reaches (flat_map (λ move. move) moves) w last → Taken w → Read w → slice_get (states_of w moves) j ≡ Some v → Passed v last
+pub passed_at : (moves : List (List events.AppEvent)) (w last : AppWorld) (j : ℕ) (v : AppWorld) → events.Reaches (flat_map (λ move. move) moves) w last → Taken w → Read w → slice_get (states_of w moves) j ≡ Some v → Passed v last
 passed_at [] w last zero v reaches taken read at =
     subst (λ u. Passed u last) (same_Some w v at) (record { taken = taken; read = read; onward = []; reaches = reaches })
 passed_at [] w last (suc j) v reaches taken read at = absurd (none-some v at)
@@ -80,7 +80,7 @@ get_front (x ∷ xs) more zero t within at = at
 get_front (x ∷ xs) more (suc k) t within at = get_front xs more k t (omega arith) at
 
 -- the device as it was
-pub record WasDevice (v last : World) (i : ℕ) (d : Device) : Type 0 where
+pub record WasDevice (v last : AppWorld) (i : ℕ) (d : Device) : Type 0 where
   pub was : Device
   pub at : slice_get v.devices i ≡ Some was
   pub account : was.account ≡ d.account
@@ -89,30 +89,30 @@ pub record WasDevice (v last : World) (i : ℕ) (d : Device) : Type 0 where
   -- each page that had been taken over by then was answered by one that had given no more
   pub over : (k : ℕ) (t : Tile) → slice_get d.reading.tiles k ≡ Some t → k < length was.reading.tiles → t.given ≤ last_of v.takes was.account
 
-place_there : (v : World) (i : ℕ) → i < length v.devices → (d : Device) × (slice_get v.devices i ≡ Some d)
-place_there v i within = found v.devices i within
+position_there : (v : AppWorld) (i : ℕ) → i < length v.devices → (d : Device) × (slice_get v.devices i ≡ Some d)
+position_there v i within = found v.devices i within
   where
     found : (ds : List Device) (j : ℕ) → j < length ds → (d : Device) × (slice_get ds j ≡ Some d)
     found [] j low = absurd (omega arith)
     found (d ∷ ds) zero low = (d, refl)
     found (d ∷ ds) (suc j) low = found ds j (omega arith)
 
-pub was_device : (v last : World) (i : ℕ) (d : Device) → Passed v last → Read last → slice_get last.devices i ≡ Some d → WasDevice v last i d
+pub was_device : (v last : AppWorld) (i : ℕ) (d : Device) → Passed v last → Read last → slice_get last.devices i ≡ Some d → WasDevice v last i d
 was_device v last i d passed read at =
     let later = later_along passed.onward v last passed.reaches in
     let many = later.many in
     let within = slice_get_within last.devices i d at in
-    let there = place_there v i (omega arith) in
-    let behind = later.devices i there.0 there.1 in
-    let same : behind.device ≡ d = same_Some behind.device d (sym behind.at ∙ at) in
-    let tiles = subst (λ (e : Device). (more : List Tile) × (e.reading.tiles ≡ there.0.reading.tiles ++ more)) same behind.later.tiles in
+    let there = position_there v i (omega arith) in
+    let following = later.devices i there.0 there.1 in
+    let same : following.device ≡ d = same_Some following.device d (sym following.at ∙ at) in
+    let tiles = subst (λ (e : Device). (more : List Tile) × (e.reading.tiles ≡ there.0.reading.tiles ++ more)) same following.later.tiles in
     let seen = fresh passed.onward v last i there.0 passed.reaches there.1 in
     let seen_same : seen.d ≡ d = same_Some seen.d d (sym seen.at ∙ at) in
     let known = (read.devices i d at).tiles.tiles in
     record {
       was = there.0;
       at = there.1;
-      account = sym (behind.later.account) ∙ ap (λ (e : Device). e.account) same;
+      account = sym (following.later.account) ∙ ap (λ (e : Device). e.account) same;
       asked = λ k t found early.
           let began = subst (λ (e : Device). Seen (last_of v.takes there.0.account) (asked_of there.0.reading) (last_of last.takes e.account) e.reading) seen_same seen.seen in
           let low = began.tiles k t found early in

@@ -2,7 +2,7 @@
 use Rattle.std.proofs.Common.{◌≡◌, ℕ, suc, ◌+◌, ◌<◌, ◌≤◌, Bool, true, false, cond, List, [], ◌∷◌, ◌++◌, Some, length, sym, ◌∙◌, subst, arith, append_assoc, inl, inr}
 use Rattle.std.specs.List.{slice_get, flat_map, filter, AllByRecursion}
 use Rattle.sim_1_applications.specs.Stanzas.{Submission, messages}
-use Rattle.sim_1_applications.specs.Devices.{Session, Device, World}
+use Rattle.sim_1_applications.specs.Devices.{Session, Device, AppWorld}
 use Rattle.sim_1_applications.specs.Events.{is_among}
 use Rattle.sim_1_applications.specs.Kept.{AreNumbered, ArePast, IsNumbered, accepted, Taken}
 use Rattle.sim_1_applications.specs.Laws.{EachPair, Precedes, IsOnceInOrder}
@@ -66,7 +66,7 @@ from_epoch accounts e (s ∷ past) now known present =
           (all_weaker (λ m. suc e ≤ m.epoch) (λ m. e ≤ m.epoch) rest (λ m high. omega arith) others.1)),
     )
 
-pub once_in_order : (w : World) → Taken w → (i : ℕ) (d : Device) → slice_get w.devices i ≡ Some d → IsOnceInOrder w.takes i
+pub once_in_order : (w : AppWorld) → Taken w → (i : ℕ) (d : Device) → slice_get w.devices i ≡ Some d → IsOnceInOrder w.takes i
 once_in_order w kept i d at =
     let was = kept.devices i d at in
     let sessions = was.sessions in

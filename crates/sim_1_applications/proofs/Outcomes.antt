@@ -25,7 +25,7 @@ use Rattle.cmd_schedule.specs.declared.schedule.WireStep.{WireStep}
 use Rattle.cmd_schedule.specs.declared.schedule.WireStep.TheVariants.{Common}
 use Rattle.sim_1_applications.proofs.Spoken.{all_spoken, as_spoken, is_by, put_of, spoken_at}
 use Rattle.sim_1_applications.specs.Devices.{Session, Sessions, up_put}
-use Rattle.sim_1_applications.specs.Events.{Event}
+use Rattle.sim_1_applications.specs.Events.{AppEvent}
 use Rattle.sim_1_applications.specs.Histories.{Spoken, spoken_by, spoken_in}
 use Rattle.sim_1_applications.specs.Stanzas.{Up, messages}
 use Rattle.sim_1_applications.specs.Stanzas.Up.{Carbons, Presence, Message, Query}
@@ -73,14 +73,14 @@ lines_by name refusals = map (λ (r : Refusal). r.line) (filter (λ r. bytes_eq 
 -- what is behind the line, and what it may come to
 record Further (i : ℕ) (spoken rest : List Spoken) (Behind : List SaidLine → List RefusedLine → Type 0) (said : List SaidLine) (refused : List RefusedLine) : Type 0 where
   texts : AreTexts (filter (is_by i) spoken ++ rest) said
-  behind : (later : List SaidLine) → AreTexts rest later → Behind later refused
+  following : (later : List SaidLine) → AreTexts rest later → Behind later refused
 
 -- nothing was said or refused
 nothing : (i : ℕ) (name : List ℕ) (spoken rest : List Spoken) (refusals : List Refusal) (Behind : List SaidLine → List RefusedLine → Type 0) (said : List SaidLine) (refused : List RefusedLine) →
     spoken ≡ [] → refusals ≡ [] → Further i spoken rest Behind said refused → Behind said (lines_by name refusals ++ refused)
 nothing i name spoken rest refusals Behind said refused silent taken further =
     subst (λ rs. Behind said (lines_by name rs ++ refused)) (sym taken)
-    (further.behind said (subst (λ xs. AreTexts (filter (is_by i) xs ++ rest) said) silent further.texts))
+    (further.following said (subst (λ xs. AreTexts (filter (is_by i) xs ++ rest) said) silent further.texts))
 
 -- a refusal of the device, or of another
 refusal_here : (i : ℕ) (device name : List ℕ) (number : ℕ) (spoken rest : List Spoken) (refusals : List Refusal) (Behind : List SaidLine → List RefusedLine → Type 0) (said : List SaidLine) (refused : List RefusedLine) →
@@ -88,19 +88,19 @@ refusal_here : (i : ℕ) (device name : List ℕ) (number : ℕ) (spoken rest : 
 refusal_here i device name number spoken rest refusals Behind said refused same silent is further =
     subst (λ rs. BeginsRefused number (Behind said) (lines_by device rs ++ refused)) (sym is.1)
     (subst (λ b. BeginsRefused number (Behind said) (map (λ (r : Refusal). r.line) (cond b (record { device = name; line = record { line = number; why = is.0 } } ∷ []) []) ++ refused)) (sym same)
-    (refl, further.behind said (subst (λ xs. AreTexts (filter (is_by i) xs ++ rest) said) silent further.texts)))
+    (refl, further.following said (subst (λ xs. AreTexts (filter (is_by i) xs ++ rest) said) silent further.texts)))
 
 refusal_there : (i : ℕ) (device name : List ℕ) (number : ℕ) (spoken rest : List Spoken) (refusals : List Refusal) (Behind : List SaidLine → List RefusedLine → Type 0) (said : List SaidLine) (refused : List RefusedLine) →
     bytes_eq device name ≡ false → spoken ≡ [] → IsRefused name number refusals → Further i spoken rest Behind said refused → Behind said (lines_by device refusals ++ refused)
 refusal_there i device name number spoken rest refusals Behind said refused other silent is further =
     subst (λ rs. Behind said (lines_by device rs ++ refused)) (sym is.1)
     (subst (λ b. Behind said (map (λ (r : Refusal). r.line) (cond b (record { device = name; line = record { line = number; why = is.0 } } ∷ []) []) ++ refused)) (sym other)
-    (further.behind said (subst (λ xs. AreTexts (filter (is_by i) xs ++ rest) said) silent further.texts)))
+    (further.following said (subst (λ xs. AreTexts (filter (is_by i) xs ++ rest) said) silent further.texts)))
 
 begins_said : (to text : List ℕ) (x : Spoken) (rest : List Spoken) (Behind : List SaidLine → List RefusedLine → Type 0) (said : List SaidLine) (refused : List RefusedLine) →
     x.to ≡ to → x.text ≡ text → AreTexts (x ∷ rest) said → ((later : List SaidLine) → AreTexts rest later → Behind later refused) → BeginsSaid to text (λ others. Behind others refused) said
-begins_said to text x rest Behind [] refused is_to is_text texts behind = absurd texts
-begins_said to text x rest Behind (l ∷ ls) refused is_to is_text texts behind = (texts.0 ∙ is_to, texts.1 ∙ is_text, behind ls texts.2)
+begins_said to text x rest Behind [] refused is_to is_text texts following = absurd texts
+begins_said to text x rest Behind (l ∷ ls) refused is_to is_text texts following = (texts.0 ∙ is_to, texts.1 ∙ is_text, following ls texts.2)
 
 abbrev Message_ : ℕ → List ℕ → List ℕ → List ℕ → (List SaidLine → List RefusedLine → Type 0) → List SaidLine → List RefusedLine → List ℕ → Type 0
 Message_ number name to text Behind said refused device =
@@ -125,12 +125,12 @@ message_done owned i o name to text private number spoken rest refusals Behind s
           let first : filter (is_by i) spoken ≡ x ∷ [] = ap (filter (is_by i)) is.4 ∙ ap (λ b. cond b (x ∷ []) []) same.0 in
           let texts : AreTexts (x ∷ rest) said = subst (λ xs. AreTexts (xs ++ rest) said) first further.texts in
           rw hit (inl (subst (λ rs. BeginsSaid to text (λ others. Behind others (lines_by o.device rs ++ refused)) said) (sym is.5)
-          (begins_said to text x rest Behind said refused refl refl texts further.behind)))
+          (begins_said to text x rest Behind said refused refl refl texts further.following)))
       | inr other ↦
           let within = slice_get_within owned is.0 is.1 is.2 in
           let miss : bytes_eq o.device name ≡ false = ap (bytes_eq o.device) (sym is.3 ∙ sym (name_is owned is.0 is.1 is.2)) ∙ name_other owned i is.0 o differ owner within other.1 in
           let none : filter (is_by i) spoken ≡ [] = ap (filter (is_by i)) is.4 ∙ ap (λ b. cond b (record { device = is.0; to = to; text = text; private = private } ∷ []) []) other.0 in
-          rw miss (subst (λ rs. Behind said (lines_by o.device rs ++ refused)) (sym is.5) (further.behind said (subst (λ xs. AreTexts (xs ++ rest) said) none further.texts)))
+          rw miss (subst (λ rs. Behind said (lines_by o.device rs ++ refused)) (sym is.5) (further.following said (subst (λ xs. AreTexts (xs ++ rest) said) none further.texts)))
     ]
 
 outcome_is : (owned : List Owned) (i : ℕ) (o : Owned) (step : Step) (number : ℕ) (spoken rest : List Spoken) (refusals : List Refusal) (Behind : List SaidLine → List RefusedLine → Type 0) (said : List SaidLine)
@@ -154,7 +154,7 @@ outcome_is owned i o step number spoken rest refusals Behind said refused differ
 
 -- All lines.
 
-abbrev pub events_of : List LineRun → List Event
+abbrev pub events_of : List LineRun → List AppEvent
 events_of runs = flat_map events_in runs
 
 -- the lines that direct schedules have too
@@ -185,5 +185,5 @@ outcomes owned i o (r ∷ runs) said differ owner done texts =
     (wire_outcome owned i o r.line.step r.line.number lines (spoken_in (events_in r)) (spoken_at i (events_of runs)) r.refused said (refused_by o.device runs) differ owner done.0
     (record {
       texts = subst (λ xs. AreTexts xs said) spoken texts;
-      behind = λ ls is. outcomes owned i o runs ls differ owner done.1 is;
+      following = λ ls is. outcomes owned i o runs ls differ owner done.1 is;
     }))

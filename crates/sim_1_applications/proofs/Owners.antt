@@ -153,6 +153,6 @@ line_of keep history (p ∷ owned) (d ∷ ds) (l ∷ lines) zero o differ known 
     record { d = d; line = l; device = refl; named = rw hit refl; is = is }
 line_of keep history (p ∷ owned) (d ∷ ds) (l ∷ lines) (suc i) o differ known at =
     let rest = line_of keep history owned ds lines i o differ.1 known.1 at in
-    let place : name_at owned i ≡ o.device = name_is owned i o at in
+    let position : name_at owned i ≡ o.device = name_is owned i o at in
     let miss : bytes_eq o.device l.name ≡ false = ap (bytes_eq o.device) known.0.name ∙ name_other (p ∷ owned) (suc i) 0 o differ at (omega arith) (λ e. omega arith) in
     record { d = rest.d; line = rest.line; device = rest.device; named = rw miss rest.named; is = rest.is }

@@ -8,7 +8,7 @@ use Rattle.mam_archive.proofs.IdDigits.{id_of_same}
 use Rattle.mam_archive.proofs.NumberedEntries.{FollowFrom}
 use Rattle.mam_archive.specs.Entries.{EntryView}
 use Rattle.mam_archive.specs.Ids.{id_of}
-use Rattle.cmd_direct.proofs.NextPages.{id_behind}
+use Rattle.cmd_direct.proofs.NextPages.{id_after}
 use Rattle.cmd_direct.proofs.TurnRuns.{each_by, ids_differ, ids_from, line_entry, line_id, lines_by, numbers_within, pairs_unmap, runs_by}
 use Rattle.cmd_direct.proofs.TurnTiles.{before_turns, complete_end, first_number_is, last_lines_by, last_number_is, length-pages_by, page_at_turn, split_at, tiles_by, total_whole, whole_by}
 use Rattle.cmd_direct.proofs.Turns.{AreRising, Turn, end_of, ends_at, ends_at-append, ends_bounds, follow_span, id_of_entry, page_by, pages_by, rising_append, rising_bounds, rising_split, run_by, run_by-append, span, start_of}
@@ -19,34 +19,34 @@ use Rattle.cmd_report.specs.Lawful.{EachPair, EndsWith, last_logged}
 use Rattle.cmd_report.specs.LawfulRuns.{ArePagesOfRuns, AreTilesOfRuns, EndsWhole, IsFirstNumber, IsLastNumber, lines_of_page, logged_before}
 use Rattle.cmd_report.specs.Lines.{entry_line, logged_from, page_line}
 use Rattle.cmd_report.specs.Reports.{DeviceView}
-use Rattle.cmd_report.specs.Worlds.{World}
+use Rattle.cmd_report.specs.Worlds.{ReportWorld}
 use Rattle.cmd_report.specs.declared.report.LoggedLine.{LoggedLine}
 use Rattle.cmd_report.specs.declared.report.PageLine.{PageLine}
 use Rattle.cmd_schedule.specs.Schedules.{ScheduleView}
 use Rattle.sim_1_applications.specs.Devices as sessions
 use Rattle.sim_1_applications.specs.Devices.{Tile}
-use Rattle.sim_1_applications.proofs.LogLaws.{Logged, rising, turned}
-use Rattle.sim_1_applications.proofs.Turned.{turn_of, turns_of}
+use Rattle.sim_1_applications.proofs.LogLaws.{Logged, rendered, rising}
+use Rattle.sim_1_applications.proofs.Rendered.{turn_of, turns_of}
 use Rattle.sim_1_applications.specs.Reported.{pages_of}
 
 -- what is known of a device's pages beside the worlds
-pub record Paged (keep : ℕ) (worlds : List World) (history : List EntryView) (d : sessions.Device) (line : DeviceView) : Type 0 where
+pub record Paged (keep : ℕ) (worlds : List ReportWorld) (history : List EntryView) (d : sessions.Device) (line : DeviceView) : Type 0 where
   pub of_log : Logged keep history d
   pub pages_are : line.pages ≡ map page_line (pages_of keep history d.reading)
   pub logged_are : line.logged ≡ logged_from 0 (pages_of keep history d.reading)
-  pub asked : (k : ℕ) (t : Tile) → slice_get d.reading.tiles k ≡ Some t → (i : ℕ) (asking : World) → slice_get worlds i ≡ Some asking → asking.asked line.name ≤ k →
+  pub asked : (k : ℕ) (t : Tile) → slice_get d.reading.tiles k ≡ Some t → (i : ℕ) (asking : ReportWorld) → slice_get worlds i ≡ Some asking → asking.asked line.name ≤ k →
       (last_number (asking.archive line.account) ≤ t.given) × (first_number (asking.archive line.account) ≤ suc (t.given - keep))
-  pub over : (k : ℕ) (t : Tile) → slice_get d.reading.tiles k ≡ Some t → (j : ℕ) (taken : World) → slice_get worlds j ≡ Some taken → k < length (taken.pages line.name) →
+  pub over : (k : ℕ) (t : Tile) → slice_get d.reading.tiles k ≡ Some t → (j : ℕ) (taken : ReportWorld) → slice_get worlds j ≡ Some taken → k < length (taken.pages line.name) →
       (t.given ≤ last_number (taken.archive line.account)) × (suc (t.given - keep) ≤ first_number (taken.archive line.account))
   pub ends : EndsWith worlds line
 
-pages_line : (keep : ℕ) (worlds : List World) (history : List EntryView) (d : sessions.Device) (line : DeviceView) → Paged keep worlds history d line →
+pages_line : (keep : ℕ) (worlds : List ReportWorld) (history : List EntryView) (d : sessions.Device) (line : DeviceView) → Paged keep worlds history d line →
     line.pages ≡ map page_line (pages_by keep history 0 (turns_of d.reading.tiles))
-pages_line keep worlds history d line g = g.pages_are ∙ ap (map page_line) (turned keep history d g.of_log)
+pages_line keep worlds history d line g = g.pages_are ∙ ap (map page_line) (rendered keep history d g.of_log)
 
-logged_line : (keep : ℕ) (worlds : List World) (history : List EntryView) (d : sessions.Device) (line : DeviceView) → Paged keep worlds history d line →
+logged_line : (keep : ℕ) (worlds : List ReportWorld) (history : List EntryView) (d : sessions.Device) (line : DeviceView) → Paged keep worlds history d line →
     line.logged ≡ logged_from 0 (pages_by keep history 0 (turns_of d.reading.tiles))
-logged_line keep worlds history d line g = g.logged_are ∙ ap (logged_from 0) (turned keep history d g.of_log)
+logged_line keep worlds history d line g = g.logged_are ∙ ap (logged_from 0) (rendered keep history d g.of_log)
 
 -- the tile of page k
 record TileAt (keep : ℕ) (history : List EntryView) (d : sessions.Device) (line : DeviceView) (k : ℕ) : Type 0 where
@@ -61,8 +61,8 @@ record TileAt (keep : ℕ) (history : List EntryView) (d : sessions.Device) (lin
   page : (p : PageLine) → slice_get line.pages k ≡ Some p → page_line (page_by keep history (ends_at keep 0 (turns_of front)) (turn_of t)) ≡ p
   before_is : logged_before k line ≡ logged_from 0 (pages_by keep history 0 (turns_of front))
   through_is : logged_before (k + 1) line ≡ logged_from 0 (pages_by keep history 0 (turns_of front ++ turn_of t ∷ []))
-  before : last_logged (logged_before k line) ≡ id_behind (ends_at keep 0 (turns_of front))
-  through : last_logged (logged_before (k + 1) line) ≡ id_behind (end_of keep (ends_at keep 0 (turns_of front)) (turn_of t))
+  before : last_logged (logged_before k line) ≡ id_after (ends_at keep 0 (turns_of front))
+  through : last_logged (logged_before (k + 1) line) ≡ id_after (end_of keep (ends_at keep 0 (turns_of front)) (turn_of t))
 
 get_there : (front rest : List Tile) (t : Tile) → slice_get (front ++ t ∷ rest) (length front) ≡ Some t
 get_there [] rest t = refl
@@ -71,7 +71,7 @@ get_there (x ∷ front) rest t = get_there front rest t
 abbrev count_of : PageLine → ℕ
 count_of page = page.count
 
-before_line : (keep : ℕ) (worlds : List World) (history : List EntryView) (d : sessions.Device) (line : DeviceView) → Paged keep worlds history d line → (k : ℕ) (xs ys : List Turn) →
+before_line : (keep : ℕ) (worlds : List ReportWorld) (history : List EntryView) (d : sessions.Device) (line : DeviceView) → Paged keep worlds history d line → (k : ℕ) (xs ys : List Turn) →
     turns_of d.reading.tiles ≡ xs ++ ys → length xs ≡ k → logged_before k line ≡ logged_from 0 (pages_by keep history 0 xs)
 before_line keep worlds history d line g k xs ys joined size =
     ap (λ ps. take (sum (map count_of (take k ps))) line.logged) (pages_line keep worlds history d line g)
@@ -79,7 +79,7 @@ before_line keep worlds history d line g k xs ys joined size =
     ∙ ap (λ ts. take (sum (map count_of (take k (map page_line (pages_by keep history 0 ts))))) (logged_from 0 (pages_by keep history 0 ts))) joined
     ∙ before_turns keep k history xs ys size
 
-tile_at : (keep : ℕ) (worlds : List World) (history : List EntryView) (d : sessions.Device) (line : DeviceView) → Paged keep worlds history d line → (k : ℕ) (p : PageLine) → slice_get line.pages k ≡ Some p →
+tile_at : (keep : ℕ) (worlds : List ReportWorld) (history : List EntryView) (d : sessions.Device) (line : DeviceView) → Paged keep worlds history d line → (k : ℕ) (p : PageLine) → slice_get line.pages k ≡ Some p →
     TileAt keep history d line k
 tile_at keep worlds history d line g k p at =
     let log = g.of_log in
@@ -118,7 +118,7 @@ tile_at keep worlds history d line g k p at =
       before_is = before;
       through_is = through;
       before = ap last_logged before ∙ last_lines_by keep t.given history front log.some parts.0 long log.follow;
-      through = ap last_logged through ∙ last_lines_by keep t.given history (front ++ turn_of t ∷ []) log.some rise long log.follow ∙ ap id_behind (ends_at-append keep 0 front (turn_of t ∷ []));
+      through = ap last_logged through ∙ last_lines_by keep t.given history (front ++ turn_of t ∷ []) log.some rise long log.follow ∙ ap id_after (ends_at-append keep 0 front (turn_of t ∷ []));
     }
 
 -- a complete page reaches the archive's last number
@@ -143,7 +143,7 @@ fresh_number : (keep : ℕ) (history : List EntryView) (d : sessions.Device) (li
     p.total ≡ Some total → IsLastNumber (last_logged (logged_before (k + 1) line)) last → a.t.given ≡ last
 fresh_number keep history d line k total last p some a at is number =
     let complete = complete_tile keep history d line k total p some a at is in
-    last_number_is a.t.given last a.small (subst (λ id. IsLastNumber id last) (a.through ∙ ap id_behind complete.0) number)
+    last_number_is a.t.given last a.small (subst (λ id. IsLastNumber id last) (a.through ∙ ap id_after complete.0) number)
 
 le_small : {a b : ℕ} → a ≤ b → b ≤ 4294967295 → a ≤ 4294967295
 le_small low small = omega arith
@@ -230,7 +230,7 @@ distinct_lines keep history turns some rise follow few =
     pairs_unmap (λ (a b : EntryLineView). a.id ≢ b.id) line_entry lines
     (subst (λ es. EachPair (λ (a b : EntryLineView). a.id ≢ b.id) es) (sym (lines_by keep 0 0 history turns)) mapped)
 
-pub pages_right : (keep : ℕ) (worlds : List World) (schedule : ScheduleView) (history : List EntryView) (d : sessions.Device) (line : DeviceView) → schedule.wire ≡ true → Paged keep worlds history d line →
+pub pages_right : (keep : ℕ) (worlds : List ReportWorld) (schedule : ScheduleView) (history : List EntryView) (d : sessions.Device) (line : DeviceView) → schedule.wire ≡ true → Paged keep worlds history d line →
     ArePagesOfRuns keep worlds schedule history line
 pages_right keep worlds schedule history d line wire g =
     let log = g.of_log in
@@ -260,7 +260,7 @@ pages_right keep worlds schedule history d line wire g =
           let low = (g.asked k a.t a.at i asking here asks.0).1 in
           let high = (g.over k a.t a.at (j + 1) taken further takes.1).1 in
           (omega arith, omega arith);
-      behind = λ k last p at one number i asking asked here next asks.
+      following = λ k last p at one number i asking asked here next asks.
           let a = tile_at keep worlds history d line g k p at in
           let after = ap (λ (l : PageLine). l.after) (a.page p at) in
           let is_asked = asked_number (ends_at keep 0 (turns_of a.front)) (a.t.given - keep) last (le_small a.within a.small) one (subst (λ id. IsLastNumber id last) (sym after) number) in

@@ -16,9 +16,9 @@ use Rattle.sim_1_applications.specs.Stanzas.{Request, Up, Down, requests, answer
 use Rattle.sim_1_applications.specs.Devices.{Row, Device, OpenPage, Answer, first_of, last_of}
 use Rattle.sim_1_applications.specs.Devices.Row.{NoRow, Unread, Present}
 use Rattle.sim_1_applications.specs.Devices.Stage.{Named, Counted, Known}
-use Rattle.sim_1_applications.specs.Answers.{last_in, answer_of}
+use Rattle.sim_1_applications.specs.Answers.{last_in, page_answer_of}
 use Rattle.sim_1_applications.specs.Events.{number_or_none}
-use Rattle.sim_1_applications.specs.Kept.{IsFront, IsPlace, IsAnswered, IsAt, IsOpen, IsPage, PageKept, request_of, SessionsKept}
+use Rattle.sim_1_applications.specs.Kept.{IsFront, IsPosition, IsAnswered, IsAt, IsOpen, IsPage, PageKept, request_of, SessionsKept}
 
 -- what a page rests on
 pub record SamePage (d e : Device) : Type 0 where
@@ -33,7 +33,7 @@ at_frame keep first last d e page None same kept = record {
   request = same.requested ∙ kept.request;
   underway = same.underway ∙ kept.underway;
   results = kept.results;
-  place = subst (λ run. IsPlace first run page.after) (sym same.run) kept.place;
+  position = subst (λ run. IsPosition first run page.after) (sym same.run) kept.position;
   began = kept.began;
 }
 at_frame keep first last d e page (Some a) same kept = record {
@@ -45,7 +45,7 @@ at_frame keep first last d e page (Some a) same kept = record {
   kept = kept.kept;
   first_rises = kept.first_rises;
   last_rises = kept.last_rises;
-  place = subst (λ run. IsPlace a.first run page.after) (sym same.run) kept.place;
+  position = subst (λ run. IsPosition a.first run page.after) (sym same.run) kept.position;
   logged = subst (λ run. number_or_none (last_in run) ≤ a.last) (sym same.run) kept.logged;
   began = kept.began;
 }
@@ -60,13 +60,13 @@ page_frame keep first last d e (Some page) same kept = record {
 }
 
 -- the archive grows
-pub place_grows : (kept now : ℕ) (run : List ℕ) (after : Option ℕ) → kept ≤ now → IsPlace kept run after → IsPlace now run after
-place_grows kept now run after more place = record {
-  behind = elim place.behind [
+pub position_grows : (kept now : ℕ) (run : List ℕ) (after : Option ℕ) → kept ≤ now → IsPosition kept run after → IsPosition now run after
+position_grows kept now run after more position = record {
+  following = elim position.following [
     | inl is ↦ inl is
     | inr purged ↦ inr (purged.0, let low = purged.1 in omega arith)
   ];
-  reaches = λ n at. let low = place.reaches n at in omega arith;
+  reaches = λ n at. let low = position.reaches n at in omega arith;
 }
 
 at_grows : (keep first last first2 last2 : ℕ) (d : Device) (page : OpenPage) (a : Option Answer) → first ≤ first2 → last ≤ last2 → IsAt keep first last d page a → IsAt keep first2 last2 d page a
@@ -74,7 +74,7 @@ at_grows keep first last first2 last2 d page None low high kept = record {
   request = kept.request;
   underway = kept.underway;
   results = kept.results;
-  place = place_grows first first2 d.reading.run page.after low kept.place;
+  position = position_grows first first2 d.reading.run page.after low kept.position;
   began = let b = kept.began in omega arith;
 }
 at_grows keep first last first2 last2 d page (Some a) low high kept = record {
@@ -86,7 +86,7 @@ at_grows keep first last first2 last2 d page (Some a) low high kept = record {
   kept = kept.kept;
   first_rises = let b = kept.first_rises in omega arith;
   last_rises = let b = kept.last_rises in omega arith;
-  place = kept.place;
+  position = kept.position;
   logged = kept.logged;
   began = kept.began;
 }
@@ -267,7 +267,7 @@ page_asks keep a max d on none low high reach sessions kept =
           request = requests_append d.sessions.now.up_rest (Query r ∷ []) ∙ ap (λ rs. rs ++ r ∷ []) was.0;
           underway = was.1;
           results = refl;
-          place = record { behind = inl refl; reaches = reach };
+          position = record { following = inl refl; reaches = reach };
           began = omega arith;
         };
       };
@@ -276,7 +276,7 @@ page_asks keep a max d on none low high reach sessions kept =
 
 -- the request is answered
 abbrev given : events.Around → Request → Answer
-given a r = record { first = a.first; last = a.last; rest = answer_of a.first a.last r }
+given a r = record { first = a.first; last = a.last; rest = page_answer_of a.first a.last r }
 
 answered_at : (keep : ℕ) (a : events.Around) (fits : ℕ) (r : Request) (rest : List Up) (d : Device) (page : OpenPage) → d.sessions.now.up_rest ≡ Query r ∷ rest →
     a.first ≡ first_of keep a.last → number_or_none (last_in d.reading.run) ≤ a.last →
@@ -288,7 +288,7 @@ answered_at keep a fits r rest d page split first logged None is kept =
     let all : r ∷ requests rest ≡ request_of page ∷ [] = sym (ap requests split) ∙ kept.request in
     let one : r ≡ request_of page = cc in
     let others : requests rest ≡ [] = cc in
-    let zs : List Down = answer_of a.first a.last r in
+    let zs : List Down = page_answer_of a.first a.last r in
     let under : answers (d.sessions.now.down_rest ++ take fits zs) ≡ take fits zs =
     answers_append d.sessions.now.down_rest (take fits zs) ∙ ap (λ l. l ++ answers (take fits zs)) kept.underway ∙ answer_taken fits a.first a.last r in (
       one,
@@ -296,12 +296,12 @@ answered_at keep a fits r rest d page split first logged None is kept =
         request = others;
         underway = (drop fits zs, sym (take-append-drop fits zs) ∙ ap (λ l. l ++ drop fits zs) (sym under));
         whole = λ row. under ∙ all_fit fits zs (ltb fits (length zs)) refl row;
-        answer = ap (λ xs. map (Res page.number) xs ++ zs) kept.results ∙ ap (answer_of a.first a.last) one;
+        answer = ap (λ xs. map (Res page.number) xs ++ zs) kept.results ∙ ap (page_answer_of a.first a.last) one;
         some = answer_some a.first a.last r;
         kept = first;
         first_rises = omega arith;
         last_rises = omega arith;
-        place = kept.place;
+        position = kept.position;
         logged = logged;
         began = kept.began;
       },

@@ -64,7 +64,7 @@ restart_reacts q page b is = chosen (page.number == q && option_map_or (λ n. tr
 
 fin_reacts : (a : events.Around) (q : ℕ) (complete : Bool) (last : Option ℕ) (count : ℕ) (page : OpenPage) (b : Reading) → b.page ≡ Some page → Reacts b (events.fin a q complete last count page b)
 fin_reacts a q complete last count page b is =
-    chosen (page.number == q && events.same_place last (last_in page.results) && events.are_new (log_of b) page.results && (complete || not (events.is_empty page.results))) complete
+    chosen (page.number == q && events.same_position last (last_in page.results) && events.are_new (log_of b) page.results && (complete || not (events.is_empty page.results))) complete
   where
     chosen : (t c : Bool) →
         Reacts b (cond t (cond c (events.quiet (events.over a complete count page b)) (events.asking (last_in (events.over a complete count page b).run) page.max a.last (events.over a complete count page b))) (events.refuse b))

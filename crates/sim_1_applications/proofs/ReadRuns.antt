@@ -6,11 +6,11 @@ use Rattle.std.specs.Str.{bytes_eq}
 use Rattle.sim_1_applications.specs.Stanzas.{Up, Down, lives}
 use Rattle.sim_1_applications.specs.Stanzas.Up.{Carbons, Presence, Message, Query}
 use Rattle.sim_1_applications.specs.Stanzas.Down.{Accepted, Bounced, Live, Res, Fin, NotFound}
-use Rattle.sim_1_applications.specs.Devices.{Reading, Device, Take, World, first_of, last_of, log_of, concerns, new_device}
-use Rattle.sim_1_applications.specs.Answers.{behind, last_in, is_place, page_from, edge, size}
+use Rattle.sim_1_applications.specs.Devices.{Reading, Device, Take, AppWorld, first_of, last_of, log_of, concerns, new_device}
+use Rattle.sim_1_applications.specs.Answers.{following, last_in, is_position, page_from, edge, size}
 use Rattle.sim_1_applications.specs.Events.{number_or_none, is_number_among}
 use Rattle.sim_1_applications.specs.Events as events
-use Rattle.sim_1_applications.specs.Events.Event.{At, Tick}
+use Rattle.sim_1_applications.specs.Events.AppEvent.{At, Tick}
 use Rattle.sim_1_applications.specs.Kept.{LogKept, AreLogged, AreApart, SessionsKept, Taken}
 use Rattle.sim_1_applications.proofs.Numbered.{lives_append}
 use Rattle.sim_1_applications.proofs.Lists.{all_append, all_weaker}
@@ -19,7 +19,7 @@ use Rattle.sim_1_applications.proofs.Pages.{page_own, page_quiet, page_grown, qu
 use Rattle.sim_1_applications.proofs.Archives.{last_grows}
 use Rattle.sim_1_applications.proofs.Takes.{account_hear_all, account_own}
 use Rattle.sim_1_applications.proofs.Handled.{ReadKept, read_kept}
-use Rattle.sim_1_applications.proofs.Worlds.{same_place, at_place, was_device}
+use Rattle.sim_1_applications.proofs.Worlds.{same_position, at_position, was_device}
 use Rattle.sim_1_applications.proofs.Runs.{taken_moves, taken_beginning, one_of}
 
 -- A7 where an act happens that isn't the client's
@@ -50,11 +50,11 @@ reply_no_lives a (Message m) = chosen (events.is_among m.to a.accounts)
     chosen : (b : Bool) → (let zs : List Down = cond b [] (Bounced m.epoch m.n ∷ []) in lives zs ≡ [])
     chosen true = refl
     chosen false = refl
-reply_no_lives a (Query r) = chosen (is_place a.first a.last r.after)
+reply_no_lives a (Query r) = chosen (is_position a.first a.last r.after)
   where
     chosen : (b : Bool) → (let zs : List Down = cond b (page_from (edge a.first r.after) a.first a.last r) (NotFound r.number ∷ []) in lives zs ≡ [])
-    chosen true = page_no_lives r.number r.number (behind (edge a.first r.after) (size (edge a.first r.after) a.last r.max)) (nat_le (a.last - edge a.first r.after) r.max)
-        (last_in (behind (edge a.first r.after) (size (edge a.first r.after) a.last r.max))) (a.last + 1 - a.first)
+    chosen true = page_no_lives r.number r.number (following (edge a.first r.after) (size (edge a.first r.after) a.last r.max)) (nat_le (a.last - edge a.first r.after) r.max)
+        (last_in (following (edge a.first r.after) (size (edge a.first r.after) a.last r.max))) (a.last + 1 - a.first)
     chosen false = refl
 
 -- the log is the same, and the live messages under way are of the archive
@@ -188,13 +188,13 @@ read_hear_all keep first takes full (t ∷ ts) j d some kept = read_hear_all kee
 abbrev pub ReadAt : ℕ → List Take → Device → Type 0
 ReadAt keep takes d = ReadKept keep (first_of keep (last_of takes d.account)) (last_of takes d.account) d
 
-read_becomes : (w : World) (new : List Take) (i : ℕ) (act : events.Act) (own : Device) (j : ℕ) (d : Device) → 1 ≤ w.keep →
+read_becomes : (w : AppWorld) (new : List Take) (i : ℕ) (act : events.Act) (own : Device) (j : ℕ) (d : Device) → 1 ≤ w.keep →
     slice_get w.devices i ≡ Some own → events.May act own → slice_get w.devices j ≡ Some d → SessionsKept d.sessions → ReadAt w.keep w.takes d →
     ReadAt w.keep (w.takes ++ new) (events.becomes w new i act j d)
 read_becomes w new i act own j d some at may here sessions kept =
-    at_place (j == i) _ _ (λ e. ReadAt w.keep (w.takes ++ new) (events.hear_all (w.takes ++ new) (events.full_of act) new j e))
+    at_position (j == i) _ _ (λ e. ReadAt w.keep (w.takes ++ new) (events.hear_all (w.takes ++ new) (events.full_of act) new j e))
     (λ is.
-    let j_is_i = same_place j i is in
+    let j_is_i = same_position j i is in
     let same : own ≡ d = (let g : slice_get w.devices j ≡ slice_get w.devices i = ap (slice_get w.devices) j_is_i in cc) in
     let acted = events.own (events.around w d) act d in
     let account : acted.account ≡ d.account = account_own (events.around w d) act d in
@@ -215,11 +215,11 @@ read_becomes w new i act own j d some at may here sessions kept =
 
 -- One event.
 
-pub record PagesKept (w : World) : Type 0 where
+pub record PagesKept (w : AppWorld) : Type 0 where
   pub some : 1 ≤ w.keep
   pub devices : (i : ℕ) (d : Device) → slice_get w.devices i ≡ Some d → ReadAt w.keep w.takes d
 
-pages_acted : (w : World) (i : ℕ) (act : events.Act) (own : Device) → slice_get w.devices i ≡ Some own → events.May act own → Taken w → PagesKept w → PagesKept (events.acted w i act own)
+pages_acted : (w : AppWorld) (i : ℕ) (act : events.Act) (own : Device) → slice_get w.devices i ≡ Some own → events.May act own → Taken w → PagesKept w → PagesKept (events.acted w i act own)
 pages_acted w i act own at may taken kept =
     let new = events.taken_by w.accounts w.clock i own act in
     record {
@@ -230,7 +230,7 @@ pages_acted w i act own at may taken kept =
           (read_becomes w new i act own j before.0 kept.some at may before.1 (taken.devices j before.0 before.1).sessions (kept.devices j before.0 before.1));
     }
 
-pub pages_moves : (event : events.Event) (w next : World) → events.Moves event w next → Taken w → PagesKept w → PagesKept next
+pub pages_moves : (event : events.AppEvent) (w next : AppWorld) → events.Moves event w next → Taken w → PagesKept w → PagesKept next
 pages_moves (Tick ms) w next is taken kept = subst PagesKept (sym is) (record { some = kept.some; devices = kept.devices })
 pages_moves (At i act) w next is taken kept = subst PagesKept (sym is.3) (pages_acted w i act is.0 is.1 is.2 taken kept)
 
@@ -245,7 +245,7 @@ new_read keep account = record {
   };
 }
 
-pages_along : (all : List events.Event) (w last : World) → events.Reaches all w last → Taken w → PagesKept w → PagesKept last
+pages_along : (all : List events.AppEvent) (w last : AppWorld) → events.Reaches all w last → Taken w → PagesKept w → PagesKept last
 pages_along [] w last is taken kept = subst PagesKept (sym is) kept
 pages_along (event ∷ all) w last reaches taken kept =
     pages_along all reaches.0 last reaches.2 (taken_moves event w reaches.0 reaches.1 taken) (pages_moves event w reaches.0 reaches.1 taken kept)
@@ -255,7 +255,7 @@ pages_beginning keep some accounts homes =
     record { some = some; devices = λ i d at. one_of (λ j e. ReadAt keep [] e) homes i d (λ account. new_read keep account) at }
 
 -- A6, A7 and A9 hold in each world that is reached
-pub pages_reached : (w : World) → events.Reached w → PagesKept w
+pub pages_reached : (w : AppWorld) → events.Reached w → PagesKept w
 pages_reached w reached =
     let begins = events.beginning reached.keep reached.accounts reached.homes in
     pages_along reached.events begins w reached.reaches (taken_beginning reached.keep reached.accounts reached.homes) (pages_beginning reached.keep reached.some reached.accounts reached.homes)

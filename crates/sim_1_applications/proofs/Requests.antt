@@ -6,10 +6,10 @@ use Rattle.std.specs.List.{AllByRecursion, flat_map}
 use Rattle.sim_1_applications.specs.Stanzas.{Request, Up, Down, requests}
 use Rattle.sim_1_applications.specs.Stanzas.Up.{Carbons, Presence, Message, Query}
 use Rattle.sim_1_applications.specs.Devices.{Device, Session, Sessions, new_device, up_put}
-use Rattle.sim_1_applications.specs.Answers.{behind}
+use Rattle.sim_1_applications.specs.Answers.{following}
 use Rattle.sim_1_applications.specs.Events as events
 use Rattle.sim_1_applications.specs.Kept.{SessionsKept, request_of}
-use Rattle.sim_1_applications.proofs.Intervals.{behind_append, length_behind}
+use Rattle.sim_1_applications.proofs.Intervals.{after_append, length_after}
 use Rattle.sim_1_applications.proofs.Lists.{all_append}
 use Rattle.sim_1_applications.proofs.Numbered.{requests_append}
 use Rattle.sim_1_applications.specs.Counts.{number_of, requested, requested_in}
@@ -21,10 +21,10 @@ abbrev pub numbers_in : Sessions → List ℕ
 numbers_in s = map number_of (requested s)
 
 abbrev pub AreNumbered : ℕ → Device → Type 0
-AreNumbered k d = numbers_in d.sessions ≡ behind 0 d.reading.asked
+AreNumbered k d = numbers_in d.sessions ≡ following 0 d.reading.asked
 
-next_number : (n : ℕ) → behind 0 (n + 1) ≡ behind 0 n ++ (n + 1) ∷ []
-next_number n = behind_append 0 n 1 ∙ (let e : suc (0 + n) ≡ n + 1 = omega arith in ap (λ m. behind 0 n ++ m ∷ []) e)
+next_number : (n : ℕ) → following 0 (n + 1) ≡ following 0 n ++ (n + 1) ∷ []
+next_number n = after_append 0 n 1 ∙ (let e : suc (0 + n) ≡ n + 1 = omega arith in ap (λ m. following 0 n ++ m ∷ []) e)
 
 -- the same requests, or one more
 requested_same : (s t : Sessions) → t.past ≡ s.past → up_put t.now ≡ up_put s.now → requested t ≡ requested s
@@ -39,10 +39,10 @@ put_one r s = ap requests (put_more (Query r ∷ []) s) ∙ requests_append (up_
 none_more : (zs : List Up) (s : Sessions) → requests zs ≡ [] → requested (events.put_all zs s) ≡ requested s
 none_more zs s none = ap (λ rs. flat_map requested_in s.past ++ rs) (put_none zs s.now none)
 
-one_more : (r : Request) (s : Sessions) (n : ℕ) → r.number ≡ n + 1 → numbers_in s ≡ behind 0 n → numbers_in (events.put_up (Query r) s) ≡ behind 0 (n + 1)
+one_more : (r : Request) (s : Sessions) (n : ℕ) → r.number ≡ n + 1 → numbers_in s ≡ following 0 n → numbers_in (events.put_up (Query r) s) ≡ following 0 (n + 1)
 one_more r s n next known =
     ap (map number_of) (ap (λ rs. flat_map requested_in s.past ++ rs) (put_one r s.now) ∙ sym (append_assoc (flat_map requested_in s.past) (requested_in s.now) (r ∷ [])))
-    ∙ map-append number_of (requested s) (r ∷ []) ∙ ap (λ ns. ns ++ r.number ∷ []) known ∙ ap (λ m. behind 0 n ++ m ∷ []) next ∙ sym (next_number n)
+    ∙ map-append number_of (requested s) (r ∷ []) ∙ ap (λ ns. ns ++ r.number ∷ []) known ∙ ap (λ m. following 0 n ++ m ∷ []) next ∙ sym (next_number n)
 
 requested_bound : (live : Bool) (s : Sessions) → requested (events.reads_bound live s) ≡ requested s
 requested_bound live s =
@@ -59,7 +59,7 @@ numbers_served : (a : events.Around) (fits : ℕ) (zs : List Up) (d : Device) (k
 numbers_served a fits [] d k split known = known
 numbers_served a fits (z ∷ rest) d k split known =
     ap (map number_of) (requested_same d.sessions (events.served a fits (z ∷ rest) d).sessions refl (put_stays z rest d.sessions.now split))
-    ∙ known ∙ sym (ap (behind 0) (asked_served a z d))
+    ∙ known ∙ sym (ap (following 0) (asked_served a z d))
 
 numbers_read : (a : events.Around) (zs : List Down) (d : Device) (k : ℕ) → AreNumbered k d → AreNumbered k (events.read a zs d)
 numbers_read a [] d k known = known
@@ -70,10 +70,10 @@ numbers_read a (z ∷ rest) d k known = by (events.reads a z d.reading) (reacts 
 
     by : (r : events.Reaction) → Reacts d.reading r → AreNumbered k (events.reacted r z rest d)
     by r (Stays request asked page) =
-        ap (λ o. numbers_in (events.put_all (events.queries o) moved)) request ∙ ap (map number_of) (none_more [] moved refl) ∙ known ∙ sym (ap (behind 0) asked)
+        ap (λ o. numbers_in (events.put_all (events.queries o) moved)) request ∙ ap (map number_of) (none_more [] moved refl) ∙ known ∙ sym (ap (following 0) asked)
     by r (Asks asks) =
         ap (λ o. numbers_in (events.put_all (events.queries o) moved)) asks.request
-        ∙ one_more (request_of asks.page) moved d.reading.asked asks.number known ∙ sym (ap (behind 0) asks.asked)
+        ∙ one_more (request_of asks.page) moved d.reading.asked asks.number known ∙ sym (ap (following 0) asks.asked)
 
 numbers_act : (a : events.Around) (act : events.Act) (d : Device) (k : ℕ) → events.May act d → SessionsKept d.sessions → AreNumbered k d → AreNumbered k (events.own a act d)
 numbers_act a events.Act.Bind d k may sessions known = known
@@ -96,7 +96,7 @@ numbers_begin account = refl
 
 -- as many as the last number says
 pub all_requested : (d : Device) (k : ℕ) → AreNumbered k d → length (requested d.sessions) ≡ d.reading.asked
-all_requested d k known = sym (length-map (requested d.sessions) number_of) ∙ ap length known ∙ length_behind 0 d.reading.asked
+all_requested d k known = sym (length-map (requested d.sessions) number_of) ∙ ap length known ∙ length_after 0 d.reading.asked
 
 -- each of these has no more than all
 pub parts_within : {A : Type 0} (f : Session → List A) (ss : List Session) (more n : ℕ) → length (flat_map f ss) + more ≤ n → AllByRecursion (λ s. length (f s) ≤ n) ss

@@ -6,10 +6,10 @@ use Rattle.std.proofs.lemmas.Option.{same_Some}
 use Rattle.std.specs.List.{slice_get}
 use Rattle.std.specs.Option.{option_map}
 use Rattle.sim_1_applications.specs.Stanzas.{Up, Down}
-use Rattle.sim_1_applications.specs.Devices.{Device, Take, World}
+use Rattle.sim_1_applications.specs.Devices.{AppWorld, Device, Take}
 use Rattle.sim_1_applications.specs.Events as events
-use Rattle.sim_1_applications.specs.Events.Event.{At, Tick}
-use Rattle.sim_1_applications.proofs.Worlds.{get_each, same_place, was_device}
+use Rattle.sim_1_applications.specs.Events.AppEvent.{At, Tick}
+use Rattle.sim_1_applications.proofs.Worlds.{get_each, same_position, was_device}
 use Rattle.sim_1_applications.specs.Counts.{MayAsk}
 use Rattle.sim_1_applications.proofs.Reactions.{reacts, Reacts, Stays, Asks}
 use Rattle.sim_1_applications.proofs.Requests.{asked_served}
@@ -20,33 +20,33 @@ reading_hears takes full [] j d = refl
 reading_hears takes full (t ∷ ts) j d = reading_hears takes full ts j (events.hear takes full t j d)
 
 -- what a device becomes at an event: what its own act and hearing make of it, or hearing alone
-pub data Becomes (w : World) (event : events.Event) (i : ℕ) (d e : Device) : Type 0 where
+pub data Becomes (w : AppWorld) (event : events.AppEvent) (i : ℕ) (d e : Device) : Type 0 where
   Stayed : (ms : ℕ) → event ≡ Tick ms → e ≡ d → Becomes w event i d e
   Acted : (act : events.Act) → event ≡ At i act → events.May act d → (new : List Take) → new ≡ events.taken_by w.accounts w.clock i d act →
       e ≡ events.hear_all (w.takes ++ new) (events.full_of act) new i (events.own (events.around w d) act d) → Becomes w event i d e
   Heard : (j : ℕ) (act : events.Act) → event ≡ At j act → j ≢ i → (new : List Take) → e ≡ events.hear_all (w.takes ++ new) (events.full_of act) new i d → Becomes w event i d e
 
 -- the device before, and what became of it
-pub becomes : (event : events.Event) (w next : World) → events.Moves event w next → (i : ℕ) (e : Device) → slice_get next.devices i ≡ Some e →
+pub becomes : (event : events.AppEvent) (w next : AppWorld) → events.Moves event w next → (i : ℕ) (e : Device) → slice_get next.devices i ≡ Some e →
     (d : Device) × (slice_get w.devices i ≡ Some d) × Becomes w event i d e
-becomes (Tick ms) w next led i e at = (e, ap (λ (v : World). slice_get v.devices i) (sym led) ∙ at, Stayed ms refl refl)
+becomes (Tick ms) w next led i e at = (e, ap (λ (v : AppWorld). slice_get v.devices i) (sym led) ∙ at, Stayed ms refl refl)
 becomes (At j act) w next led i e at = (before.0, before.1, elim (cases_Bool (i == j)) [ inl is ↦ here is | inr other ↦ there other ])
   where
     new : List Take
     new = events.taken_by w.accounts w.clock j led.0 act
 
     before : (d : Device) × (slice_get w.devices i ≡ Some d) × (e ≡ events.becomes w new j act i d)
-    before = was_device (events.becomes w new j act) w.devices i e (ap (λ (v : World). slice_get v.devices i) (sym led.3) ∙ at)
+    before = was_device (events.becomes w new j act) w.devices i e (ap (λ (v : AppWorld). slice_get v.devices i) (sym led.3) ∙ at)
 
     heard : Device → Device
     heard d = events.hear_all (w.takes ++ new) (events.full_of act) new i d
 
     here : (i == j) ≡ true → Becomes w (At j act) i before.0 e
     here is =
-        let place : i ≡ j = same_place i j is in
-        let one : led.0 ≡ before.0 = same_Some led.0 before.0 (sym led.1 ∙ ap (slice_get w.devices) (sym place) ∙ before.1) in
-        Acted act (ap (λ k. At k act) (sym place)) (subst (events.May act) one led.2) new
-        (ap (λ k. events.taken_by w.accounts w.clock k led.0 act) (sym place) ∙ ap (λ d. events.taken_by w.accounts w.clock i d act) one)
+        let position : i ≡ j = same_position i j is in
+        let one : led.0 ≡ before.0 = same_Some led.0 before.0 (sym led.1 ∙ ap (slice_get w.devices) (sym position) ∙ before.1) in
+        Acted act (ap (λ k. At k act) (sym position)) (subst (events.May act) one led.2) new
+        (ap (λ k. events.taken_by w.accounts w.clock k led.0 act) (sym position) ∙ ap (λ d. events.taken_by w.accounts w.clock i d act) one)
         (before.2 ∙ ap (λ b. heard (cond b (events.own (events.around w before.0) act before.0) before.0)) is)
 
     there : (i == j) ≡ false → Becomes w (At j act) i before.0 e
@@ -61,17 +61,17 @@ becomes (At j act) w next led i e at = (before.0, before.1, elim (cases_Bool (i 
         different b yes_it no_it = true≢false (sym yes_it ∙ no_it)
 
 -- the device that it was, where it is told
-pub becomes_of : (event : events.Event) (w next : World) → events.Moves event w next → (i : ℕ) (d e : Device) → slice_get w.devices i ≡ Some d → slice_get next.devices i ≡ Some e → Becomes w event i d e
+pub becomes_of : (event : events.AppEvent) (w next : AppWorld) → events.Moves event w next → (i : ℕ) (d e : Device) → slice_get w.devices i ≡ Some d → slice_get next.devices i ≡ Some e → Becomes w event i d e
 becomes_of event w next led i d e there here =
     let b = becomes event w next led i e here in
     subst (λ c. Becomes w event i c e) (same_Some b.0 d (sym b.1 ∙ there)) b.2
 
 -- a device that is there before an event is there behind it
-pub there_behind : (event : events.Event) (w next : World) (i : ℕ) (d : Device) → events.Moves event w next → slice_get w.devices i ≡ Some d → (e : Device) × (slice_get next.devices i ≡ Some e)
-there_behind (Tick ms) w next i d led at = (d, ap (λ (v : World). slice_get v.devices i) led ∙ at)
-there_behind (At j act) w next i d led at =
+pub there_after : (event : events.AppEvent) (w next : AppWorld) (i : ℕ) (d : Device) → events.Moves event w next → slice_get w.devices i ≡ Some d → (e : Device) × (slice_get next.devices i ≡ Some e)
+there_after (Tick ms) w next i d led at = (d, ap (λ (v : AppWorld). slice_get v.devices i) led ∙ at)
+there_after (At j act) w next i d led at =
     let f = events.becomes w (events.taken_by w.accounts w.clock j led.0 act) j act in
-    (f (0 + i) d, ap (λ (v : World). slice_get v.devices i) led.3 ∙ get_each 0 f w.devices i ∙ ap (option_map (f (0 + i))) at)
+    (f (0 + i) d, ap (λ (v : AppWorld). slice_get v.devices i) led.3 ∙ get_each 0 f w.devices i ∙ ap (option_map (f (0 + i))) at)
 
 -- it stays, or rises by one
 abbrev pub RisesByOne : ℕ → ℕ → Type 0
@@ -121,7 +121,7 @@ may_ask i (events.Act.Acknowledge n) is = absurd is
 may_ask i (events.Act.Say to text private) is = absurd is
 may_ask i (events.Act.ServerHandles fits full) is = absurd is
 
-asked_becomes : (w : World) (event : events.Event) (i : ℕ) (d e : Device) → Becomes w event i d e →
+asked_becomes : (w : AppWorld) (event : events.AppEvent) (i : ℕ) (d e : Device) → Becomes w event i d e →
     RisesByOne d.reading.asked e.reading.asked × ((MayAsk i event → ⊥) → e.reading.asked ≡ d.reading.asked)
 asked_becomes w event i d e (Stayed ms is same) = (inl (ap (λ (x : Device). x.reading.asked) same), λ none. ap (λ (x : Device). x.reading.asked) same)
 asked_becomes w event i d e (Heard j act is other new same) =
@@ -135,7 +135,7 @@ asked_becomes w event i d e (Acted act is may new took same) =
       λ none. heard ∙ known.1 (λ asker. none (subst (MayAsk i) (sym is) (may_ask i act asker))),
     )
 
-pub asked_moves : (event : events.Event) (w next : World) → events.Moves event w next → (i : ℕ) (d e : Device) → slice_get w.devices i ≡ Some d → slice_get next.devices i ≡ Some e →
+pub asked_moves : (event : events.AppEvent) (w next : AppWorld) → events.Moves event w next → (i : ℕ) (d e : Device) → slice_get w.devices i ≡ Some d → slice_get next.devices i ≡ Some e →
     RisesByOne d.reading.asked e.reading.asked × ((MayAsk i event → ⊥) → e.reading.asked ≡ d.reading.asked)
 asked_moves event w next led i d e there here = asked_becomes w event i d e (becomes_of event w next led i d e there here)
 

@@ -6,15 +6,15 @@ use Rattle.std.proofs.lemmas.Option.{same_Some, slice_get_within}
 use Rattle.std.specs.List.{filter, AllByRecursion, slice_get}
 use Rattle.sim_1_applications.specs.Stanzas.{Up}
 use Rattle.sim_1_applications.specs.Stanzas.Up.{Carbons, Presence, Message, Query}
-use Rattle.sim_1_applications.specs.Devices.{Device, Take, Made, World, epoch_of, new_device}
+use Rattle.sim_1_applications.specs.Devices.{Device, Take, Made, AppWorld, epoch_of, new_device}
 use Rattle.sim_1_applications.specs.Events as events
-use Rattle.sim_1_applications.specs.Events.Event.{At, Tick}
+use Rattle.sim_1_applications.specs.Events.AppEvent.{At, Tick}
 use Rattle.sim_1_applications.specs.Kept.{IsOfDevice, is_of, SessionsKept, IsSettledAt, MadeKept, DeviceTaken, Taken}
 use Rattle.sim_1_applications.proofs.Lists.{all_append, all_weaker}
 use Rattle.sim_1_applications.proofs.Takes.{is_of_taken}
 use Rattle.sim_1_applications.proofs.Archives.{taken_epoch, takes_becomes, moments_more, moments_tick, taken_now, settled_all}
 use Rattle.sim_1_applications.proofs.SessionSteps.{fresh_session}
-use Rattle.sim_1_applications.proofs.Worlds.{length_each, same_place, at_place, was_device, sessions_becomes}
+use Rattle.sim_1_applications.proofs.Worlds.{length_each, same_position, at_position, was_device, sessions_becomes}
 
 -- A10 where the device acts, and where it hears
 
@@ -85,7 +85,7 @@ settled_now takes new j e number later = record {
 made_more : (takes new : List Take) (j : ℕ) (d : Device) → AllByRecursion (λ t. epoch_of d.sessions ≤ t.said.epoch) (filter (is_of j) new) → MadeKept takes j d → MadeKept (takes ++ new) j d
 made_more takes new j d later kept = record { settled = settled_all takes new j (epoch_of d.sessions) d.made later kept.epochs kept.settled; epochs = kept.epochs }
 
-made_acts : (w : World) (new : List Take) (act : events.Act) (j : ℕ) (d : Device) → AllByRecursion (λ t. epoch_of d.sessions ≤ t.said.epoch) (filter (is_of j) new) → MadeKept w.takes j d →
+made_acts : (w : AppWorld) (new : List Take) (act : events.Act) (j : ℕ) (d : Device) → AllByRecursion (λ t. epoch_of d.sessions ≤ t.said.epoch) (filter (is_of j) new) → MadeKept w.takes j d →
     MadeKept (w.takes ++ new) j (events.own (events.around w d) act d)
 made_acts w new act j d later kept =
     let grown = epoch_own (events.around w d) act d in
@@ -96,7 +96,7 @@ made_acts w new act j d later kept =
           (all_weaker (λ m. m.epoch ≤ epoch_of d.sessions) (λ m. m.epoch ≤ epoch_of (events.own (events.around w d) act d).sessions) d.made (λ m low. omega arith) kept.epochs);
     }
 
-made_becomes : (w : World) (i : ℕ) (act : events.Act) (own : Device) (j : ℕ) (d : Device) →
+made_becomes : (w : AppWorld) (i : ℕ) (act : events.Act) (own : Device) (j : ℕ) (d : Device) →
     slice_get w.devices i ≡ Some own → slice_get w.devices j ≡ Some d → SessionsKept d.sessions → MadeKept w.takes j d →
     MadeKept (w.takes ++ events.taken_by w.accounts w.clock i own act) j (events.becomes w (events.taken_by w.accounts w.clock i own act) i act j d)
 made_becomes w i act own j d at here sessions kept =
@@ -104,12 +104,12 @@ made_becomes w i act own j d at here sessions kept =
     let later : AllByRecursion (λ t. epoch_of d.sessions ≤ t.said.epoch) (filter (is_of j) new) =
     subst (AllByRecursion (λ t. epoch_of d.sessions ≤ t.said.epoch)) (sym (is_of_taken w.accounts w.clock i act own j)) (chosen (j == i) refl) in
     made_hear_all (w.takes ++ new) (w.takes ++ new) (events.full_of act) new j _
-    (at_place (j == i) _ _ (MadeKept (w.takes ++ new) j) (λ _. made_acts w new act j d later kept) (λ _. made_more w.takes new j d later kept))
+    (at_position (j == i) _ _ (MadeKept (w.takes ++ new) j) (λ _. made_acts w new act j d later kept) (λ _. made_more w.takes new j d later kept))
   where
     chosen : (b : Bool) → (j == i) ≡ b → AllByRecursion (λ t. epoch_of d.sessions ≤ t.said.epoch) (cond b (events.taken_by w.accounts w.clock i own act) [])
     chosen false is = tt
     chosen true is =
-        let j_is_i = same_place j i is in
+        let j_is_i = same_position j i is in
         let same : d ≡ own = (let g : slice_get w.devices j ≡ slice_get w.devices i = ap (slice_get w.devices) j_is_i in cc) in
         subst (λ e. AllByRecursion (λ t. epoch_of d.sessions ≤ t.said.epoch) (events.taken_by w.accounts w.clock i e act)) same
         (all_weaker (λ t. t.said.epoch ≡ epoch_of d.sessions) (λ t. epoch_of d.sessions ≤ t.said.epoch) _ (λ t is. omega arith) (taken_epoch w.accounts w.clock i act d sessions))
@@ -143,14 +143,14 @@ placed_by accounts many moment i events.Act.ClientHandles d within = tt
 
 -- One event.
 
-taken_tick : (w : World) (ms : ℕ) → Taken w → Taken (events.after w (Tick ms))
+taken_tick : (w : AppWorld) (ms : ℕ) → Taken w → Taken (events.after w (Tick ms))
 taken_tick w ms kept = record {
   placed = kept.placed;
   moments = moments_tick 0 w.clock ms w.takes kept.moments;
   devices = λ i d at. let was = kept.devices i d at in record { sessions = was.sessions; takes = was.takes; made = was.made };
 }
 
-taken_acted : (w : World) (i : ℕ) (act : events.Act) (own : Device) → slice_get w.devices i ≡ Some own → events.May act own → Taken w → Taken (events.acted w i act own)
+taken_acted : (w : AppWorld) (i : ℕ) (act : events.Act) (own : Device) → slice_get w.devices i ≡ Some own → events.May act own → Taken w → Taken (events.acted w i act own)
 taken_acted w i act own at may kept =
     let new = events.taken_by w.accounts w.clock i own act in
     record {
@@ -168,7 +168,7 @@ taken_acted w i act own at may kept =
           });
     }
 
-pub taken_moves : (event : events.Event) (w next : World) → events.Moves event w next → Taken w → Taken next
+pub taken_moves : (event : events.AppEvent) (w next : AppWorld) → events.Moves event w next → Taken w → Taken next
 taken_moves (Tick ms) w next is kept = subst Taken (sym is) (taken_tick w ms kept)
 taken_moves (At i act) w next is kept = subst Taken (sym is.3) (taken_acted w i act is.0 is.1 is.2 kept)
 
@@ -202,10 +202,10 @@ taken_beginning keep accounts homes = record {
   devices = λ i d at. one_of (DeviceTaken (events.beginning keep accounts homes)) homes i d (λ account. new_taken keep accounts homes i account) at;
 }
 
-pub taken_along : (all : List events.Event) (w last : World) → events.Reaches all w last → Taken w → Taken last
+pub taken_along : (all : List events.AppEvent) (w last : AppWorld) → events.Reaches all w last → Taken w → Taken last
 taken_along [] w last is kept = subst Taken (sym is) kept
 taken_along (event ∷ all) w last reaches kept = taken_along all reaches.0 last reaches.2 (taken_moves event w reaches.0 reaches.1 kept)
 
 -- A1 to A5 and A10 hold in each world that is reached
-pub taken_reached : (w : World) → events.Reached w → Taken w
+pub taken_reached : (w : AppWorld) → events.Reached w → Taken w
 taken_reached w reached = taken_along reached.events (events.beginning reached.keep reached.accounts reached.homes) w reached.reaches (taken_beginning reached.keep reached.accounts reached.homes)

@@ -6,16 +6,16 @@ use Rattle.std.proofs.lemmas.Option.{same_Some}
 use Rattle.std.specs.List.{flat_map, slice_get}
 use Rattle.sim_1_applications.specs.Stanzas.{Up, Down, messages}
 use Rattle.sim_1_applications.specs.Stanzas.Up.{Carbons, Presence, Message, Query}
-use Rattle.sim_1_applications.specs.Devices.{Device, Take, World}
+use Rattle.sim_1_applications.specs.Devices.{AppWorld, Device, Take}
 use Rattle.sim_1_applications.specs.Answers.{last_in}
 use Rattle.sim_1_applications.specs.Events as events
-use Rattle.sim_1_applications.specs.Events.Event.{At, Tick}
+use Rattle.sim_1_applications.specs.Events.AppEvent.{At, Tick}
 use Rattle.sim_1_applications.specs.Histories.{spoken_by, spoken_in}
 use Rattle.sim_1_applications.proofs.Numbered.{messages_append}
 use Rattle.sim_1_applications.proofs.Runs.{one_of, taken_along, taken_beginning}
 use Rattle.sim_1_applications.proofs.SessionSteps.{no_message}
 use Rattle.sim_1_applications.proofs.Spoken.{all_spoken, as_spoken, put_of, said_along, submitted}
-use Rattle.sim_1_applications.proofs.Worlds.{same_place}
+use Rattle.sim_1_applications.proofs.Worlds.{same_position}
 use Rattle.sim_1_applications.specs.Counts.{OfEach, said_by}
 use Rattle.sim_1_applications.proofs.Requests.{each_within}
 use Rattle.sim_1_applications.proofs.Rises.{becomes}
@@ -41,16 +41,16 @@ one_more : (k i : ℕ) (f : ℕ → Device → Device) (ds : List Device) (own :
 one_more k i f [] own took said at none own_more = absurd (let no : ⊥ = cc in no)
 one_more k zero f (d ∷ ds) own took said at none own_more =
     let is : d ≡ own = same_Some d own at in
-    let place : k + zero ≡ k = omega arith in
+    let position : k + zero ≡ k = omega arith in
     let same = ap waiting is in
-    let then = ap (λ n. waiting (f n own)) place in
+    let then = ap (λ n. waiting (f n own)) position in
     let there = ap (λ e. waiting (f k e)) is in
     let others = none_above (suc k) f ds (λ j e above. none j e (λ wrong. let no : ⊥ = omega arith in no)) in
     omega arith
 one_more k (suc i) f (d ∷ ds) own took said at none own_more =
-    let place : k + suc i ≡ suc k + i = omega arith in
+    let position : k + suc i ≡ suc k + i = omega arith in
     let one = none k d (λ wrong. let no : ⊥ = omega arith in no) in
-    let others = one_more (suc k) i f ds own took said at (λ j e other. none j e (λ wrong. other (wrong ∙ place))) (subst (λ n. waiting (f n own) + took ≤ waiting own + said) place own_more) in
+    let others = one_more (suc k) i f ds own took said at (λ j e other. none j e (λ wrong. other (wrong ∙ position))) (subst (λ n. waiting (f n own) + took ≤ waiting own + said) position own_more) in
     omega arith
 
 waiting_hears : (takes : List Take) (full : List ℕ) (ts : List Take) (j : ℕ) (d : Device) → waiting (events.hear_all takes full ts j d) ≡ waiting d
@@ -105,10 +105,10 @@ waiting_own accounts moment i a (events.Act.ServerHandles fits full) d = let few
 waiting_own accounts moment i a events.Act.ClientHandles d = let same = waiting_read a d.sessions.now.down_rest d in omega arith
 
 -- so many were taken or wait
-abbrev AreSaid : ℕ → World → Type 0
+abbrev AreSaid : ℕ → AppWorld → Type 0
 AreSaid said w = length w.takes + waiting_in w.devices ≤ said
 
-said_acted : (w : World) (i : ℕ) (act : events.Act) (own : Device) (said : ℕ) → slice_get w.devices i ≡ Some own → AreSaid said w → AreSaid (said + length (spoken_by (At i act))) (events.acted w i act own)
+said_acted : (w : AppWorld) (i : ℕ) (act : events.Act) (own : Device) (said : ℕ) → slice_get w.devices i ≡ Some own → AreSaid said w → AreSaid (said + length (spoken_by (At i act))) (events.acted w i act own)
 said_acted w i act own said at few =
     let longer = length-append w.takes new in
     let devices = one_more 0 i f w.devices own (length new) (length (spoken_by (At i act))) at none here in
@@ -122,24 +122,24 @@ said_acted w i act own said at few =
 
     none : (j : ℕ) (d : Device) → j ≢ 0 + i → waiting (events.becomes w new i act j d) ≤ waiting d
     none j d other =
-        let apart : (j == i) ≡ false = false_from_ne_true (j == i) (λ is. other (same_place j i is ∙ (let place : i ≡ 0 + i = omega arith in place))) in
+        let apart : (j == i) ≡ false = false_from_ne_true (j == i) (λ is. other (same_position j i is ∙ (let position : i ≡ 0 + i = omega arith in position))) in
         let heard = waiting_hears (w.takes ++ new) (events.full_of act) new j (cond (j == i) (events.own (events.around w d) act d) d) in
         let same = ap (λ b. waiting (cond b (events.own (events.around w d) act d) d)) apart in
         omega arith
 
     here : waiting (events.becomes w new i act (0 + i) own) + length new ≤ waiting own + length (spoken_by (At i act))
     here =
-        let place : (0 + i == i) ≡ true = (let e : 0 + i ≡ i = omega arith in eq-eqb (0 + i) i e) in
+        let position : (0 + i == i) ≡ true = (let e : 0 + i ≡ i = omega arith in eq-eqb (0 + i) i e) in
         let heard = waiting_hears (w.takes ++ new) (events.full_of act) new (0 + i) (cond (0 + i == i) (events.own (events.around w own) act own) own) in
-        let same = ap (λ b. waiting (cond b (events.own (events.around w own) act own) own)) place in
+        let same = ap (λ b. waiting (cond b (events.own (events.around w own) act own) own)) position in
         let few = waiting_own w.accounts w.clock i (events.around w own) act own in
         omega arith
 
-said_moves : (event : events.Event) (w next : World) (said : ℕ) → events.Moves event w next → AreSaid said w → AreSaid (said + length (spoken_by event)) next
+said_moves : (event : events.AppEvent) (w next : AppWorld) (said : ℕ) → events.Moves event w next → AreSaid said w → AreSaid (said + length (spoken_by event)) next
 said_moves (Tick ms) w next said led few = subst (AreSaid (said + 0)) (sym led) (omega arith)
 said_moves (At i act) w next said led few = subst (AreSaid (said + length (spoken_by (At i act)))) (sym led.3) (said_acted w i act led.0 said led.1 few)
 
-said_all : (all : List events.Event) (w last : World) (said : ℕ) → events.Reaches all w last → AreSaid said w → AreSaid (said + length (spoken_in all)) last
+said_all : (all : List events.AppEvent) (w last : AppWorld) (said : ℕ) → events.Reaches all w last → AreSaid said w → AreSaid (said + length (spoken_in all)) last
 said_all [] w last said led few = subst (AreSaid (said + 0)) (sym led) (omega arith)
 said_all (event ∷ all) w last said led few =
     let rest = said_all all led.0 last (said + length (spoken_by event)) led.2 (said_moves event w led.0 said led.1 few) in
@@ -150,7 +150,7 @@ none_waits : (homes : List (List ℕ)) → waiting_in (events.devices_of homes) 
 none_waits [] = refl
 none_waits (home ∷ homes) = let rest = none_waits homes in omega arith
 
-pub takes_few : (keep : ℕ) (accounts homes : List (List ℕ)) (all : List events.Event) (w : World) → events.Reaches all (events.beginning keep accounts homes) w → length w.takes ≤ length (spoken_in all)
+pub takes_few : (keep : ℕ) (accounts homes : List (List ℕ)) (all : List events.AppEvent) (w : AppWorld) → events.Reaches all (events.beginning keep accounts homes) w → length w.takes ≤ length (spoken_in all)
 takes_few keep accounts homes all w led =
     let begins = none_waits homes in
     let few = said_all all (events.beginning keep accounts homes) w 0 led (omega arith) in
@@ -159,14 +159,14 @@ takes_few keep accounts homes all w led =
 -- Messages.
 
 -- a device that is there was there at the beginning
-pub was_there : (all : List events.Event) (w last : World) (i : ℕ) (e : Device) → events.Reaches all w last → slice_get last.devices i ≡ Some e → (d : Device) × (slice_get w.devices i ≡ Some d)
-was_there [] w last i e led at = (e, ap (λ (v : World). slice_get v.devices i) (sym led) ∙ at)
+pub was_there : (all : List events.AppEvent) (w last : AppWorld) (i : ℕ) (e : Device) → events.Reaches all w last → slice_get last.devices i ≡ Some e → (d : Device) × (slice_get w.devices i ≡ Some d)
+was_there [] w last i e led at = (e, ap (λ (v : AppWorld). slice_get v.devices i) (sym led) ∙ at)
 was_there (event ∷ all) w last i e led at =
     let later = was_there all led.0 last i e led.2 at in
     let before = becomes event w led.0 led.1 i later.0 later.1 in
     (before.0, before.1)
 
-pub said_whole : (keep : ℕ) (accounts homes : List (List ℕ)) (all : List events.Event) (w : World) → events.Reaches all (events.beginning keep accounts homes) w →
+pub said_whole : (keep : ℕ) (accounts homes : List (List ℕ)) (all : List events.AppEvent) (w : AppWorld) → events.Reaches all (events.beginning keep accounts homes) w →
     (i : ℕ) (d : Device) → slice_get w.devices i ≡ Some d → length (submitted d.sessions) ≡ length (said_by i all)
 said_whole keep accounts homes all w led i d at =
     let begins = events.beginning keep accounts homes in
@@ -176,13 +176,13 @@ said_whole keep accounts homes all w led i d at =
     let same : said.device ≡ d = same_Some said.device d (sym said.at ∙ at) in
     sym (length-map (submitted d.sessions) (as_spoken i)) ∙ ap (λ (e : Device). length (all_spoken i e.sessions)) (sym same) ∙ ap length said.whole
 
-pub messages_few : (keep : ℕ) (accounts homes : List (List ℕ)) (all : List events.Event) (w : World) → events.Reaches all (events.beginning keep accounts homes) w →
+pub messages_few : (keep : ℕ) (accounts homes : List (List ℕ)) (all : List events.AppEvent) (w : AppWorld) → events.Reaches all (events.beginning keep accounts homes) w →
     (i : ℕ) (d : Device) → slice_get w.devices i ≡ Some d → OfEach (λ s. length (put_of s) ≤ length (said_by i all)) d
 messages_few keep accounts homes all w led i d at =
     let whole = said_whole keep accounts homes all w led i d at in
     each_within put_of d.sessions (length (said_by i all)) (omega arith)
 
-pub n_few : (keep : ℕ) (accounts homes : List (List ℕ)) (all : List events.Event) (w : World) → events.Reaches all (events.beginning keep accounts homes) w →
+pub n_few : (keep : ℕ) (accounts homes : List (List ℕ)) (all : List events.AppEvent) (w : AppWorld) → events.Reaches all (events.beginning keep accounts homes) w →
     (i : ℕ) (d : Device) → slice_get w.devices i ≡ Some d → d.sessions.n ≤ length (said_by i all)
 n_few keep accounts homes all w led i d at =
     let whole = said_whole keep accounts homes all w led i d at in

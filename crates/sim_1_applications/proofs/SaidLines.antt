@@ -5,7 +5,7 @@ use Rattle.std.proofs.lemmas.List.{append-nil}
 use Rattle.std.specs.List.{AllByRecursion, flat_map}
 use Rattle.std.specs.Prelude.{◌&&◌, nat_lt}
 use Rattle.base_lemmas.proofs.Lists.{AllByRecursion-weaker}
-use Rattle.cmd_report.specs.Lawful.{AreNumberedBehind, AreSubmissions, EachPair, submission}
+use Rattle.cmd_report.specs.Lawful.{AreNumberedAfter, AreSubmissions, EachPair, submission}
 use Rattle.cmd_report.specs.declared.report.SaidLine.{SaidLine}
 use Rattle.cmd_report.specs.declared.report.SaidMark.{SaidMark}
 use Rattle.cmd_report.specs.declared.report.SaidMark.TheVariants.{Acknowledged, Undecided, Waiting}
@@ -158,47 +158,47 @@ said_epochs s kept =
 
 -- Numbers.
 
-behind_among : (e n acked : ℕ) (mark : SaidMark) (zs : List Up) (rest : List SaidLine) (last : SaidLine) → AreNumbered e n (messages zs) → last.epoch ≡ e → last.n ≡ n →
-    ((l : SaidLine) → l.epoch ≡ e → AreNumberedBehind l rest) → AreNumberedBehind last (said_among acked mark zs ++ rest)
-behind_among e n acked mark [] rest last known epoch number more = more last epoch
-behind_among e n acked mark (Carbons ∷ zs) rest last known epoch number more = behind_among e n (acked - 1) mark zs rest last known epoch number more
-behind_among e n acked mark (Presence ∷ zs) rest last known epoch number more = behind_among e n (acked - 1) mark zs rest last known epoch number more
-behind_among e n acked mark (Query r ∷ zs) rest last known epoch number more = behind_among e n (acked - 1) mark zs rest last known epoch number more
-behind_among e n acked mark (Message m ∷ zs) rest last known epoch number more = (
+after_among : (e n acked : ℕ) (mark : SaidMark) (zs : List Up) (rest : List SaidLine) (last : SaidLine) → AreNumbered e n (messages zs) → last.epoch ≡ e → last.n ≡ n →
+    ((l : SaidLine) → l.epoch ≡ e → AreNumberedAfter l rest) → AreNumberedAfter last (said_among acked mark zs ++ rest)
+after_among e n acked mark [] rest last known epoch number more = more last epoch
+after_among e n acked mark (Carbons ∷ zs) rest last known epoch number more = after_among e n (acked - 1) mark zs rest last known epoch number more
+after_among e n acked mark (Presence ∷ zs) rest last known epoch number more = after_among e n (acked - 1) mark zs rest last known epoch number more
+after_among e n acked mark (Query r ∷ zs) rest last known epoch number more = after_among e n (acked - 1) mark zs rest last known epoch number more
+after_among e n acked mark (Message m ∷ zs) rest last known epoch number more = (
   inl (known.0 ∙ sym epoch, known.1 ∙ (let s : suc n ≡ last.n + 1 = omega arith in s)),
-  behind_among e (suc n) (acked - 1) mark zs rest (said_line (mark_at acked mark) m) known.2 known.0 known.1 more,
+  after_among e (suc n) (acked - 1) mark zs rest (said_line (mark_at acked mark) m) known.2 known.0 known.1 more,
 )
 
-behind_session : (e acked : ℕ) (mark : SaidMark) (zs : List Up) (rest : List SaidLine) (last : SaidLine) → AreNumbered e 0 (messages zs) → last.epoch < e →
-    ((l : SaidLine) → l.epoch < suc e → AreNumberedBehind l rest) → AreNumberedBehind last (said_among acked mark zs ++ rest)
-behind_session e acked mark [] rest last known low more = more last (omega arith)
-behind_session e acked mark (Carbons ∷ zs) rest last known low more = behind_session e (acked - 1) mark zs rest last known low more
-behind_session e acked mark (Presence ∷ zs) rest last known low more = behind_session e (acked - 1) mark zs rest last known low more
-behind_session e acked mark (Query r ∷ zs) rest last known low more = behind_session e (acked - 1) mark zs rest last known low more
-behind_session e acked mark (Message m ∷ zs) rest last known low more = (
+after_session : (e acked : ℕ) (mark : SaidMark) (zs : List Up) (rest : List SaidLine) (last : SaidLine) → AreNumbered e 0 (messages zs) → last.epoch < e →
+    ((l : SaidLine) → l.epoch < suc e → AreNumberedAfter l rest) → AreNumberedAfter last (said_among acked mark zs ++ rest)
+after_session e acked mark [] rest last known low more = more last (omega arith)
+after_session e acked mark (Carbons ∷ zs) rest last known low more = after_session e (acked - 1) mark zs rest last known low more
+after_session e acked mark (Presence ∷ zs) rest last known low more = after_session e (acked - 1) mark zs rest last known low more
+after_session e acked mark (Query r ∷ zs) rest last known low more = after_session e (acked - 1) mark zs rest last known low more
+after_session e acked mark (Message m ∷ zs) rest last known low more = (
   inr (let same = known.0 in let up : last.epoch < m.epoch = omega arith in up, known.1),
-  behind_among e 1 (acked - 1) mark zs rest (said_line (mark_at acked mark) m) known.2 known.0 known.1 (λ l is. more l (omega arith)),
+  after_among e 1 (acked - 1) mark zs rest (said_line (mark_at acked mark) m) known.2 known.0 known.1 (λ l is. more l (omega arith)),
 )
 
-first_session : (e acked : ℕ) (mark : SaidMark) (zs : List Up) (rest : List SaidLine) → AreNumbered e 0 (messages zs) → ((l : SaidLine) → l.epoch < suc e → AreNumberedBehind l rest) → AreSubmissions rest →
+first_session : (e acked : ℕ) (mark : SaidMark) (zs : List Up) (rest : List SaidLine) → AreNumbered e 0 (messages zs) → ((l : SaidLine) → l.epoch < suc e → AreNumberedAfter l rest) → AreSubmissions rest →
     AreSubmissions (said_among acked mark zs ++ rest)
 first_session e acked mark [] rest known more others = others
 first_session e acked mark (Carbons ∷ zs) rest known more others = first_session e (acked - 1) mark zs rest known more others
 first_session e acked mark (Presence ∷ zs) rest known more others = first_session e (acked - 1) mark zs rest known more others
 first_session e acked mark (Query r ∷ zs) rest known more others = first_session e (acked - 1) mark zs rest known more others
 first_session e acked mark (Message m ∷ zs) rest known more others =
-    (known.1, behind_among e 1 (acked - 1) mark zs rest (said_line (mark_at acked mark) m) known.2 known.0 known.1 (λ l is. more l (omega arith)))
+    (known.1, after_among e 1 (acked - 1) mark zs rest (said_line (mark_at acked mark) m) known.2 known.0 known.1 (λ l is. more l (omega arith)))
 
 numbered_from : (e : ℕ) (past : List Session) (now : Session) (mark : SaidMark) → ArePast e past → IsNumbered (e + length past) now →
-    ((last : SaidLine) → last.epoch < e → AreNumberedBehind last (flat_map (said_in Undecided) past ++ said_in mark now)) × AreSubmissions (flat_map (said_in Undecided) past ++ said_in mark now)
+    ((last : SaidLine) → last.epoch < e → AreNumberedAfter last (flat_map (said_in Undecided) past ++ said_in mark now)) × AreSubmissions (flat_map (said_in Undecided) past ++ said_in mark now)
 numbered_from e [] now mark known one =
-    subst (λ ls. ((last : SaidLine) → last.epoch < e → AreNumberedBehind last ls) × AreSubmissions ls) (append-nil (said_in mark now))
-    (λ last low. behind_session (e + 0) now.acked mark (up_put now) [] last one.numbers (omega arith) (λ l under. tt), first_session (e + 0) now.acked mark (up_put now) [] one.numbers (λ l under. tt) tt)
+    subst (λ ls. ((last : SaidLine) → last.epoch < e → AreNumberedAfter last ls) × AreSubmissions ls) (append-nil (said_in mark now))
+    (λ last low. after_session (e + 0) now.acked mark (up_put now) [] last one.numbers (omega arith) (λ l under. tt), first_session (e + 0) now.acked mark (up_put now) [] one.numbers (λ l under. tt) tt)
 numbered_from e (s ∷ past) now mark known one =
     let rest = flat_map (said_in Undecided) past ++ said_in mark now in
     let others = numbered_from (suc e) past now mark known.1 (subst (λ k. IsNumbered k now) (let same : e + suc (length past) ≡ suc e + length past = omega arith in same) one) in
-    subst (λ ls. ((last : SaidLine) → last.epoch < e → AreNumberedBehind last ls) × AreSubmissions ls) (sym (append_assoc (said_in Undecided s) (flat_map (said_in Undecided) past) (said_in mark now)))
-    (λ last low. behind_session e s.acked Undecided (up_put s) rest last known.0.numbers low others.0, first_session e s.acked Undecided (up_put s) rest known.0.numbers others.0 others.1)
+    subst (λ ls. ((last : SaidLine) → last.epoch < e → AreNumberedAfter last ls) × AreSubmissions ls) (sym (append_assoc (said_in Undecided s) (flat_map (said_in Undecided) past) (said_in mark now)))
+    (λ last low. after_session e s.acked Undecided (up_put s) rest last known.0.numbers low others.0, first_session e s.acked Undecided (up_put s) rest known.0.numbers others.0 others.1)
 
 pub said_numbered : (s : Sessions) → SessionsKept s → AreSubmissions (said_of s)
 said_numbered s kept = (numbered_from 0 s.past s.now (mark_of s.online) kept.past (now_numbered s kept)).1

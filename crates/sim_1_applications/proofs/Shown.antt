@@ -10,14 +10,14 @@ use Rattle.base_io.specs.Names.{is_among}
 use Rattle.mam_pages.specs.Kept.{first_number, last_number, last_number_or}
 use Rattle.cmd_report.specs.Lawful.{EndsWith}
 use Rattle.cmd_report.specs.Reports.{DeviceView}
-use Rattle.cmd_report.specs.Worlds.{World}
+use Rattle.cmd_report.specs.Worlds.{ReportWorld}
 use Rattle.cmd_schedule.specs.Contents.{Owned}
 use Rattle.sim_1_applications.specs.Devices as sessions
 use Rattle.sim_1_applications.specs.Devices.{last_of}
-use Rattle.sim_1_applications.specs.Events.{Event, after}
+use Rattle.sim_1_applications.specs.Events.{AppEvent, after}
 use Rattle.sim_1_applications.specs.Histories.{state_after, states_of}
-use Rattle.sim_1_applications.proofs.Turned.{history_follows, history_long}
-use Rattle.sim_1_applications.specs.Reported.{AreShown, IsShown, history_at}
+use Rattle.sim_1_applications.proofs.Rendered.{history_follows, history_long}
+use Rattle.sim_1_applications.specs.Reported.{AreRepresented, IsShown, history_at}
 
 -- The numbers that an archive keeps.
 
@@ -30,9 +30,9 @@ last_newest keep history some follow =
     let entries = drop p history in
     let size : length entries ≡ length history - p = length-drop p history in
     let first : 1 + p ≡ suc p = omega arith in
-    let behind : FollowFrom (suc p) entries = subst (λ k. FollowFrom k entries) first (follow_drop p 1 history follow) in
+    let following : FollowFrom (suc p) entries = subst (λ k. FollowFrom k entries) first (follow_drop p 1 history follow) in
     let end : p + length entries ≡ length history = omega arith in
-    ap (last_number_or 0) (sym (append-nil entries)) ∙ number_follow 0 p entries [] behind (λ none. small_drop keep (length history) (length entries) some size none) ∙ end
+    ap (last_number_or 0) (sym (append-nil entries)) ∙ number_follow 0 p entries [] following (λ none. small_drop keep (length history) (length entries) some size none) ∙ end
 
 first_follow : (s : ℕ) (es : List EntryView) → FollowFrom (suc s) es → (length es ≡ 0 → s ≡ 0) → first_number es ≡ suc s
 first_follow s [] follow empty = ap suc (sym (empty refl))
@@ -47,11 +47,11 @@ first_newest keep history some follow =
     first_follow p entries (subst (λ k. FollowFrom k entries) first (follow_drop p 1 history follow)) (λ none. sym (small_drop keep (length history) (length entries) some size none))
 
 -- of an account that exists, what a world shows has these numbers
-pub record Numbers (w : sessions.World) (keep : ℕ) (shown : World) (account : List ℕ) : Type 0 where
+pub record Numbers (w : sessions.AppWorld) (keep : ℕ) (shown : ReportWorld) (account : List ℕ) : Type 0 where
   pub last : last_number (shown.archive account) ≡ last_of w.takes account
   pub first : first_number (shown.archive account) ≡ suc (last_of w.takes account - keep)
 
-pub shown_numbers : (owned : List Owned) (w : sessions.World) (shown : World) (account : List ℕ) → 1 ≤ w.keep → IsShown owned w shown → is_among account w.accounts ≡ true → Numbers w w.keep shown account
+pub shown_numbers : (owned : List Owned) (w : sessions.AppWorld) (shown : ReportWorld) (account : List ℕ) → 1 ≤ w.keep → IsShown owned w shown → is_among account w.accounts ≡ true → Numbers w w.keep shown account
 shown_numbers owned w shown account some is exists =
     let history = history_at owned w.takes account in
     let follow = history_follows owned w.takes account in
@@ -64,12 +64,12 @@ shown_numbers owned w shown account some is exists =
 
 -- Worlds by their places.
 
-pub record ShownAt (owned : List Owned) (states : List sessions.World) (i : ℕ) (shown : World) : Type 0 where
-  pub state : sessions.World
+pub record ShownAt (owned : List Owned) (states : List sessions.AppWorld) (i : ℕ) (shown : ReportWorld) : Type 0 where
+  pub state : sessions.AppWorld
   pub at : slice_get states i ≡ Some state
   pub is : IsShown owned state shown
 
-pub shown_at : (owned : List Owned) (states : List sessions.World) (worlds : List World) (i : ℕ) (shown : World) → AreShown owned states worlds → slice_get worlds i ≡ Some shown → ShownAt owned states i shown
+pub shown_at : (owned : List Owned) (states : List sessions.AppWorld) (worlds : List ReportWorld) (i : ℕ) (shown : ReportWorld) → AreRepresented owned states worlds → slice_get worlds i ≡ Some shown → ShownAt owned states i shown
 shown_at owned [] [] i shown are at = absurd (none-some shown at)
 shown_at owned [] (x ∷ worlds) i shown are at = absurd are
 shown_at owned (w ∷ states) [] i shown are at = absurd are
@@ -79,21 +79,21 @@ shown_at owned (w ∷ states) (x ∷ worlds) (suc i) shown are at =
     record { state = rest.state; at = rest.at; is = rest.is }
 
 -- the last world shows the last state
-pub ends_with : (owned : List Owned) (moves : List (List Event)) (w : sessions.World) (worlds : List World) (line : DeviceView) → AreShown owned (states_of w moves) worlds →
-    ((shown : World) → IsShown owned (state_after w (flat_map (λ move. move) moves)) shown → length (shown.pages line.name) ≡ length line.pages) → EndsWith worlds line
+pub ends_with : (owned : List Owned) (moves : List (List AppEvent)) (w : sessions.AppWorld) (worlds : List ReportWorld) (line : DeviceView) → AreRepresented owned (states_of w moves) worlds →
+    ((shown : ReportWorld) → IsShown owned (state_after w (flat_map (λ move. move) moves)) shown → length (shown.pages line.name) ≡ length line.pages) → EndsWith worlds line
 ends_with owned [] w [] line are each = absurd are
 ends_with owned [] w (x ∷ []) line are each = each x are.0
 ends_with owned [] w (x ∷ y ∷ worlds) line are each = absurd are.1
 ends_with owned (move ∷ moves) w [] line are each = absurd are
 ends_with owned (move ∷ moves) w (x ∷ []) line are each = absurd (none_left moves are.1)
   where
-    none_left : (ms : List (List Event)) → AreShown owned (states_of (state_after w move) ms) [] → ⊥
+    none_left : (ms : List (List AppEvent)) → AreRepresented owned (states_of (state_after w move) ms) [] → ⊥
     none_left [] is = is
     none_left (m ∷ ms) is = is
 ends_with owned (move ∷ moves) w (x ∷ y ∷ worlds) line are each =
     ends_with owned moves (state_after w move) (y ∷ worlds) line are.1
     (λ shown is. each shown (subst (λ v. IsShown owned v shown) (sym (after_both move (flat_map (λ m. m) moves) w)) is))
   where
-    after_both : (xs ys : List Event) (v : sessions.World) → state_after v (xs ++ ys) ≡ state_after (state_after v xs) ys
+    after_both : (xs ys : List AppEvent) (v : sessions.AppWorld) → state_after v (xs ++ ys) ≡ state_after (state_after v xs) ys
     after_both [] ys v = refl
     after_both (x2 ∷ xs) ys v = after_both xs ys (after v x2)

@@ -8,13 +8,13 @@ use Rattle.std.specs.List.{filter, flat_map, slice_get}
 use Rattle.std.specs.Option.{option_map}
 use Rattle.sim_1_applications.specs.Stanzas.{Submission, Up, Down, messages}
 use Rattle.sim_1_applications.specs.Stanzas.Up.{Carbons, Presence, Message, Query}
-use Rattle.sim_1_applications.specs.Devices.{Device, Session, Sessions, Take, World, epoch_of, up_put}
+use Rattle.sim_1_applications.specs.Devices.{AppWorld, Device, Session, Sessions, Take, epoch_of, up_put}
 use Rattle.sim_1_applications.specs.Answers.{last_in}
 use Rattle.sim_1_applications.specs.Events as events
-use Rattle.sim_1_applications.specs.Events.Event.{At, Tick}
+use Rattle.sim_1_applications.specs.Events.AppEvent.{At, Tick}
 use Rattle.sim_1_applications.specs.Histories.{Spoken, spoken_by, spoken_in}
 use Rattle.sim_1_applications.proofs.Numbered.{messages_append}
-use Rattle.sim_1_applications.proofs.Worlds.{at_place, get_each, same_place}
+use Rattle.sim_1_applications.proofs.Worlds.{at_position, get_each, same_position}
 
 -- all messages that the client put, session after session
 abbrev pub put_of : Session → List Submission
@@ -94,12 +94,12 @@ submitted_hears takes full (t ∷ ts) j d = submitted_hears takes full ts j (eve
 abbrev pub is_by : ℕ → Spoken → Bool
 is_by i s = s.device == i
 
-abbrev pub spoken_at : ℕ → List events.Event → List Spoken
+abbrev pub spoken_at : ℕ → List events.AppEvent → List Spoken
 spoken_at i all = filter (is_by i) (spoken_in all)
 
 by_itself : (i j : ℕ) (act : events.Act) → (i == j) ≡ true → filter (is_by i) (said_by j act) ≡ said_by i act
 by_itself i j (events.Act.Say to text private) is =
-    let same : i ≡ j = same_place i j is in
+    let same : i ≡ j = same_position i j is in
     subst (λ k. filter (is_by i) (said_by k (events.Act.Say to text private)) ≡ said_by i (events.Act.Say to text private)) same
     (let hit : (i == i) ≡ true = eq-eqb i i refl in ap (λ b. cond b (said_by i (events.Act.Say to text private)) []) hit)
 by_itself i j events.Act.Bind is = refl
@@ -132,23 +132,23 @@ by_another i j events.Act.ClientHandles other = refl
 IsGrown : ℕ → List Spoken → List Spoken → Device → Type 0
 IsGrown i before more e = all_spoken i e.sessions ≡ before ++ more
 
-spoken_becomes : (w : World) (new : List Take) (j : ℕ) (act : events.Act) (i : ℕ) (d : Device) →
+spoken_becomes : (w : AppWorld) (new : List Take) (j : ℕ) (act : events.Act) (i : ℕ) (d : Device) →
     all_spoken i (events.becomes w new j act i d).sessions ≡ all_spoken i d.sessions ++ filter (is_by i) (said_by j act)
 unfolding IsGrown
 spoken_becomes w new j act i d =
-    at_place (i == j) (events.own (events.around w d) act d) d
+    at_position (i == j) (events.own (events.around w d) act d) d
     (λ e. IsGrown i (all_spoken i d.sessions) (filter (is_by i) (said_by j act)) (events.hear_all (w.takes ++ new) (events.full_of act) new i e))
     (λ is. ap (map (as_spoken i)) (submitted_hears (w.takes ++ new) (events.full_of act) new i (events.own (events.around w d) act d))
     ∙ spoken_own i (events.around w d) act d ∙ ap (λ l. all_spoken i d.sessions ++ l) (sym (by_itself i j act is)))
     (λ other. ap (map (as_spoken i)) (submitted_hears (w.takes ++ new) (events.full_of act) new i d)
     ∙ sym (append-nil (all_spoken i d.sessions)) ∙ ap (λ l. all_spoken i d.sessions ++ l) (sym (by_another i j act other)))
 
-pub record SaidAt (w : World) (i : ℕ) (said : List Spoken) : Type 0 where
+pub record SaidAt (w : AppWorld) (i : ℕ) (said : List Spoken) : Type 0 where
   pub device : Device
   pub at : slice_get w.devices i ≡ Some device
   pub whole : all_spoken i device.sessions ≡ said
 
-said_moves : (event : events.Event) (w next : World) (i : ℕ) (said : List Spoken) → events.Moves event w next → SaidAt w i said → SaidAt next i (said ++ filter (is_by i) (spoken_by event))
+said_moves : (event : events.AppEvent) (w next : AppWorld) (i : ℕ) (said : List Spoken) → events.Moves event w next → SaidAt w i said → SaidAt next i (said ++ filter (is_by i) (spoken_by event))
 said_moves (Tick ms) w next i said is kept =
     subst (λ v. SaidAt v i (said ++ [])) (sym is) (record { device = kept.device; at = kept.at; whole = kept.whole ∙ sym (append-nil said) })
 said_moves (At j act) w next i said is kept =
@@ -157,12 +157,12 @@ said_moves (At j act) w next i said is kept =
       device = events.becomes w new j act (0 + i) kept.device;
       at = get_each 0 (events.becomes w new j act) w.devices i ∙ ap (option_map (events.becomes w new j act (0 + i))) kept.at;
       whole =
-          (let place : 0 + i ≡ i = omega arith in ap (λ k. all_spoken i (events.becomes w new j act k kept.device).sessions) place)
+          (let position : 0 + i ≡ i = omega arith in ap (λ k. all_spoken i (events.becomes w new j act k kept.device).sessions) position)
           ∙ spoken_becomes w new j act i kept.device ∙ ap (λ l. l ++ filter (is_by i) (spoken_by (At j act))) kept.whole;
     })
 
 -- behind events the user of a device said what these tell
-pub said_along : (all : List events.Event) (w last : World) (i : ℕ) (said : List Spoken) → events.Reaches all w last → SaidAt w i said → SaidAt last i (said ++ spoken_at i all)
+pub said_along : (all : List events.AppEvent) (w last : AppWorld) (i : ℕ) (said : List Spoken) → events.Reaches all w last → SaidAt w i said → SaidAt last i (said ++ spoken_at i all)
 said_along [] w last i said is kept = subst (λ v. SaidAt v i (said ++ [])) (sym is) (record { device = kept.device; at = kept.at; whole = kept.whole ∙ sym (append-nil said) })
 said_along (event ∷ all) w last i said reaches kept =
     let next = said_moves event w reaches.0 i said reaches.1 kept in

@@ -124,6 +124,6 @@ stamps_agree owned all tells a b first second from origin =
     (undotted (decimal first.t.said.epoch) (decimal_is_IsNumeral first.t.said.epoch first.epoch).0.1) (undotted (decimal second.t.said.epoch) (decimal_is_IsNumeral second.t.said.epoch second.epoch).0.1) parts.rest in
     let epoch = decimal_injective first.t.said.epoch second.t.said.epoch first.epoch second.epoch numbers.0 in
     let n = decimal_injective first.t.said.n second.t.said.n first.n second.n numbers.1 in
-    let place = tells first.t.device second.t.device first.device second.device parts.front in
-    first.stamp ∙ ap (λ i. moment_in i first.t.said.epoch first.t.said.n all) place ∙ ap (λ e. moment_in second.t.device e first.t.said.n all) epoch
+    let position = tells first.t.device second.t.device first.device second.device parts.front in
+    first.stamp ∙ ap (λ i. moment_in i first.t.said.epoch first.t.said.n all) position ∙ ap (λ e. moment_in second.t.device e first.t.said.n all) epoch
     ∙ ap (λ k. moment_in second.t.device second.t.said.epoch k all) n ∙ sym second.stamp

@@ -4,7 +4,7 @@ use Rattle.std.proofs.lemmas.Bool.{eq-eqb}
 use Rattle.std.proofs.lemmas.List.{length-append}
 use Rattle.std.specs.List.{AllByRecursion, filter, flat_map, slice_get}
 use Rattle.sim_1_applications.specs.Stanzas.{Submission, messages}
-use Rattle.sim_1_applications.specs.Devices.{Device, Session, Sessions, Take, World, epoch_of, up_put}
+use Rattle.sim_1_applications.specs.Devices.{AppWorld, Device, Session, Sessions, Take, epoch_of, up_put}
 use Rattle.sim_1_applications.specs.Events as events
 use Rattle.sim_1_applications.specs.Events.{is_among}
 use Rattle.sim_1_applications.specs.Histories.{Spoken, spoken_in}
@@ -52,7 +52,7 @@ of_mapped : {A B : Type 0} (P : B → Type 0) (f : A → B) (xs : List A) → Al
 of_mapped P f [] known = tt
 of_mapped P f (x ∷ xs) known = (known.0, of_mapped P f xs known.1)
 
-pub of_device : (keep : ℕ) (accounts homes : List (List ℕ)) (all : List events.Event) (w : World) → events.Reaches all (events.beginning keep accounts homes) w →
+pub of_device : (keep : ℕ) (accounts homes : List (List ℕ)) (all : List events.AppEvent) (w : AppWorld) → events.Reaches all (events.beginning keep accounts homes) w →
     (i : ℕ) (d : Device) → slice_get w.devices i ≡ Some d → AllByRecursion (λ t. IsNumberedWithin (epoch_of d.sessions) (length (said_by i all)) t.said) (filter (is_of i) w.takes)
 of_device keep accounts homes all w led i d at =
     let known = (taken_along all (events.beginning keep accounts homes) w led (taken_beginning keep accounts homes)).devices i d at in
@@ -88,10 +88,10 @@ there_is zero (x ∷ xs) low = (x, refl)
 there_is (suc i) (x ∷ xs) low = there_is i xs (omega arith)
 
 -- a device said no more than all
-pub said_few : (i : ℕ) (all : List events.Event) → length (said_by i all) ≤ length (spoken_in all)
+pub said_few : (i : ℕ) (all : List events.AppEvent) → length (said_by i all) ≤ length (spoken_in all)
 said_few i all = filter_few (λ s. s.device == i) (spoken_in all)
 
-pub of_all : (keep : ℕ) (accounts homes : List (List ℕ)) (all : List events.Event) (w : World) (high : ℕ) → events.Reaches all (events.beginning keep accounts homes) w →
+pub of_all : (keep : ℕ) (accounts homes : List (List ℕ)) (all : List events.AppEvent) (w : AppWorld) (high : ℕ) → events.Reaches all (events.beginning keep accounts homes) w →
     ((i : ℕ) (d : Device) → slice_get w.devices i ≡ Some d → epoch_of d.sessions ≤ high) → AllByRecursion (λ t. IsNumberedWithin high (length (spoken_in all)) t.said) w.takes
 of_all keep accounts homes all w high led epochs =
     each_take (λ t. IsNumberedWithin high (length (spoken_in all)) t.said) (length w.devices) w.takes

@@ -6,7 +6,7 @@ use Rattle.std.specs.List.Sorted.{IsNonDecreasing}
 use Rattle.std.specs.Str.{bytes_eq}
 use Rattle.base_lemmas.proofs.Lists.{AllByRecursion-weaker}
 use Rattle.cmd_direct.proofs.LawLists.{pairs_not_falling}
-use Rattle.cmd_direct.proofs.TurnRuns.{all_places}
+use Rattle.cmd_direct.proofs.TurnRuns.{all_positions}
 use Rattle.base_io.specs.Names.{is_among}
 use Rattle.cmd_report.proofs.Pairs.{pairs_by_first, pairs_map}
 use Rattle.cmd_report.specs.Lawful.{AreSubmissions, EachPair, IsAcknowledgedFirst, IsOfSubmission, IsSettledRight, IsSubmittedTo, IsTakenFirst, Precedes, device_named, is_taken, submission, take_named, text_named}
@@ -37,10 +37,10 @@ use Rattle.sim_1_applications.proofs.SaidLines.{Nothing, acknowledged_first, all
 use Rattle.sim_1_applications.specs.Reported.{IsAtRest, history_at, mark_of, name_at, said_among, said_in as lines_in, said_line, said_of, take_of, underway_of}
 
 -- what holds of each device's line, with its place
-pub each_device : (P : DeviceView → Type 0) (keep : ℕ) (version : Version) (owned : List Owned) (accounts : List (List ℕ)) (w : sessions.World) (report : ReportView) → Ground keep version owned accounts w report →
+pub each_device : (P : DeviceView → Type 0) (keep : ℕ) (version : Version) (owned : List Owned) (accounts : List (List ℕ)) (w : sessions.AppWorld) (report : ReportView) → Ground keep version owned accounts w report →
     ((i : ℕ) (line : DeviceView) → LineAt keep (history_at owned w.takes) owned w.devices i line → P line) → AllByRecursion P report.devices
 each_device P keep version owned accounts w report g each =
-    all_places P report.devices (λ i line at. each i line (line_at keep (history_at owned w.takes) owned w.devices report.devices i line g.devices at))
+    all_positions P report.devices (λ i line at. each i line (line_at keep (history_at owned w.takes) owned w.devices report.devices i line g.devices at))
 
 -- Law 1.
 
@@ -49,7 +49,7 @@ submitted_one : (version : Version) (owned : List Owned) (report : ReportView) (
 submitted_one version owned report t is =
     subst (IsOfSubmission (line_by version owned t)) (sym is.named) (subst (IsSubmittedTo t.said.to) (sym is.found.1) refl)
 
-pub takes_submitted : (keep : ℕ) (version : Version) (owned : List Owned) (accounts : List (List ℕ)) (w : sessions.World) (report : ReportView) → Ground keep version owned accounts w report →
+pub takes_submitted : (keep : ℕ) (version : Version) (owned : List Owned) (accounts : List (List ℕ)) (w : sessions.AppWorld) (report : ReportView) → Ground keep version owned accounts w report →
     AllByRecursion (λ line. IsOfSubmission line (device_named line.device report.devices)) report.takes
 takes_submitted keep version owned accounts w report g =
     subst (AllByRecursion (λ line. IsOfSubmission line (device_named line.device report.devices))) (sym g.takes)
@@ -58,7 +58,7 @@ takes_submitted keep version owned accounts w report g =
     (AllByRecursion-weaker (λ t. IsTakeLine owned report t.device t) (λ t. IsOfSubmission (line_by version owned t) (device_named (name_at owned t.device) report.devices))
     (submitted_one version owned report) w.takes (take_lines keep version owned accounts w report g))))
 
-pub takes_exist : (keep : ℕ) (version : Version) (owned : List Owned) (accounts : List (List ℕ)) (w : sessions.World) (report : ReportView) → Ground keep version owned accounts w report →
+pub takes_exist : (keep : ℕ) (version : Version) (owned : List Owned) (accounts : List (List ℕ)) (w : sessions.AppWorld) (report : ReportView) → Ground keep version owned accounts w report →
     AllByRecursion (λ line. is_among line.account accounts ≡ true) report.takes
 takes_exist keep version owned accounts w report g =
     subst (AllByRecursion (λ line. is_among line.account accounts ≡ true)) (sym g.takes)
@@ -77,7 +77,7 @@ named_back owned report version t is =
 timed_back : (keep : ℕ) (owned : List Owned) (report : ReportView) (t : sessions.Take) → IsTakeLine owned report t.device t → timed_take report (line_by (Two keep) owned t) ≡ take_of owned t
 timed_back keep owned report t is = ap (λ (take : Take). record take { moment = t.moment }) (named_back owned report (Two keep) t is)
 
-pub history_is : (keep : ℕ) (owned : List Owned) (accounts : List (List ℕ)) (w : sessions.World) (report : ReportView) → Ground keep (Two keep) owned accounts w report →
+pub history_is : (keep : ℕ) (owned : List Owned) (accounts : List (List ℕ)) (w : sessions.AppWorld) (report : ReportView) → Ground keep (Two keep) owned accounts w report →
     map (timed_take report) report.takes ≡ map (take_of owned) w.takes
 history_is keep owned accounts w report g =
     ap (map (timed_take report)) g.takes
@@ -93,7 +93,7 @@ moments_from low now (t ∷ ts) known =
     let rest = moments_from t.moment now ts known.1 in
     ((known.0, AllByRecursion-weaker (λ u. t.moment ≤ u.moment) (λ u. low ≤ u.moment) (λ u is. let first = known.0 in omega arith) ts rest.0), rest)
 
-pub moments_rise : (keep : ℕ) (owned : List Owned) (accounts : List (List ℕ)) (w : sessions.World) (report : ReportView) → Ground keep (Two keep) owned accounts w report →
+pub moments_rise : (keep : ℕ) (owned : List Owned) (accounts : List (List ℕ)) (w : sessions.AppWorld) (report : ReportView) → Ground keep (Two keep) owned accounts w report →
     IsNonDecreasing (map moment_of report.takes)
 moments_rise keep owned accounts w report g =
     subst (λ lines. IsNonDecreasing (map moment_of lines)) (sym g.takes)
@@ -102,13 +102,13 @@ moments_rise keep owned accounts w report g =
     (pairs_map (λ (a b : TakeLine). moment_of a ≤ moment_of b) (take_line (Two keep)) (map (take_of owned) w.takes)
     (pairs_map (λ (a b : Take). a.moment ≤ b.moment) (take_of owned) w.takes (moments_from 0 w.clock w.takes g.taken.moments).1))))
 
-pub device_numbered : (keep : ℕ) (version : Version) (owned : List Owned) (accounts : List (List ℕ)) (w : sessions.World) (report : ReportView) → Ground keep version owned accounts w report →
+pub device_numbered : (keep : ℕ) (version : Version) (owned : List Owned) (accounts : List (List ℕ)) (w : sessions.AppWorld) (report : ReportView) → Ground keep version owned accounts w report →
     AllByRecursion (λ d. AreSubmissions d.said) report.devices
 device_numbered keep version owned accounts w report g =
     each_device (λ d. AreSubmissions d.said) keep version owned accounts w report g
     (λ i line at. subst AreSubmissions (sym at.is.said) (said_numbered at.d.sessions (g.taken.devices i at.d at.device).sessions))
 
-pub device_epochs : (keep : ℕ) (version : Version) (owned : List Owned) (accounts : List (List ℕ)) (w : sessions.World) (report : ReportView) → Ground keep version owned accounts w report →
+pub device_epochs : (keep : ℕ) (version : Version) (owned : List Owned) (accounts : List (List ℕ)) (w : sessions.AppWorld) (report : ReportView) → Ground keep version owned accounts w report →
     AllByRecursion (λ d. AllByRecursion (λ said. (1 ≤ said.epoch) × (said.epoch ≤ d.epoch)) d.said) report.devices
 device_epochs keep version owned accounts w report g =
     each_device (λ d. AllByRecursion (λ said. (1 ≤ said.epoch) × (said.epoch ≤ d.epoch)) d.said) keep version owned accounts w report g
@@ -126,7 +126,7 @@ rise_all : (version : Version) (owned : List Owned) (ts : List sessions.Take) �
 rise_all version owned [] pairs = tt
 rise_all version owned (t ∷ ts) pairs = (rise_first version owned t ts pairs.0, rise_all version owned ts pairs.1)
 
-pub takes_rise : (keep : ℕ) (version : Version) (owned : List Owned) (accounts : List (List ℕ)) (w : sessions.World) (report : ReportView) → Ground keep version owned accounts w report →
+pub takes_rise : (keep : ℕ) (version : Version) (owned : List Owned) (accounts : List (List ℕ)) (w : sessions.AppWorld) (report : ReportView) → Ground keep version owned accounts w report →
     AllByRecursion (λ d. EachPair Precedes (filter (λ t. bytes_eq d.name t.device) report.takes)) report.devices
 takes_rise keep version owned accounts w report g =
     each_device (λ d. EachPair Precedes (filter (λ t. bytes_eq d.name t.device) report.takes)) keep version owned accounts w report g
@@ -184,7 +184,7 @@ gapless_session schedule takes device mark s h =
 abbrev Sorted : List (List ℕ) → List sessions.Take → ℕ → ℕ → Session → Type 0
 Sorted accounts takes i e s = IsSorted accounts takes i s
 
-pub device_gapless : (keep : ℕ) (version : Version) (schedule : ScheduleView) (owned : List Owned) (w : sessions.World) (report : ReportView) → Ground keep version owned (accounts_of (steps_of schedule.lines)) w report →
+pub device_gapless : (keep : ℕ) (version : Version) (schedule : ScheduleView) (owned : List Owned) (w : sessions.AppWorld) (report : ReportView) → Ground keep version owned (accounts_of (steps_of schedule.lines)) w report →
     AllByRecursion (λ d. EachPair (IsTakenFirst schedule report.takes d.name) d.said) report.devices
 device_gapless keep version schedule owned w report g =
     let accounts = accounts_of (steps_of schedule.lines) in
@@ -218,7 +218,7 @@ known_session schedule takes device mark s not h =
     (AllByRecursion-weaker (IsReported (accounts_of (steps_of schedule.lines)) takes device) (IsKnown schedule device takes) (λ said is state exists. is exists) (said_among s.acked mark s.up_got) h.got)
     (all_unsaid (IsKnown schedule device takes) mark s.up_rest (all_of (λ m. IsKnown schedule device takes (said_line mark m)) (λ m state. absurd (not state)) (messages s.up_rest))))
 
-pub device_acknowledged : (keep : ℕ) (version : Version) (schedule : ScheduleView) (owned : List Owned) (w : sessions.World) (report : ReportView) → Ground keep version owned (accounts_of (steps_of schedule.lines)) w report →
+pub device_acknowledged : (keep : ℕ) (version : Version) (schedule : ScheduleView) (owned : List Owned) (w : sessions.AppWorld) (report : ReportView) → Ground keep version owned (accounts_of (steps_of schedule.lines)) w report →
     AllByRecursion (λ d. AllByRecursion (λ said. said.state ≡ Acknowledged → IsTrue (is_account schedule said.to) → IsTrue (is_taken report.takes d.name said)) d.said) report.devices
 device_acknowledged keep version schedule owned w report g =
     let accounts = accounts_of (steps_of schedule.lines) in
@@ -236,7 +236,7 @@ device_acknowledged keep version schedule owned w report g =
     (λ e mark s not one is. known_session schedule lines at.o.device mark s not (halves version owned accounts w.takes i at.o g.differ at.owner within e mark s one is))
     at.d.sessions known.sessions parts.0 parts.1))))
 
-pub device_first : (keep : ℕ) (version : Version) (owned : List Owned) (accounts : List (List ℕ)) (w : sessions.World) (report : ReportView) → Ground keep version owned accounts w report →
+pub device_first : (keep : ℕ) (version : Version) (owned : List Owned) (accounts : List (List ℕ)) (w : sessions.AppWorld) (report : ReportView) → Ground keep version owned accounts w report →
     AllByRecursion (λ d. EachPair IsAcknowledgedFirst d.said) report.devices
 device_first keep version owned accounts w report g =
     each_device (λ d. EachPair IsAcknowledgedFirst d.said) keep version owned accounts w report g
@@ -258,7 +258,7 @@ rest_lines s kept rest =
     (AllByRecursion-weaker (λ l. l.state ≡ Acknowledged) (λ l. (l.state ≢ Waiting) × (l.epoch ≡ epoch_of s → l.state ≡ Acknowledged))
     (λ l is. (λ waits. let bad : ⊥ = cc in bad, λ same. is)) (lines_in (mark_of s.online) s.now) (all_acknowledged s.now.acked (mark_of s.online) (up_put s.now) rest.acknowledged))
 
-pub device_settled : (keep : ℕ) (version : Version) (owned : List Owned) (accounts : List (List ℕ)) (w : sessions.World) (report : ReportView) → Ground keep version owned accounts w report →
+pub device_settled : (keep : ℕ) (version : Version) (owned : List Owned) (accounts : List (List ℕ)) (w : sessions.AppWorld) (report : ReportView) → Ground keep version owned accounts w report →
     AllByRecursion (λ d. IsTrue d.settled → IsSettledRight d) report.devices
 device_settled keep version owned accounts w report g =
     each_device (λ d. IsTrue d.settled → IsSettledRight d) keep version owned accounts w report g

@@ -9,11 +9,11 @@ use Rattle.std.specs.List.{filter, flat_map, slice_get}
 use Rattle.std.specs.Prelude.{◌==◌}
 use Rattle.sim_1_applications.specs.Stanzas.{Up, messages}
 use Rattle.sim_1_applications.specs.Stanzas.Up.{Carbons, Presence, Message, Query}
-use Rattle.sim_1_applications.specs.Devices.{Sessions, Device, Take, World}
+use Rattle.sim_1_applications.specs.Devices.{Sessions, Device, Take, AppWorld}
 use Rattle.sim_1_applications.specs.Events as events
 use Rattle.sim_1_applications.specs.Kept.{is_of, accepted, handled, said_in}
 use Rattle.sim_1_applications.proofs.Numbered.{messages_append}
-use Rattle.sim_1_applications.proofs.Worlds.{same_place}
+use Rattle.sim_1_applications.proofs.Worlds.{same_position}
 
 handled_bound : (accounts : List (List ℕ)) (live : Bool) (s : Sessions) → handled accounts (events.reads_bound live s) ≡ handled accounts s
 handled_bound accounts live s =
@@ -148,7 +148,7 @@ is_of_taken accounts moment i (events.Act.ServerHandles fits full) d j = is_of_t
 is_of_taken accounts moment i events.Act.ClientHandles d j = cond_nil (j == i)
 
 -- A4, of each device of the next world: the takes of the act are those of the device where it acts
-pub handled_becomes : (w : World) (i : ℕ) (act : events.Act) (own : Device) (j : ℕ) (d : Device) →
+pub handled_becomes : (w : AppWorld) (i : ℕ) (act : events.Act) (own : Device) (j : ℕ) (d : Device) →
     slice_get w.devices i ≡ Some own → slice_get w.devices j ≡ Some d →
     handled w.accounts (events.becomes w (events.taken_by w.accounts w.clock i own act) i act j d).sessions
     ≡ handled w.accounts d.sessions ++ map said_in (filter (is_of j) (events.taken_by w.accounts w.clock i own act))
@@ -162,7 +162,7 @@ handled_becomes w i act own j d at here =
         handled w.accounts (cond b (events.own (events.around w d) act d) d).sessions
         ≡ handled w.accounts d.sessions ++ map said_in (cond b (events.taken_by w.accounts w.clock i own act) [])
     chosen true is =
-        let j_is_i = same_place j i is in
+        let j_is_i = same_position j i is in
         let same : d ≡ own = (let g : slice_get w.devices j ≡ slice_get w.devices i = ap (slice_get w.devices) j_is_i in cc) in
         handled_own w.accounts w.clock i (events.around w d) act d
         ∙ ap (λ e. handled w.accounts d.sessions ++ map said_in (events.taken_by w.accounts w.clock i e act)) same

@@ -7,22 +7,22 @@ use Rattle.std.proofs.lemmas.List.{length-append}
 use Rattle.sim_1_applications.specs.Stanzas.{Up, Down, answers}
 use Rattle.sim_1_applications.specs.Stanzas.Up.{Carbons, Presence, Message, Query}
 use Rattle.sim_1_applications.specs.Stanzas.Down.{Accepted, Bounced, Live, Res, Fin, NotFound}
-use Rattle.sim_1_applications.specs.Devices.{Reading, Device, Take, World, OpenPage, Answer, last_of, log_of, new_device}
-use Rattle.sim_1_applications.specs.Answers.{answer_of, is_place, edge, last_in, size}
+use Rattle.sim_1_applications.specs.Devices.{Reading, Device, Take, AppWorld, OpenPage, Answer, last_of, log_of, new_device}
+use Rattle.sim_1_applications.specs.Answers.{page_answer_of, is_position, edge, last_in, size}
 use Rattle.sim_1_applications.specs.Events.{number_or_none}
 use Rattle.sim_1_applications.specs.Events as events
-use Rattle.sim_1_applications.specs.Events.Event.{At, Tick}
+use Rattle.sim_1_applications.specs.Events.AppEvent.{At, Tick}
 use Rattle.sim_1_applications.specs.Kept.{AreTiles, IsTile, TilesKept, Taken, Read, ends_at, numbers_by, top_of}
-use Rattle.sim_1_applications.proofs.Intervals.{length_behind}
+use Rattle.sim_1_applications.proofs.Intervals.{length_after}
 use Rattle.sim_1_applications.proofs.Logs.{run_after}
-use Rattle.sim_1_applications.proofs.Answered.{IsNext, Next, next_answer, Kind, AResult, AnEnd, NoPlace, kind_of, numbers_of, end_of, reads_result, lost_place, reads_restart, ended, TakenThen, taken_then, end_is_read}
+use Rattle.sim_1_applications.proofs.Answered.{IsNext, Next, next_answer, Kind, AResult, AnEnd, NoPlace, kind_of, numbers_of, end_of, reads_result, lost_position, reads_restart, ended, TakenThen, taken_then, end_is_read}
 use Rattle.sim_1_applications.proofs.Handled.{ReadKept, log_grown}
 use Rattle.sim_1_applications.proofs.Tiles.{IsEnded, last_of_log, log_last, numbers_end, numbers_push, page_ended, tile_end, tiles_grow, tiles_push, top_push, top_within}
 use Rattle.sim_1_applications.proofs.Archives.{last_grows}
 use Rattle.sim_1_applications.proofs.Takes.{account_hear_all, account_own}
 use Rattle.sim_1_applications.proofs.ReadRuns.{PagesKept, ReadAt, pages_moves, pages_beginning}
 use Rattle.sim_1_applications.proofs.Runs.{taken_moves, taken_beginning, one_of}
-use Rattle.sim_1_applications.proofs.Worlds.{same_place, at_place, was_device}
+use Rattle.sim_1_applications.proofs.Worlds.{same_position, at_position, was_device}
 
 -- no page is over, and one that is under way is the same or was asked for now
 pub record SameLog (last : ℕ) (b c : Reading) : Type 0 where
@@ -77,7 +77,7 @@ same_served a Presence b = itself a.last b
 same_served a (Message m) b = itself a.last b
 same_served a (Query r) b = of_page b.page refl
   where
-    began_of : (p : OpenPage) (c : Bool) → (cond c (record p { answer = Some (record { first = a.first; last = a.last; rest = answer_of a.first a.last r }) }) p).began ≡ p.began
+    began_of : (p : OpenPage) (c : Bool) → (cond c (record p { answer = Some (record { first = a.first; last = a.last; rest = page_answer_of a.first a.last r }) }) p).began ≡ p.began
     began_of p true = refl
     began_of p false = refl
 
@@ -110,7 +110,7 @@ same_hear_all takes full (t ∷ ts) j d = same_hear_all takes full ts j (events.
 
 -- the end of a page
 tiled_end : (keep : ℕ) (x : events.Around) (d : Device) (page : OpenPage) (a : Answer) (rest tail : List Down) → 1 ≤ keep →
-    IsNext keep x.first x.last d page a (end_of a page) rest tail → is_place a.first a.last page.after ≡ true → page.results ≡ numbers_of a page →
+    IsNext keep x.first x.last d page a (end_of a page) rest tail → is_position a.first a.last page.after ≡ true → page.results ≡ numbers_of a page →
     ReadKept keep x.first x.last d → TilesKept keep x.last d.reading → TilesKept keep x.last (events.reads x (end_of a page) d.reading).reading
 tiled_end keep x d page a rest tail some next placed results kept tiled =
     subst (λ reaction. TilesKept keep x.last reaction.reading) (sym (end_is_read keep x d page a rest tail next results then))
@@ -132,7 +132,7 @@ tiled_end keep x d page a rest tail some next placed results kept tiled =
     ended_is =
         let low = next.answered.logged in
         let same = number in
-        page_ended keep (ends_at keep 0 d.reading.tiles) d.reading.run page a number next.answered.kept next.answered.place placed (omega arith)
+        page_ended keep (ends_at keep 0 d.reading.tiles) d.reading.run page a number next.answered.kept next.answered.position placed (omega arith)
 
     grown : log_of (events.logged page d.reading) ≡ log_of d.reading ++ page.results
     grown = log_grown (events.is_broken page.after d.reading.run page.results) d.reading.broken d.reading.run page.results
@@ -167,7 +167,7 @@ tiled_answer keep x z rest d some split is on kept tiled = of_next (next_answer 
   where
     of_kind : (page : OpenPage) (a : Answer) (tail : List Down) → IsNext keep x.first x.last d page a z rest tail → Kind page a z tail → TilesKept keep x.last (events.reads x z d.reading).reading
     of_kind page a tail next (AResult n more z_is numbers tail_is) =
-        let size_is = length_behind (edge a.first page.after) (size (edge a.first page.after) a.last page.max) in
+        let size_is = length_after (edge a.first page.after) (size (edge a.first page.after) a.last page.max) in
         let both = length-append page.results (n ∷ more) in
         let whole = ap length numbers in
         let short : length page.results < page.max = omega arith in
@@ -180,9 +180,9 @@ tiled_answer keep x z rest d some split is on kept tiled = of_next (next_answer 
         subst (λ y. TilesKept keep x.last (events.reads x y d.reading).reading) (sym z_is)
         (tiled_end keep x d page a rest tail some (subst (λ y. IsNext keep x.first x.last d page a y rest tail) z_is next) placed results kept tiled)
     of_kind page a tail next (NoPlace lost z_is results over) =
-        let place = lost_place a.first a.last d.reading.run page.after lost next.answered.place next.answered.logged in
+        let position = lost_position a.first a.last d.reading.run page.after lost next.answered.position next.answered.logged in
         subst (λ y. TilesKept keep x.last (events.reads x y d.reading).reading) (sym z_is)
-        (subst (λ reaction. TilesKept keep x.last reaction.reading) (sym (reads_restart x d.reading page place.0 next.page_is place.1))
+        (subst (λ reaction. TilesKept keep x.last reaction.reading) (sym (reads_restart x d.reading page position.0 next.page_is position.1))
         (tiled_same keep x.last d.reading (events.asking None page.max page.began d.reading).reading
         (with_same x.last d.reading (events.asking None page.max page.began d.reading).reading page
         (record { number = d.reading.asked + 1; after = None; max = page.max; results = []; began = page.began; answer = None }) refl refl refl next.page_is refl refl) tiled))
@@ -223,13 +223,13 @@ tiled_own keep a act d some may kept tiled = by_act act may
 abbrev pub TiledAt : ℕ → List Take → Device → Type 0
 TiledAt keep takes d = TilesKept keep (last_of takes d.account) d.reading
 
-tiled_becomes : (w : World) (new : List Take) (i : ℕ) (act : events.Act) (own : Device) (j : ℕ) (d : Device) → 1 ≤ w.keep →
+tiled_becomes : (w : AppWorld) (new : List Take) (i : ℕ) (act : events.Act) (own : Device) (j : ℕ) (d : Device) → 1 ≤ w.keep →
     slice_get w.devices i ≡ Some own → events.May act own → slice_get w.devices j ≡ Some d → ReadAt w.keep w.takes d → TiledAt w.keep w.takes d →
     TiledAt w.keep (w.takes ++ new) (events.becomes w new i act j d)
 tiled_becomes w new i act own j d some at may here kept tiled =
-    at_place (j == i) _ _ (λ e. TiledAt w.keep (w.takes ++ new) (events.hear_all (w.takes ++ new) (events.full_of act) new j e))
+    at_position (j == i) _ _ (λ e. TiledAt w.keep (w.takes ++ new) (events.hear_all (w.takes ++ new) (events.full_of act) new j e))
     (λ is.
-    let j_is_i = same_place j i is in
+    let j_is_i = same_position j i is in
     let same : own ≡ d = (let g : slice_get w.devices j ≡ slice_get w.devices i = ap (slice_get w.devices) j_is_i in cc) in
     let acted = events.own (events.around w d) act d in
     heard acted (subst (λ a. TilesKept w.keep (last_of w.takes a) acted.reading) (sym (account_own (events.around w d) act d))
@@ -245,10 +245,10 @@ tiled_becomes w new i act own j d some at may here kept tiled =
         (subst (TilesKept w.keep last) (sym (same_hear_all (w.takes ++ new) (events.full_of act) new j e))
         (record { tiles = tiles_grow w.keep 0 0 (last_of w.takes e.account) last e.reading.tiles (omega arith) was.tiles; numbers = was.numbers; page = was.page }))
 
-AllTiled : World → Type 0
+AllTiled : AppWorld → Type 0
 AllTiled w = (i : ℕ) (d : Device) → slice_get w.devices i ≡ Some d → TiledAt w.keep w.takes d
 
-tiled_moves : (event : events.Event) (w next : World) → events.Moves event w next → PagesKept w → AllTiled w → AllTiled next
+tiled_moves : (event : events.AppEvent) (w next : AppWorld) → events.Moves event w next → PagesKept w → AllTiled w → AllTiled next
 unfolding AllTiled
 tiled_moves (Tick ms) w next is kept tiled = subst AllTiled (sym is) (λ i d at. tiled i d at)
 tiled_moves (At i act) w next is kept tiled = subst AllTiled (sym is.3) (λ j e here.
@@ -258,7 +258,7 @@ tiled_moves (At i act) w next is kept tiled = subst AllTiled (sym is.3) (λ j e 
     (tiled_becomes w new i act is.0 j before.0 kept.some is.1 is.2 before.1 (kept.devices j before.0 before.1) (tiled j before.0 before.1)))
 
 -- both together
-both_kept : (w : World) → PagesKept w → AllTiled w → Read w
+both_kept : (w : AppWorld) → PagesKept w → AllTiled w → Read w
 unfolding AllTiled
 both_kept w pages tiled = record {
   keep = pages.some;
@@ -266,7 +266,7 @@ both_kept w pages tiled = record {
 }
 
 -- A6 to A9 are kept by each event
-pub read_moves : (event : events.Event) (w next : World) → events.Moves event w next → Taken w → Read w → Read next
+pub read_moves : (event : events.AppEvent) (w next : AppWorld) → events.Moves event w next → Taken w → Read w → Read next
 unfolding AllTiled
 read_moves event w next is taken kept =
     let pages : PagesKept w = record { some = kept.keep; devices = λ i d at. let k = kept.devices i d at in record { page = k.page; log = k.log } } in
@@ -286,13 +286,13 @@ read_beginning keep some accounts homes =
     both_kept (events.beginning keep accounts homes) (pages_beginning keep some accounts homes)
     (λ i d at. one_of (λ j e. TiledAt keep [] e) homes i d (new_tiles keep) at)
 
-pub read_along : (all : List events.Event) (w last : World) → events.Reaches all w last → Taken w → Read w → Read last
+pub read_along : (all : List events.AppEvent) (w last : AppWorld) → events.Reaches all w last → Taken w → Read w → Read last
 read_along [] w last is taken kept = subst Read (sym is) kept
 read_along (event ∷ all) w last reaches taken kept =
     read_along all reaches.0 last reaches.2 (taken_moves event w reaches.0 reaches.1 taken) (read_moves event w reaches.0 reaches.1 taken kept)
 
 -- and in each world that is reached
-pub read_reached : (w : World) → events.Reached w → Read w
+pub read_reached : (w : AppWorld) → events.Reached w → Read w
 read_reached w reached =
     read_along reached.events (events.beginning reached.keep reached.accounts reached.homes) w reached.reaches
     (taken_beginning reached.keep reached.accounts reached.homes) (read_beginning reached.keep reached.some reached.accounts reached.homes)

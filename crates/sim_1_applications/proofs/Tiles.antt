@@ -6,11 +6,11 @@ use Rattle.std.specs.Prelude.{◌&&◌, nat_le}
 use Rattle.std.proofs.lemmas.Bool.{false≢true, le-leb, leb-true, lt-leb}
 use Rattle.std.proofs.lemmas.List.{append-nil}
 use Rattle.sim_1_applications.specs.Devices.{OpenPage, Answer, Tile, first_of}
-use Rattle.sim_1_applications.specs.Answers.{behind, last_in, is_place, edge, size}
+use Rattle.sim_1_applications.specs.Answers.{following, last_in, is_position, edge, size}
 use Rattle.sim_1_applications.specs.Events.{number_or_none}
 use Rattle.sim_1_applications.specs.Events as events
-use Rattle.sim_1_applications.specs.Kept.{AreLogged, AreTiles, IsPlace, IsTile, end_of, ends_at, numbers_by, start_of, top_of}
-use Rattle.sim_1_applications.proofs.Intervals.{length_behind}
+use Rattle.sim_1_applications.specs.Kept.{AreLogged, AreTiles, IsPosition, IsTile, end_of, ends_at, numbers_by, start_of, top_of}
+use Rattle.sim_1_applications.proofs.Intervals.{length_after}
 
 -- One page more.
 
@@ -24,13 +24,13 @@ tiles_push keep n low high high2 [] t one top kept = (one, top)
 tiles_push keep n low high high2 (u ∷ ts) t one top kept = (kept.0, tiles_push keep (end_of keep n u) u.last high high2 ts t one top kept.1)
 
 pub numbers_push : (keep n : ℕ) (ts : List Tile) (t : Tile) →
-    numbers_by keep n (ts ++ t ∷ []) ≡ numbers_by keep n ts ++ behind (start_of keep (ends_at keep n ts) t) (end_of keep (ends_at keep n ts) t - start_of keep (ends_at keep n ts) t)
-numbers_push keep n [] t = append-nil (behind (start_of keep n t) (end_of keep n t - start_of keep n t))
+    numbers_by keep n (ts ++ t ∷ []) ≡ numbers_by keep n ts ++ following (start_of keep (ends_at keep n ts) t) (end_of keep (ends_at keep n ts) t - start_of keep (ends_at keep n ts) t)
+numbers_push keep n [] t = append-nil (following (start_of keep n t) (end_of keep n t - start_of keep n t))
 numbers_push keep n (u ∷ ts) t =
-    let first = behind (start_of keep n u) (end_of keep n u - start_of keep n u) in
+    let first = following (start_of keep n u) (end_of keep n u - start_of keep n u) in
     let m = ends_at keep (end_of keep n u) ts in
     ap (λ l. first ++ l) (numbers_push keep (end_of keep n u) ts t)
-    ∙ sym (append_assoc first (numbers_by keep (end_of keep n u) ts) (behind (start_of keep m t) (end_of keep m t - start_of keep m t)))
+    ∙ sym (append_assoc first (numbers_by keep (end_of keep n u) ts) (following (start_of keep m t) (end_of keep m t - start_of keep m t)))
 
 pub top_push : (low : ℕ) (ts : List Tile) (t : Tile) → top_of low (ts ++ t ∷ []) ≡ t.last
 top_push low [] t = refl
@@ -50,9 +50,9 @@ last_or_append : (n : ℕ) (xs ys : List ℕ) → last_or n (xs ++ ys) ≡ last_
 last_or_append n [] ys = refl
 last_or_append n (x ∷ xs) ys = last_or_append x xs ys
 
-last_or_behind : (n s k : ℕ) → last_or n (behind s (suc k)) ≡ s + suc k
-last_or_behind n s zero = omega arith
-last_or_behind n s (suc k) = last_or_behind (suc s) (suc s) k ∙ (let e : suc s + suc k ≡ s + suc (suc k) = omega arith in e)
+last_or_after : (n s k : ℕ) → last_or n (following s (suc k)) ≡ s + suc k
+last_or_after n s zero = omega arith
+last_or_after n s (suc k) = last_or_after (suc s) (suc s) k ∙ (let e : suc s + suc k ≡ s + suc (suc k) = omega arith in e)
 
 last_or_none : (xs : List ℕ) → number_or_none (last_in xs) ≡ last_or 0 xs
 last_or_none [] = refl
@@ -63,9 +63,9 @@ last_or_none (x ∷ y ∷ xs) = last_or_none (y ∷ xs)
 pub tile_bounds : (keep n : ℕ) (t : Tile) → 1 ≤ keep → 1 ≤ t.most → n ≤ t.given → (n ≤ start_of keep n t) × (start_of keep n t ≤ end_of keep n t) × (end_of keep n t ≤ t.given)
 tile_bounds keep n t some many within = (omega arith, omega arith, omega arith)
 
-tile_last : (keep n : ℕ) (t : Tile) → 1 ≤ keep → 1 ≤ t.most → n ≤ t.given → (k : ℕ) → k ≡ end_of keep n t - start_of keep n t → last_or n (behind (start_of keep n t) k) ≡ end_of keep n t
+tile_last : (keep n : ℕ) (t : Tile) → 1 ≤ keep → 1 ≤ t.most → n ≤ t.given → (k : ℕ) → k ≡ end_of keep n t - start_of keep n t → last_or n (following (start_of keep n t) k) ≡ end_of keep n t
 tile_last keep n t some many within zero none = omega arith
-tile_last keep n t some many within (suc k) is = let bounds = tile_bounds keep n t some many within in last_or_behind n (start_of keep n t) k ∙ added bounds.1 is
+tile_last keep n t some many within (suc k) is = let bounds = tile_bounds keep n t some many within in last_or_after n (start_of keep n t) k ∙ added bounds.1 is
   where
     added : {s e j : ℕ} → s ≤ e → j ≡ e - s → s + j ≡ e
     added low is2 = omega arith
@@ -77,7 +77,7 @@ numbers_last keep n low high (t ∷ ts) some below kept =
     let within : n ≤ t.given = through below tile.asked tile.answered in
     let bounds = tile_bounds keep n t some tile.some within in
     let rest = numbers_last keep (end_of keep n t) t.last high ts some (both bounds.2 tile.over) kept.1 in (
-      last_or_append n (behind (start_of keep n t) (end_of keep n t - start_of keep n t)) (numbers_by keep (end_of keep n t) ts)
+      last_or_append n (following (start_of keep n t) (end_of keep n t - start_of keep n t)) (numbers_by keep (end_of keep n t) ts)
           ∙ ap (λ m. last_or m (numbers_by keep (end_of keep n t) ts)) (tile_last keep n t some tile.some within (end_of keep n t - start_of keep n t) refl) ∙ rest.0,
       rest.1,
     )
@@ -129,29 +129,29 @@ from_last keep n page a kept is low =
     let there : nat_le n (a.last - keep) ≡ false = lt-leb n (a.last - keep) (omega arith) in
     (is ∙ sym (ap (λ c. cond c None (Some n)) there), ap (edge a.first) is ∙ (let e : n ≡ max n (a.last - keep) = omega arith in e))
 
-pub page_ended : (keep n : ℕ) (run : List ℕ) (page : OpenPage) (a : Answer) → n ≡ number_or_none (last_in run) → a.first ≡ first_of keep a.last → IsPlace a.first run page.after →
-    is_place a.first a.last page.after ≡ true → n ≤ a.last → IsEnded keep n page a
-page_ended keep n run page a last kept place placed within =
-    let is : ends keep n page a = elim place.behind [ inl e ↦ behind_last page.after refl (last_in run) refl e | inr e ↦ let low = e.1 in from_first keep n page a kept e.0 (omega arith) ] in
+pub page_ended : (keep n : ℕ) (run : List ℕ) (page : OpenPage) (a : Answer) → n ≡ number_or_none (last_in run) → a.first ≡ first_of keep a.last → IsPosition a.first run page.after →
+    is_position a.first a.last page.after ≡ true → n ≤ a.last → IsEnded keep n page a
+page_ended keep n run page a last kept position placed within =
+    let is : ends keep n page a = elim position.following [ inl e ↦ after_last page.after refl (last_in run) refl e | inr e ↦ let low = e.1 in from_first keep n page a kept e.0 (omega arith) ] in
     record { kept = kept; within = within; after = is.0; edge_is = is.1 }
   where
-    behind_last : (o : Option ℕ) → page.after ≡ o → (m : Option ℕ) → last_in run ≡ m → page.after ≡ last_in run → ends keep n page a
-    behind_last None none m at same =
+    after_last : (o : Option ℕ) → page.after ≡ o → (m : Option ℕ) → last_in run ≡ m → page.after ≡ last_in run → ends keep n page a
+    after_last None none m at same =
         let nothing : n ≡ 0 = last ∙ ap number_or_none (sym same ∙ none) in
         from_first keep n page a kept none (omega arith)
-    behind_last (Some p) some m at same =
+    after_last (Some p) some m at same =
         let number : p ≡ n = ap number_or_none (sym some ∙ same) ∙ sym last in
-        let low : a.first ≤ p = leb-true a.first p (first_true (nat_le a.first p) (nat_le p a.last) (ap (is_place a.first a.last) (sym some) ∙ placed)) in
+        let low : a.first ≤ p = leb-true a.first p (first_true (nat_le a.first p) (nat_le p a.last) (ap (is_position a.first a.last) (sym some) ∙ placed)) in
         from_last keep n page a kept (some ∙ ap Some number) (omega arith)
 
 -- A8: the tile that the end of a page lays
 pub tile_end : (keep n low : ℕ) (x : events.Around) (page : OpenPage) (a : Answer) → 1 ≤ keep → 1 ≤ page.max → page.answer ≡ Some a → IsEnded keep n page a →
-    page.results ≡ behind (edge a.first page.after) (size (edge a.first page.after) a.last page.max) → low ≤ page.began → page.began ≤ a.last → a.last ≤ x.last →
+    page.results ≡ following (edge a.first page.after) (size (edge a.first page.after) a.last page.max) → low ≤ page.began → page.began ≤ a.last → a.last ≤ x.last →
     (complete : Bool) → nat_le (a.last - edge a.first page.after) page.max ≡ complete → IsTile keep n low (events.tile x complete (a.last + 1 - a.first) page)
 tile_end keep n low x page a some many answer ended results begun began last complete is =
     subst (λ given. IsTile keep n low (with_given given)) (sym given_is) (record {
       after = ended.after;
-      count = ap length results ∙ length_behind (edge a.first page.after) (size (edge a.first page.after) a.last page.max) ∙ ap (λ e. size e a.last page.max) ended.edge_is
+      count = ap length results ∙ length_after (edge a.first page.after) (size (edge a.first page.after) a.last page.max) ∙ ap (λ e. size e a.last page.max) ended.edge_is
           ∙ counted n (a.last - keep) a.last page.max ended.within (omega arith);
       total = ap (λ c. cond c (Some (a.last + 1 - a.first)) None) (sym is ∙ ap (λ e. nat_le (a.last - e) page.max) ended.edge_is)
           ∙ ap (λ k. cond (nat_le (a.last - max n (a.last - keep)) page.max) (Some k) None) (kept_count ended.kept);
@@ -175,13 +175,13 @@ tile_end keep n low x page a some many answer ended results begun began last com
 
 -- and the numbers that it brings
 pub numbers_end : (keep n : ℕ) (x : events.Around) (complete : Bool) (count : ℕ) (page : OpenPage) (a : Answer) → page.answer ≡ Some a → IsEnded keep n page a →
-    page.results ≡ behind (edge a.first page.after) (size (edge a.first page.after) a.last page.max) →
-    page.results ≡ behind (start_of keep n (events.tile x complete count page)) (end_of keep n (events.tile x complete count page) - start_of keep n (events.tile x complete count page))
+    page.results ≡ following (edge a.first page.after) (size (edge a.first page.after) a.last page.max) →
+    page.results ≡ following (start_of keep n (events.tile x complete count page)) (end_of keep n (events.tile x complete count page) - start_of keep n (events.tile x complete count page))
 numbers_end keep n x complete count page a answer ended results =
-    results ∙ ap (λ e. behind e (size e a.last page.max)) ended.edge_is
+    results ∙ ap (λ e. following e (size e a.last page.max)) ended.edge_is
     ∙ (let e : size (max n (a.last - keep)) a.last page.max ≡ min (max n (a.last - keep) + page.max) a.last - max n (a.last - keep) = counted n (a.last - keep) a.last page.max ended.within (omega arith) in
-    ap (behind (max n (a.last - keep))) e)
-    ∙ ap (λ g. behind (max n (g - keep)) (min (max n (g - keep) + page.max) g - max n (g - keep))) (sym (ap (λ o. option_map_or (λ (y : Answer). y.last) o x.last) answer))
+    ap (following (max n (a.last - keep))) e)
+    ∙ ap (λ g. following (max n (g - keep)) (min (max n (g - keep) + page.max) g - max n (g - keep))) (sym (ap (λ o. option_map_or (λ (y : Answer). y.last) o x.last) answer))
   where
     counted : (m old last most : ℕ) → m ≤ last → old ≤ last → min most (last - max m old) ≡ min (max m old + most) last - max m old
     counted m old last most low high = omega arith

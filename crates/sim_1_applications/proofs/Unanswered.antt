@@ -5,17 +5,17 @@ use Rattle.std.specs.List.{AllByRecursion, slice_get}
 use Rattle.std.specs.Prelude.{◌&&◌, not}
 use Rattle.sim_1_applications.specs.Stanzas.{Down, answers}
 use Rattle.sim_1_applications.specs.Stanzas.Down.{Live}
-use Rattle.sim_1_applications.specs.Devices.{Device, OpenPage, Take, World, first_of, last_of}
+use Rattle.sim_1_applications.specs.Devices.{AppWorld, Device, OpenPage, Take, first_of, last_of}
 use Rattle.sim_1_applications.specs.Devices.Stage.{Counted, Known}
 use Rattle.sim_1_applications.specs.Events as events
-use Rattle.sim_1_applications.specs.Events.Event.{At, Tick}
+use Rattle.sim_1_applications.specs.Events.AppEvent.{At, Tick}
 use Rattle.sim_1_applications.specs.Kept.{IsAt, IsPage, PageKept, Read, Taken}
 use Rattle.sim_1_applications.proofs.Numbered.{answers_append}
 use Rattle.sim_1_applications.proofs.Runs.{taken_moves}
 use Rattle.sim_1_applications.proofs.TileRuns.{read_moves}
 use Rattle.sim_1_applications.specs.Counts.{IsBetween, IsUnanswered}
 use Rattle.sim_1_applications.proofs.Reactions.{reacts, Reacts, Stays, Asks, passes}
-use Rattle.sim_1_applications.proofs.Rises.{Becomes, Stayed, Acted, Heard, becomes_of, reading_hears, there_behind}
+use Rattle.sim_1_applications.proofs.Rises.{Becomes, Stayed, Acted, Heard, becomes_of, reading_hears, there_after}
 
 -- what is heard is no answer
 
@@ -35,10 +35,10 @@ unanswered_hears takes full (t ∷ ts) j d none = unanswered_hears takes full ts
 
 -- a page that isn't answered, of a device that is read
 
-abbrev pub PageIs : World → Device → Type 0
+abbrev pub PageIs : AppWorld → Device → Type 0
 PageIs w d = PageKept w.keep (first_of w.keep (last_of w.takes d.account)) (last_of w.takes d.account) d
 
-pub none_under_way : (w : World) (d : Device) (page : OpenPage) → PageIs w d → d.reading.page ≡ Some page → page.answer ≡ None → IsUnanswered d
+pub none_under_way : (w : AppWorld) (d : Device) (page : OpenPage) → PageIs w d → d.reading.page ≡ Some page → page.answer ≡ None → IsUnanswered d
 none_under_way w d page kept is unanswered on =
     let first = first_of w.keep (last_of w.takes d.account) in
     let last = last_of w.takes d.account in
@@ -85,7 +85,7 @@ begins_reading a (z ∷ rest) d = by (events.reads a z d.reading) (reacts a z d.
     by r (Asks asks) = inr (record { page = asks.page; opens = asks.opens; unanswered = asks.unanswered; number = asks.number ∙ sym asks.asked; asked = asks.asked })
 
 -- what such an act leads to, of which nothing is heard
-pub read_to : (w next : World) (i : ℕ) (d e : Device) → slice_get w.devices i ≡ Some d → events.Moves (At i events.Act.ClientHandles) w next → slice_get next.devices i ≡ Some e →
+pub read_to : (w next : AppWorld) (i : ℕ) (d e : Device) → slice_get w.devices i ≡ Some d → events.Moves (At i events.Act.ClientHandles) w next → slice_get next.devices i ≡ Some e →
     (e ≡ events.read (events.around w d) d.sessions.now.down_rest d) × (d.sessions.online ≡ true)
 read_to w next i d e there led here = by (becomes_of (At i events.Act.ClientHandles) w next led i d e there here)
   where
@@ -99,7 +99,7 @@ read_to w next i d e there led here = by (becomes_of (At i events.Act.ClientHand
           same ∙ ap (λ ts. events.hear_all (w.takes ++ new) (events.full_of act) ts i (events.own (events.around w d) act d)) none ∙ ap (λ x. events.own (events.around w d) x d) act_is,
           (subst (λ x. events.May x d) act_is may).0,
         )
-    by (Heard j act is other new same) = absurd (other (let place : i ≡ j = cc in sym place))
+    by (Heard j act is other new same) = absurd (other (let position : i ≡ j = cc in sym position))
     by (Stayed ms is same) = absurd (let no : ⊥ = cc in no)
 
 -- Along events.
@@ -150,7 +150,7 @@ own_leads keep first last i a (events.Act.CatchUp max) d kept may between other 
 own_leads keep first last i a (events.Act.ServerHandles fits full) d kept may between other = absurd (between refl)
 own_leads keep first last i a events.Act.ClientHandles d kept may between other = absurd (other refl)
 
-read_leads : (w next : World) (i : ℕ) (d e : Device) → PageIs next e → slice_get w.devices i ≡ Some d → events.Moves (At i events.Act.ClientHandles) w next → slice_get next.devices i ≡ Some e → LeadsTo d e
+read_leads : (w next : AppWorld) (i : ℕ) (d e : Device) → PageIs next e → slice_get w.devices i ≡ Some d → events.Moves (At i events.Act.ClientHandles) w next → slice_get next.devices i ≡ Some e → LeadsTo d e
 read_leads w next i d e kept there led here =
     let to = read_to w next i d e there led here in
     let x = events.around w d in
@@ -185,12 +185,12 @@ is_handling (events.Act.Say to text private) = Other (λ e. let no : ⊥ = cc in
 is_handling (events.Act.CatchUp max) = Other (λ e. let no : ⊥ = cc in no)
 is_handling (events.Act.ServerHandles fits full) = Other (λ e. let no : ⊥ = cc in no)
 
-event_leads : (event : events.Event) (w next : World) (i : ℕ) (d e : Device) → Read w → Read next → IsBetween i event → slice_get w.devices i ≡ Some d → events.Moves event w next → slice_get next.devices i ≡ Some e → LeadsTo d e
-event_leads event w next i d e before behind_it between there led here = by (becomes_of event w next led i d e there here)
+event_leads : (event : events.AppEvent) (w next : AppWorld) (i : ℕ) (d e : Device) → Read w → Read next → IsBetween i event → slice_get w.devices i ≡ Some d → events.Moves event w next → slice_get next.devices i ≡ Some e → LeadsTo d e
+event_leads event w next i d e before after_it between there led here = by (becomes_of event w next led i d e there here)
   where
     acted : (act : events.Act) → event ≡ At i act → events.May act d → (new : List Take) → e ≡ events.hear_all (w.takes ++ new) (events.full_of act) new i (events.own (events.around w d) act d) → IsHandling act → LeadsTo d e
     acted act is may new same (Handling handles) =
-        read_leads w next i d e (behind_it.devices i e here).page there (subst (λ x. events.Moves x w next) (is ∙ ap (At i) handles) led) here
+        read_leads w next i d e (after_it.devices i e here).page there (subst (λ x. events.Moves x w next) (is ∙ ap (At i) handles) led) here
     acted act is may new same (Other other) =
         let own = events.own (events.around w d) act d in
         subst (LeadsTo d) (sym same)
@@ -203,26 +203,26 @@ event_leads event w next i d e before behind_it between there led here = by (bec
     by (Heard j act is other new same) = subst (LeadsTo d) (sym same) (hears_leads (w.takes ++ new) (events.full_of act) new i d)
     by (Acted act is may new took same) = acted act is may new same (is_handling act)
 
-pub leads_along : (all : List events.Event) (w last : World) (i : ℕ) (d e : Device) → Taken w → Read w → AllByRecursion (IsBetween i) all → events.Reaches all w last →
+pub leads_along : (all : List events.AppEvent) (w last : AppWorld) (i : ℕ) (d e : Device) → Taken w → Read w → AllByRecursion (IsBetween i) all → events.Reaches all w last →
     slice_get w.devices i ≡ Some d → slice_get last.devices i ≡ Some e → LeadsTo d e
 leads_along [] w last i d e taken read between led there here =
-    leads_nowhere d e (same_Some e d (sym here ∙ ap (λ (v : World). slice_get v.devices i) led ∙ there))
+    leads_nowhere d e (same_Some e d (sym here ∙ ap (λ (v : AppWorld). slice_get v.devices i) led ∙ there))
 leads_along (event ∷ all) w last i d e taken read between led there here =
     let next = read_moves event w led.0 led.1 taken read in
-    let one = there_behind event w led.0 i d led.1 there in
+    let one = there_after event w led.0 i d led.1 there in
     leads_on d one.0 e (event_leads event w led.0 i d one.0 read next between.0 there led.1 one.1)
     (leads_along all led.0 last i one.0 e (taken_moves event w led.0 led.1 taken) next between.1 led.2 one.1 here)
 
 -- The clauses.
 
-pub leaves_page : (w next : World) (i : ℕ) (d e : Device) (page : OpenPage) → PageIs w d → slice_get w.devices i ≡ Some d → d.reading.page ≡ Some page → page.answer ≡ None →
+pub leaves_page : (w next : AppWorld) (i : ℕ) (d e : Device) (page : OpenPage) → PageIs w d → slice_get w.devices i ≡ Some d → d.reading.page ≡ Some page → page.answer ≡ None →
     events.Moves (At i events.Act.ClientHandles) w next → slice_get next.devices i ≡ Some e → (e.reading.asked ≡ d.reading.asked) × (e.reading.page ≡ Some page)
 leaves_page w next i d e page kept there is unanswered led here =
     let to = read_to w next i d e there led here in
     let stays = stays_reading (events.around w d) d.sessions.now.down_rest d refl (none_under_way w d page kept is unanswered to.1) in
     (ap (λ (y : Device). y.reading.asked) to.0 ∙ stays.asked, ap (λ (y : Device). y.reading.page) to.0 ∙ stays.page ∙ is)
 
-pub begins_page : (w next : World) (i : ℕ) (d e : Device) → slice_get w.devices i ≡ Some d → events.Moves (At i events.Act.ClientHandles) w next → slice_get next.devices i ≡ Some e →
+pub begins_page : (w next : AppWorld) (i : ℕ) (d e : Device) → slice_get w.devices i ≡ Some d → events.Moves (At i events.Act.ClientHandles) w next → slice_get next.devices i ≡ Some e →
     e.reading.asked ≢ d.reading.asked → (page : OpenPage) × (e.reading.page ≡ Some page) × (page.answer ≡ None) × (page.number ≡ e.reading.asked)
 begins_page w next i d e there led here other =
     let to = read_to w next i d e there led here in
@@ -232,7 +232,7 @@ begins_page w next i d e there led here other =
       | inr begins ↦ (begins.page, ap (λ (y : Device). y.reading.page) to.0 ∙ begins.opens, begins.unanswered, begins.number ∙ sym asked)
     ]
 
-pub once : (all : List events.Event) (w last : World) (i : ℕ) (d e : Device) → Taken w → Read w → AllByRecursion (IsBetween i) all → events.Reaches all w last →
+pub once : (all : List events.AppEvent) (w last : AppWorld) (i : ℕ) (d e : Device) → Taken w → Read w → AllByRecursion (IsBetween i) all → events.Reaches all w last →
     slice_get w.devices i ≡ Some d → slice_get last.devices i ≡ Some e →
     (e.reading.asked ≤ d.reading.asked + 1) × (IsUnanswered d → (e.reading.asked ≡ d.reading.asked) × IsUnanswered e)
 once all w last i d e taken read between led there here =

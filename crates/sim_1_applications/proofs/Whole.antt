@@ -3,7 +3,7 @@ use Rattle.std.proofs.Common.{◌≡◌, ℕ, ◌+◌, ◌*◌, ◌≤◌, List,
 use Rattle.std.proofs.lemmas.List.{length-append}
 use Rattle.std.specs.List.{AllByRecursion, slice_get}
 use Rattle.sim_1_applications.specs.Stanzas.{messages}
-use Rattle.sim_1_applications.specs.Devices.{Device, Session, World, up_put}
+use Rattle.sim_1_applications.specs.Devices.{AppWorld, Device, Session, up_put}
 use Rattle.sim_1_applications.specs.Events as events
 use Rattle.sim_1_applications.specs.Histories.{spoken_in}
 use Rattle.sim_1_applications.proofs.Lists.{all_append}
@@ -37,7 +37,7 @@ each : (said asked all takes : ℕ) (ss : List Session) → takes ≤ all → Al
 each said asked all takes [] few down up many most = tt
 each said asked all takes (s ∷ ss) few down up many most = (one said asked all takes s few down.0 up.0 many.0 most.0, each said asked all takes ss few down.1 up.1 many.1 most.1)
 
-pub whole : (keep : ℕ) (accounts homes : List (List ℕ)) (all : List events.Event) (w : World) → events.Reaches all (events.beginning keep accounts homes) w →
+pub whole : (keep : ℕ) (accounts homes : List (List ℕ)) (all : List events.AppEvent) (w : AppWorld) → events.Reaches all (events.beginning keep accounts homes) w →
     (i : ℕ) (d : Device) → slice_get w.devices i ≡ Some d → OfEach (IsWhole (length (said_by i all)) d.reading.asked (length (spoken_in all))) d
 whole keep accounts homes all w led i d at =
     let k = length w.takes in
@@ -48,14 +48,14 @@ whole keep accounts homes all w led i d at =
     (messages_few keep accounts homes all w led i d at)
     (requests_of k d (from_beginning AreNumbered numbers_kept numbers_begin keep accounts homes all w led i d at))
 
-pub down : (w : World) → events.Reached w → (i : ℕ) (d : Device) → slice_get w.devices i ≡ Some d → OfEach (IsDownFew (length w.takes)) d
+pub down : (w : AppWorld) → events.Reached w → (i : ℕ) (d : Device) → slice_get w.devices i ≡ Some d → OfEach (IsDownFew (length w.takes)) d
 down w reached i d at = down_of (length w.takes) d (in_reached DownKept down_kept down_begins w reached i d at)
 
-pub up : (w : World) → events.Reached w → (i : ℕ) (d : Device) → slice_get w.devices i ≡ Some d → OfEach IsUpFew d
+pub up : (w : AppWorld) → events.Reached w → (i : ℕ) (d : Device) → slice_get w.devices i ≡ Some d → OfEach IsUpFew d
 up w reached i d at = up_of (length w.takes) d (in_reached UpKept up_kept up_begins w reached i d at)
 
-pub numbered : (w : World) → events.Reached w → (i : ℕ) (d : Device) → slice_get w.devices i ≡ Some d → AreNumbered (length w.takes) d
+pub numbered : (w : AppWorld) → events.Reached w → (i : ℕ) (d : Device) → slice_get w.devices i ≡ Some d → AreNumbered (length w.takes) d
 numbered w reached i d at = in_reached AreNumbered numbers_kept numbers_begin w reached i d at
 
-pub few : (w : World) → events.Reached w → (i : ℕ) (d : Device) → slice_get w.devices i ≡ Some d → OfEach (λ s. length (requested_in s) ≤ d.reading.asked) d
+pub few : (w : AppWorld) → events.Reached w → (i : ℕ) (d : Device) → slice_get w.devices i ≡ Some d → OfEach (λ s. length (requested_in s) ≤ d.reading.asked) d
 few w reached i d at = requests_of (length w.takes) d (numbered w reached i d at)

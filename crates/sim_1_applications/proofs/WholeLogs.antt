@@ -19,12 +19,12 @@ use Rattle.cmd_report.specs.Reports.{DeviceView}
 use Rattle.cmd_report.specs.declared.report.HeldLine.{HeldLine}
 use Rattle.cmd_report.specs.declared.report.LoggedLine.{LoggedLine}
 use Rattle.cmd_schedule.proofs.Lists.{all_map, map-map}
-use Rattle.sim_1_applications.specs.Answers.{behind}
+use Rattle.sim_1_applications.specs.Answers.{following}
 use Rattle.sim_1_applications.specs.Devices as sessions
 use Rattle.sim_1_applications.specs.Devices.{log_of}
 use Rattle.sim_1_applications.specs.Events.{is_number_among}
-use Rattle.sim_1_applications.proofs.LogLaws.{Logged, rising, runs_right, turned}
-use Rattle.sim_1_applications.proofs.Turned.{number_of, numbers_follow, run_numbers, turns_of}
+use Rattle.sim_1_applications.proofs.LogLaws.{Logged, rendered, rising, runs_right}
+use Rattle.sim_1_applications.proofs.Rendered.{number_of, numbers_follow, run_numbers, turns_of}
 use Rattle.sim_1_applications.specs.Reported.{held_line, pages_of}
 use Rattle.sim_1_applications.proofs.Prefixes.{prefix_run, tiles_one, unbroken_turns}
 
@@ -34,7 +34,7 @@ record Front (keep : ℕ) (history : List EntryView) (d : sessions.Device) : Typ
   within : end ≤ length history
   run_is : run_by keep history 0 (turns_of d.reading.tiles) ≡ take end history
   size : length (run_by keep history 0 (turns_of d.reading.tiles)) ≡ end
-  numbers : log_of d.reading ≡ behind 0 end
+  numbers : log_of d.reading ≡ following 0 end
 
 front_of : (keep : ℕ) (history : List EntryView) (d : sessions.Device) → Logged keep history d → length history ≤ keep → Front keep history d
 front_of keep history d g wide =
@@ -54,7 +54,7 @@ front_of keep history d g wide =
       run_is = run;
       size = size;
       numbers = g.tiles.numbers ∙ sym (run_numbers keep 0 0 high history d.reading.tiles g.some (omega arith) g.tiles.tiles (omega arith) g.follow)
-          ∙ ap (map number_of) run ∙ numbers_follow 0 (take end history) follow ∙ ap (behind 0) (sym (ap length run) ∙ size);
+          ∙ ap (map number_of) run ∙ numbers_follow 0 (take end history) follow ∙ ap (following 0) (sym (ap length run) ∙ size);
     }
   where
     follow_take : (k s : ℕ) (es : List EntryView) → FollowFrom s es → FollowFrom s (take k es)
@@ -63,13 +63,13 @@ front_of keep history d g wide =
     follow_take (suc k) s (e ∷ es) is = (is.0, follow_take k (suc s) es is.1)
 
 -- what isn't among the numbers up to n is above n
-not_among : (h n k : ℕ) → is_number_among h (behind n k) ≡ false → n < h → n + k < h
+not_among : (h n k : ℕ) → is_number_among h (following n k) ≡ false → n < h → n + k < h
 not_among h n zero none low = omega arith
 not_among h n (suc k) none low =
     elim (cases_Bool (h == suc n)) [
-      | inl same ↦ absurd (let hit : is_number_among h (behind n (suc k)) ≡ true = ap (λ b. b || is_number_among h (behind (suc n) k)) same in false≢true (sym none ∙ hit))
+      | inl same ↦ absurd (let hit : is_number_among h (following n (suc k)) ≡ true = ap (λ b. b || is_number_among h (following (suc n) k)) same in false≢true (sym none ∙ hit))
       | inr other ↦
-          let rest : is_number_among h (behind (suc n) k) ≡ false = sym (ap (λ b. b || is_number_among h (behind (suc n) k)) other) ∙ none in
+          let rest : is_number_among h (following (suc n) k) ≡ false = sym (ap (λ b. b || is_number_among h (following (suc n) k)) other) ∙ none in
           let apart : h ≢ suc n = λ is. false≢true (sym other ∙ eq-eqb h (suc n) is) in
           let more = not_among h (suc n) k rest (beyond h n low apart) in
           omega arith
@@ -102,14 +102,14 @@ prefix_right keep history d line entries g wide logged held all =
     let turns = turns_of d.reading.tiles in
     let front = front_of keep history d g wide in
     let lines = logged_from 0 (pages_by keep history 0 turns) in
-    let is : line.logged ≡ lines = logged ∙ ap (logged_from 0) (turned keep history d g) in
+    let is : line.logged ≡ lines = logged ∙ ap (logged_from 0) (rendered keep history d g) in
     let same : map line_entry lines ≡ map entry_line (take front.end history) = lines_by keep 0 0 history turns ∙ ap (map entry_line) front.run_is in
     let size : length line.logged ≡ front.end =
     ap length is ∙ sym (length-map lines line_entry) ∙ ap length (lines_by keep 0 0 history turns) ∙ length-map (run_by keep history 0 turns) entry_line ∙ front.size in
     let long : length entries ≡ length history = ap length all ∙ length-map history entry_line in
     let within = front.within in
     let runs = runs_right keep history d line g logged held in
-    let behind_ids : map line_of_id (drop (length line.logged) entries) ≡ map id_of_entry (drop front.end history) =
+    let after_ids : map line_of_id (drop (length line.logged) entries) ≡ map id_of_entry (drop front.end history) =
     ap (λ k. map line_of_id (drop k entries)) size ∙ ap (λ es. map line_of_id (drop front.end es)) all ∙ ap (map line_of_id) (drop-map entry_line front.end history) ∙ map-map entry_line line_of_id (drop front.end history) in
     let follow : FollowFrom (1 + front.end) (drop front.end history) = follow_drop front.end 1 history g.follow in
     record {
@@ -123,19 +123,19 @@ prefix_right keep history d line entries g wide logged held all =
           let above : 0 + front.end < h = not_among h 0 front.end (ap (is_number_among h) (sym front.numbers) ∙ known.0) known.1 in
           let top = known.2 in
           let rest = length-drop front.end history in
-          ap (is_among (id_of h)) behind_ids ∙ id_from (1 + front.end) h (drop front.end history) follow (omega arith) (omega arith))
+          ap (is_among (id_of h)) after_ids ∙ id_from (1 + front.end) h (drop front.end history) follow (omega arith) (omega arith))
           d.reading.held g.log.held));
     }
 
 pub unbroken_right : (keep : ℕ) (history : List EntryView) (d : sessions.Device) (line : DeviceView) → Logged keep history d → length history ≤ keep → line.logged ≡ logged_from 0 (pages_of keep history d.reading) →
     AllByRecursion (λ l. l.broken ≡ false) line.logged
 unbroken_right keep history d line g wide logged =
-    subst (AllByRecursion (λ (l : LoggedLine). l.broken ≡ false)) (sym (logged ∙ ap (logged_from 0) (turned keep history d g)))
+    subst (AllByRecursion (λ (l : LoggedLine). l.broken ≡ false)) (sym (logged ∙ ap (logged_from 0) (rendered keep history d g)))
     (unbroken_turns keep 0 0 (length history) 0 history (turns_of d.reading.tiles) g.some wide (omega arith) (rising keep history d g) (omega arith) g.follow refl)
 
 pub tiles_right : (keep : ℕ) (history : List EntryView) (d : sessions.Device) (line : DeviceView) → Logged keep history d → length history ≤ keep → line.logged ≡ logged_from 0 (pages_of keep history d.reading) →
     line.pages ≡ map page_line (pages_of keep history d.reading) → AreTiles [] line.pages line.logged
 tiles_right keep history d line g wide logged pages =
-    subst (AreTiles [] line.pages) (sym (logged ∙ ap (logged_from 0) (turned keep history d g)))
-    (subst (λ ps. AreTiles [] ps (logged_from 0 (pages_by keep history 0 (turns_of d.reading.tiles)))) (sym (pages ∙ ap (map page_line) (turned keep history d g)))
+    subst (AreTiles [] line.pages) (sym (logged ∙ ap (logged_from 0) (rendered keep history d g)))
+    (subst (λ ps. AreTiles [] ps (logged_from 0 (pages_by keep history 0 (turns_of d.reading.tiles)))) (sym (pages ∙ ap (map page_line) (rendered keep history d g)))
     (tiles_one keep 0 0 (length history) history (turns_of d.reading.tiles) [] g.some wide (omega arith) (rising keep history d g) (omega arith) g.follow refl refl))

@@ -43,10 +43,10 @@ declared_step before (Tick ms) =
 -- a line, and what stands behind it
 step_stands : (before : List Step) (above : WireAbove) (step : WireStep) (number : ℕ) (later : List Line) → above.names ≡ declared_of before → IsTrue (may_run above step) →
     ((more : List Step) → (above_by step above).names ≡ declared_of (before ++ more) → AreStanding (before ++ more) (steps_of later)) → AreStanding before (steps_of (common_at number step ++ later))
-step_stands before above (Common step) number later names may behind =
-    (stands_one before step (subst (λ d. IsTrue (may_stand d step)) names may), behind (step ∷ []) (ap (declared_by step) names ∙ declared_step before step))
-step_stands before above step number later names may behind =
-    subst (λ steps. AreStanding steps (steps_of later)) (append-nil before) (behind [] (names ∙ ap declared_of (sym (append-nil before))))
+step_stands before above (Common step) number later names may following =
+    (stands_one before step (subst (λ d. IsTrue (may_stand d step)) names may), following (step ∷ []) (ap (declared_by step) names ∙ declared_step before step))
+step_stands before above step number later names may following =
+    subst (λ steps. AreStanding steps (steps_of later)) (append-nil before) (following [] (names ∙ ap declared_of (sym (append-nil before))))
 
 pub wire_stand : (before : List Step) (above : WireAbove) (n : ℕ) (lines : List WireLine) → above.names ≡ declared_of before → AreWireLines above n lines →
     AreStanding before (steps_of (flat_map (λ (line : WireLine). common_at line.number line.step) lines))

@@ -5,7 +5,7 @@ use Rattle.std.specs.List.{slice_get}
 use Rattle.std.specs.Prelude.{◌&&◌, ◌||◌, not, ◌==◌}
 use Rattle.std.specs.Str.{bytes_eq}
 use Rattle.std.specs.Option.{option_map}
-use Rattle.sim_1_applications.specs.Devices.{Device, Take, World, concerns}
+use Rattle.sim_1_applications.specs.Devices.{AppWorld, Device, Take, concerns}
 use Rattle.sim_1_applications.specs.Events as events
 use Rattle.sim_1_applications.specs.Kept.{SessionsKept}
 use Rattle.sim_1_applications.proofs.SessionSteps.{kept_told, sessions_own}
@@ -59,21 +59,21 @@ sessions_hear_all takes full [] j d kept = kept
 sessions_hear_all takes full (t ∷ ts) j d kept = sessions_hear_all takes full ts j (events.hear takes full t j d) (sessions_hear takes full t j d kept)
 
 -- the device at the place of an act, and the others
-pub at_place : (b : Bool) (x y : Device) (P : Device → Type 0) → (b ≡ true → P x) → (b ≡ false → P y) → P (cond b x y)
-at_place true x y P here there = here refl
-at_place false x y P here there = there refl
+pub at_position : (b : Bool) (x y : Device) (P : Device → Type 0) → (b ≡ true → P x) → (b ≡ false → P y) → P (cond b x y)
+at_position true x y P here there = here refl
+at_position false x y P here there = there refl
 
-pub same_place : (j i : ℕ) → (j == i) ≡ true → j ≡ i
-same_place j i h = eqb-true j i h
+pub same_position : (j i : ℕ) → (j == i) ≡ true → j ≡ i
+same_position j i h = eqb-true j i h
 
 -- A1 to A3 of each device of the next world
-pub sessions_becomes : (w : World) (new : List Take) (i : ℕ) (act : events.Act) (own : Device) (j : ℕ) (d : Device) →
+pub sessions_becomes : (w : AppWorld) (new : List Take) (i : ℕ) (act : events.Act) (own : Device) (j : ℕ) (d : Device) →
     slice_get w.devices i ≡ Some own → events.May act own → slice_get w.devices j ≡ Some d → SessionsKept d.sessions →
     SessionsKept (events.becomes w new i act j d).sessions
 sessions_becomes w new i act own j d at may here kept =
     sessions_hear_all (w.takes ++ new) (events.full_of act) new j (cond (j == i) (events.own (events.around w d) act d) d)
-    (at_place (j == i) _ _ (λ e. SessionsKept e.sessions)
-    (λ is. let j_is_i = same_place j i is in
+    (at_position (j == i) _ _ (λ e. SessionsKept e.sessions)
+    (λ is. let j_is_i = same_position j i is in
     let same : own ≡ d = (let g : slice_get w.devices j ≡ slice_get w.devices i = ap (slice_get w.devices) j_is_i in cc) in
     sessions_own (events.around w d) act d (subst (events.May act) same may) kept)
     (λ _. kept))

@@ -3,9 +3,9 @@ use Rattle.std.specs.Prelude.{◌≡◌, ℕ, ◌+◌, ◌*◌, ◌≤◌, ◌�
 use Rattle.std.specs.List.{AllByRecursion, flat_map}
 use Rattle.sim_1_applications.specs.Stanzas.{Request, Submission, answers, messages, requests}
 use Rattle.sim_1_applications.specs.Devices.{Device, Session, Sessions, up_put}
-use Rattle.sim_1_applications.specs.Events.{Event}
+use Rattle.sim_1_applications.specs.Events.{AppEvent}
 use Rattle.sim_1_applications.specs.Events.Act.{CatchUp, ClientHandles, ServerHandles}
-use Rattle.sim_1_applications.specs.Events.Event.{At}
+use Rattle.sim_1_applications.specs.Events.AppEvent.{At}
 use Rattle.sim_1_applications.specs.Histories.{Spoken, spoken_in}
 
 -- the sessions that a device had, and has
@@ -17,7 +17,7 @@ abbrev pub OfEach : (Session → Type 0) → Device → Type 0
 OfEach P d = AllByRecursion P (sessions_of d.sessions)
 
 -- the messages that the user of a device sent
-abbrev pub said_by : ℕ → List Event → List Spoken
+abbrev pub said_by : ℕ → List AppEvent → List Spoken
 said_by i events = filter (λ s. s.device == i) (spoken_in events)
 
 -- so many takes there were: what was put to the client is at most 101 stanzas for each one that the server handled,
@@ -40,13 +40,13 @@ abbrev pub number_of : Request → ℕ
 number_of r = r.number
 
 -- a device's client may put a request at this event
-abbrev pub MayAsk : ℕ → Event → Type 0
+abbrev pub MayAsk : ℕ → AppEvent → Type 0
 MayAsk i (At j (CatchUp max)) = j ≡ i
 MayAsk i (At j ClientHandles) = j ≡ i
 MayAsk i _ = ⊥
 
 -- the user of a device asks for no page at this event, and the server handles none of the device's stanzas
-abbrev pub IsBetween : ℕ → Event → Type 0
+abbrev pub IsBetween : ℕ → AppEvent → Type 0
 IsBetween i (At j (CatchUp max)) = j ≢ i
 IsBetween i (At j (ServerHandles fits full)) = j ≢ i
 IsBetween i _ = Unit {0}
@@ -61,6 +61,6 @@ IsNumberedWithin epoch n m = (m.epoch ≤ epoch) × (m.n ≤ n)
 
 -- A turn of a device: its user asks for no page, and the server handles none of its stanzas; or a request may be put at
 -- the first event alone.
-abbrev pub IsTurn : ℕ → List Event → Type 0
+abbrev pub IsTurn : ℕ → List AppEvent → Type 0
 IsTurn i [] = Unit {0}
 IsTurn i (event ∷ events) = AllByRecursion (IsBetween i) (event ∷ events) ⊎ AllByRecursion (λ later. MayAsk i later → ⊥) events

@@ -119,7 +119,7 @@ pub record Take : Type 0 where
 
 -- KEEP, the time, the accounts that exist, the takes in order, and the devices. An account's archive is made of the
 -- takes that concern it.
-pub record World : Type 0 where
+pub record AppWorld : Type 0 where
   pub keep : ℕ
   pub clock : ℕ
   pub accounts : List (List ℕ)

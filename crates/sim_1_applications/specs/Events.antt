@@ -6,10 +6,10 @@ use Rattle.std.specs.Str.{bytes_eq}
 use Rattle.sim_1_applications.specs.Stanzas.{Request, Up, Down}
 use Rattle.sim_1_applications.specs.Stanzas.Up.{Carbons, Presence, Message, Query}
 use Rattle.sim_1_applications.specs.Stanzas.Down.{Accepted, Bounced, Live, Res, Fin, NotFound}
-use Rattle.sim_1_applications.specs.Devices.{fresh, Row, Sessions, Reading, Device, OpenPage, Answer, Tile, Made, Take, World, epoch_of, log_of, new_device, concerns, last_of, first_of}
+use Rattle.sim_1_applications.specs.Devices.{fresh, Row, Sessions, Reading, Device, OpenPage, Answer, Tile, Made, Take, AppWorld, epoch_of, log_of, new_device, concerns, last_of, first_of}
 use Rattle.sim_1_applications.specs.Devices.Stage.{Named, Counted, Known}
 use Rattle.sim_1_applications.specs.Devices.Row.{NoRow, Unread, Present}
-use Rattle.sim_1_applications.specs.Answers.{last_in, answer_of}
+use Rattle.sim_1_applications.specs.Answers.{last_in, page_answer_of}
 
 -- What can happen at a device.
 pub data Act : Type 0 where
@@ -34,9 +34,9 @@ pub data Act : Type 0 where
   -- the client handles the next stanza
   ClientHandles : Act
 
-pub data Event : Type 0 where
-  At : ℕ → Act → Event
-  Tick : ℕ → Event
+pub data AppEvent : Type 0 where
+  At : ℕ → Act → AppEvent
+  Tick : ℕ → AppEvent
 
 -- what an act at a device knows of the world: the accounts that exist, the first and the last number of the archive
 -- of the device's account, and how many takes there were
@@ -84,7 +84,7 @@ ask after max began d = record d {
 abbrev pub answered : Around → Request → OpenPage → OpenPage
 answered a r page =
     if page.number == r.number
-    then record page { answer = Some (record { first = a.first; last = a.last; rest = answer_of a.first a.last r }) }
+    then record page { answer = Some (record { first = a.first; last = a.last; rest = page_answer_of a.first a.last r }) }
     else page
 
 abbrev pub is_carbons : Up → Bool
@@ -100,7 +100,7 @@ abbrev pub reply : Around → Up → List Down
 reply a Carbons = Accepted ∷ []
 reply a Presence = []
 reply a (Message m) = if is_among m.to a.accounts then [] else Bounced m.epoch m.n ∷ []
-reply a (Query r) = answer_of a.first a.last r
+reply a (Query r) = page_answer_of a.first a.last r
 
 abbrev pub flagged : Up → Sessions → Sessions
 flagged z s = record s { now = record s.now { carbons = is_carbons z || s.now.carbons; available = is_presence z || s.now.available } }
@@ -171,11 +171,11 @@ abbrev pub are_new : List ℕ → List ℕ → Bool
 are_new log [] = true
 are_new log (n ∷ ns) = not (is_number_among n log) && are_new (n ∷ log) ns
 
-abbrev pub same_place : Option ℕ → Option ℕ → Bool
-same_place None None = true
-same_place None (Some n) = false
-same_place (Some m) None = false
-same_place (Some m) (Some n) = m == n
+abbrev pub same_position : Option ℕ → Option ℕ → Bool
+same_position None None = true
+same_position None (Some n) = false
+same_position (Some m) None = false
+same_position (Some m) (Some n) = m == n
 
 abbrev pub is_empty : List ℕ → Bool
 is_empty [] = true
@@ -215,7 +215,7 @@ over a complete count page b = record (logged page b) { tiles = b.tiles ++ tile 
 
 abbrev pub fin : Around → ℕ → Bool → Option ℕ → ℕ → OpenPage → Reading → Reaction
 fin a q complete last count page b =
-    if page.number == q && same_place last (last_in page.results) && are_new (log_of b) page.results && (complete || not (is_empty page.results))
+    if page.number == q && same_position last (last_in page.results) && are_new (log_of b) page.results && (complete || not (is_empty page.results))
     then (if complete then quiet (over a complete count page b)
     else asking (last_in (over a complete count page b).run) page.max a.last (over a complete count page b))
     else refuse b
@@ -344,7 +344,7 @@ abbrev pub hear_all : List Take → List ℕ → List Take → ℕ → Device �
 hear_all takes full [] j d = d
 hear_all takes full (t ∷ ts) j d = hear_all takes full ts j (hear takes full t j d)
 
-abbrev pub around : World → Device → Around
+abbrev pub around : AppWorld → Device → Around
 around w d = record {
   accounts = w.accounts;
   first = first_of w.keep (last_of w.takes d.account);
@@ -358,42 +358,42 @@ each_from j f [] = []
 each_from j f (d ∷ ds) = f j d ∷ each_from (suc j) f ds
 
 -- what the device at a place becomes by an act at another, or the same
-abbrev pub becomes : World → List Take → ℕ → Act → ℕ → Device → Device
+abbrev pub becomes : AppWorld → List Take → ℕ → Act → ℕ → Device → Device
 becomes w new i act j d =
     hear_all (w.takes ++ new) (full_of act) new j (if j == i then own (around w d) act d else d)
 
-abbrev pub acted : World → ℕ → Act → Device → World
+abbrev pub acted : AppWorld → ℕ → Act → Device → AppWorld
 acted w i act d = record w {
   takes = w.takes ++ taken_by w.accounts w.clock i d act;
   devices = each_from 0 (becomes w (taken_by w.accounts w.clock i d act) i act) w.devices;
 }
 
-abbrev pub after : World → Event → World
+abbrev pub after : AppWorld → AppEvent → AppWorld
 after w (Tick ms) = record w { clock = w.clock + ms }
 after w (At i act) = option_map_or (acted w i act) (slice_get w.devices i) w
 
 -- the event may happen, and leads from the one world to the next
-abbrev pub Moves : Event → World → World → Type 0
+abbrev pub Moves : AppEvent → AppWorld → AppWorld → Type 0
 Moves (Tick ms) w next = next ≡ after w (Tick ms)
 Moves (At i act) w next = (d : Device) × (slice_get w.devices i ≡ Some d) × May act d × (next ≡ acted w i act d)
 
-abbrev pub Reaches : List Event → World → World → Type 0
+abbrev pub Reaches : List AppEvent → AppWorld → AppWorld → Type 0
 Reaches [] w last = last ≡ w
-Reaches (event ∷ events) w last = (next : World) × Moves event w next × Reaches events next last
+Reaches (event ∷ events) w last = (next : AppWorld) × Moves event w next × Reaches events next last
 
 -- before the first event, with devices of these accounts
 abbrev pub devices_of : List (List ℕ) → List Device
 devices_of [] = []
 devices_of (account ∷ accounts) = new_device account ∷ devices_of accounts
 
-abbrev pub beginning : ℕ → List (List ℕ) → List (List ℕ) → World
+abbrev pub beginning : ℕ → List (List ℕ) → List (List ℕ) → AppWorld
 beginning keep accounts homes = record { keep = keep; clock = 0; accounts = accounts; takes = []; devices = devices_of homes }
 
 -- some events lead to the world
-pub record Reached (w : World) : Type 0 where
+pub record Reached (w : AppWorld) : Type 0 where
   pub keep : ℕ
   pub some : 1 ≤ keep
   pub accounts : List (List ℕ)
   pub homes : List (List ℕ)
-  pub events : List Event
+  pub events : List AppEvent
   pub reaches : Reaches events (beginning keep accounts homes) w

@@ -3,10 +3,10 @@ use Rattle.std.specs.Prelude.{◌≡◌, ℕ, suc, ◌+◌, ◌<◌, ◌≤◌, 
 use Rattle.std.specs.List.{AllByRecursion, flat_map}
 use Rattle.sim_1_applications.specs.Stanzas.{Submission, Request, messages, requests, answers, lives}
 use Rattle.sim_1_applications.specs.Stanzas.Down.{Res}
-use Rattle.sim_1_applications.specs.Devices.{Session, Sessions, up_put, Reading, Device, OpenPage, Answer, Tile, Made, Take, World, epoch_of, log_of, last_of, first_of}
+use Rattle.sim_1_applications.specs.Devices.{Session, Sessions, up_put, Reading, Device, OpenPage, Answer, Tile, Made, Take, AppWorld, epoch_of, log_of, last_of, first_of}
 use Rattle.sim_1_applications.specs.Devices.Stage.{Named, Known}
 use Rattle.sim_1_applications.specs.Devices.Row.{Present}
-use Rattle.sim_1_applications.specs.Answers.{behind, last_in, answer_of}
+use Rattle.sim_1_applications.specs.Answers.{following, last_in, page_answer_of}
 use Rattle.sim_1_applications.specs.Events.{is_among, is_number_among, number_or_none}
 
 -- A1. No more is acknowledged than was handled. Nothing comes down before the server counts, nothing goes up before
@@ -96,8 +96,8 @@ IsFront {A = A} front whole = (rest : List A) × (whole ≡ front ++ rest)
 
 -- Its place is the log's last number; or the archive's beginning, where that number is purged. And the log's last run
 -- begins no later than the archive began then.
-pub record IsPlace (kept : ℕ) (run : List ℕ) (after : Option ℕ) : Type 0 where
-  pub behind : (after ≡ last_in run) ⊎ ((after ≡ None) × (number_or_none (last_in run) < kept))
+pub record IsPosition (kept : ℕ) (run : List ℕ) (after : Option ℕ) : Type 0 where
+  pub following : (after ≡ last_in run) ⊎ ((after ≡ None) × (number_or_none (last_in run) < kept))
   pub reaches : (n : ℕ) → slice_get run 0 ≡ Some n → n ≤ kept
 
 -- it isn't answered
@@ -105,7 +105,7 @@ pub record IsAsked (first last : ℕ) (d : Device) (page : OpenPage) : Type 0 wh
   pub request : requests d.sessions.now.up_rest ≡ request_of page ∷ []
   pub underway : answers d.sessions.now.down_rest ≡ []
   pub results : page.results ≡ []
-  pub place : IsPlace first d.reading.run page.after
+  pub position : IsPosition first d.reading.run page.after
   pub began : page.began ≤ last
 
 -- it is answered: what was handled of the answer and what wasn't are the answer; of the latter a front is under way,
@@ -114,12 +114,12 @@ pub record IsAnswered (keep first last : ℕ) (d : Device) (page : OpenPage) (a 
   pub request : requests d.sessions.now.up_rest ≡ []
   pub underway : IsFront (answers d.sessions.now.down_rest) a.rest
   pub whole : d.sessions.row ≡ Present → answers d.sessions.now.down_rest ≡ a.rest
-  pub answer : map (Res page.number) page.results ++ a.rest ≡ answer_of a.first a.last (request_of page)
+  pub answer : map (Res page.number) page.results ++ a.rest ≡ page_answer_of a.first a.last (request_of page)
   pub some : a.rest ≢ []
   pub kept : a.first ≡ first_of keep a.last
   pub first_rises : a.first ≤ first
   pub last_rises : a.last ≤ last
-  pub place : IsPlace a.first d.reading.run page.after
+  pub position : IsPosition a.first d.reading.run page.after
   pub logged : number_or_none (last_in d.reading.run) ≤ a.last
   pub began : page.began ≤ a.last
 
@@ -149,7 +149,7 @@ pub record PageKept (keep first last : ℕ) (d : Device) : Type 0 where
 abbrev pub AreRuns : ℕ → ℕ → List (List ℕ) → Type 0
 AreRuns low high [] = low ≤ high
 AreRuns low high (run ∷ runs) =
-    (from : ℕ) × (low ≤ from) × (1 ≤ length run) × (run ≡ behind from (length run)) × AreRuns (from + length run) high runs
+    (from : ℕ) × (low ≤ from) × (1 ≤ length run) × (run ≡ following from (length run)) × AreRuns (from + length run) high runs
 
 abbrev pub AreApart : List ℕ → Type 0
 AreApart [] = Unit {0}
@@ -158,7 +158,7 @@ AreApart (n ∷ ns) = (is_number_among n ns ≡ false) × AreApart ns
 -- the log's runs: the last one begins no later than the archive does now
 pub record AreLogged (first last : ℕ) (broken : List (List ℕ)) (run : List ℕ) : Type 0 where
   pub from : ℕ
-  pub is_run : run ≡ behind from (length run)
+  pub is_run : run ≡ following from (length run)
   pub through : from + length run ≤ last
   pub reaches : (n : ℕ) → slice_get run 0 ≡ Some n → n ≤ first
   pub earlier : AreRuns 0 from broken
@@ -185,7 +185,7 @@ end_of keep n t = min (start_of keep n t + t.most) t.given
 abbrev pub numbers_by : ℕ → ℕ → List Tile → List ℕ
 numbers_by keep n [] = []
 numbers_by keep n (t ∷ ts) =
-    behind (start_of keep n t) (end_of keep n t - start_of keep n t) ++ numbers_by keep (end_of keep n t) ts
+    following (start_of keep n t) (end_of keep n t - start_of keep n t) ++ numbers_by keep (end_of keep n t) ts
 
 -- the last number behind them
 abbrev pub ends_at : ℕ → ℕ → List Tile → ℕ
@@ -219,12 +219,12 @@ pub record TilesKept (keep last : ℕ) (b : Reading) : Type 0 where
   pub page : (p : OpenPage) → b.page ≡ Some p → top_of 0 b.tiles ≤ p.began
 
 -- A1 to A5 and A10, which are kept alone: of a device, and of the world.
-pub record DeviceTaken (w : World) (i : ℕ) (d : Device) : Type 0 where
+pub record DeviceTaken (w : AppWorld) (i : ℕ) (d : Device) : Type 0 where
   pub sessions : SessionsKept d.sessions
   pub takes : TakesKept w.accounts w.takes i d
   pub made : MadeKept w.takes i d
 
-pub record Taken (w : World) : Type 0 where
+pub record Taken (w : AppWorld) : Type 0 where
   pub placed : AllByRecursion (IsOfDevice w.accounts (length w.devices)) w.takes
   pub moments : AreMoments 0 w.clock w.takes
   pub devices : (i : ℕ) (d : Device) → slice_get w.devices i ≡ Some d → DeviceTaken w i d
@@ -235,7 +235,7 @@ pub record DeviceRead (keep first last : ℕ) (d : Device) : Type 0 where
   pub log : LogKept first last d
   pub tiles : TilesKept keep last d.reading
 
-pub record Read (w : World) : Type 0 where
+pub record Read (w : AppWorld) : Type 0 where
   pub keep : 1 ≤ w.keep
   pub devices : (i : ℕ) (d : Device) → slice_get w.devices i ≡ Some d →
       DeviceRead w.keep (first_of w.keep (last_of w.takes d.account)) (last_of w.takes d.account) d

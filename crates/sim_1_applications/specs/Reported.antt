@@ -11,7 +11,7 @@ use Rattle.mam_log.specs.LogPages.{LogPage}
 use Rattle.cmd_report.specs.Lines.{entry_line, logged_from, page_line}
 use Rattle.cmd_report.specs.Reports.{AccountView, DeviceView}
 use Rattle.cmd_report.specs.Takes.{Take, archive_of}
-use Rattle.cmd_report.specs.Worlds.{World}
+use Rattle.cmd_report.specs.Worlds.{ReportWorld}
 use Rattle.cmd_report.specs.declared.report.HeldLine.{HeldLine}
 use Rattle.cmd_report.specs.declared.report.SaidLine.{SaidLine}
 use Rattle.cmd_report.specs.declared.report.SaidMark.{SaidMark}
@@ -142,14 +142,14 @@ AreDeviceLines keep history _ _ _ = ⊥
 -- Worlds.
 
 -- what the state shows: what the archives keep, and of each device how many pages it took over and asked for
-pub record IsShown (owned : List Owned) (w : sessions.World) (shown : World) : Type 0 where
+pub record IsShown (owned : List Owned) (w : sessions.AppWorld) (shown : ReportWorld) : Type 0 where
   pub archive : (account : List ℕ) → is_among account w.accounts ≡ true → shown.archive account ≡ newest w.keep (history_at owned w.takes account)
   pub pages : (i : ℕ) (o : Owned) (d : Device) → slice_get owned i ≡ Some o → slice_get w.devices i ≡ Some d →
       length (shown.pages o.device) ≡ length d.reading.tiles
   pub asked : (i : ℕ) (o : Owned) (d : Device) → slice_get owned i ≡ Some o → slice_get w.devices i ≡ Some d →
       shown.asked o.device ≡ asked_of d.reading
 
-abbrev pub AreShown : List Owned → List sessions.World → List World → Type 0
-AreShown owned [] [] = Unit {0}
-AreShown owned (w ∷ ws) (shown ∷ others) = IsShown owned w shown × AreShown owned ws others
-AreShown owned _ _ = ⊥
+abbrev pub AreRepresented : List Owned → List sessions.AppWorld → List ReportWorld → Type 0
+AreRepresented owned [] [] = Unit {0}
+AreRepresented owned (w ∷ ws) (shown ∷ others) = IsShown owned w shown × AreRepresented owned ws others
+AreRepresented owned _ _ = ⊥

@@ -5,7 +5,7 @@ use Rattle.std.specs.Str.{bytes_eq}
 use Rattle.mam_archive.specs.declared.archive.TheConstants.{GREATEST_NUMBER}
 use Rattle.cmd_report.specs.Lines.{take_line}
 use Rattle.cmd_report.specs.Reports.{ReportView}
-use Rattle.cmd_report.specs.Worlds.{World}
+use Rattle.cmd_report.specs.Worlds.{ReportWorld}
 use Rattle.cmd_report.specs.declared.report.RefusedLine.{RefusedLine}
 use Rattle.cmd_report.specs.declared.report.RefusedWhy.{RefusedWhy}
 use Rattle.cmd_schedule.specs.Contents.{Owned, accounts_of, owned_in}
@@ -17,9 +17,9 @@ use Rattle.cmd_schedule.specs.declared.schedule.WireLine.{WireLine}
 use Rattle.cmd_schedule.specs.declared.schedule.WireStep.{WireStep}
 use Rattle.cmd_schedule.specs.declared.schedule.WireStep.TheVariants.{Common}
 use Rattle.sim_1_applications.specs.Devices as sessions
-use Rattle.sim_1_applications.specs.Events.{Event, Reaches, beginning}
+use Rattle.sim_1_applications.specs.Events.{AppEvent, Reaches, beginning}
 use Rattle.sim_1_applications.specs.Histories.{Spoken, spoken_in, states_of}
-use Rattle.sim_1_applications.specs.Reported.{AreDeviceLines, AreShown, account_line, history_at, take_of}
+use Rattle.sim_1_applications.specs.Reported.{AreDeviceLines, AreRepresented, account_line, history_at, take_of}
 
 -- a line that a device refused
 pub record Refusal : Type 0 where
@@ -29,7 +29,7 @@ pub record Refusal : Type 0 where
 -- a line of the schedule, the moves that it led to, and the refusal, if it was refused
 pub record LineRun : Type 0 where
   pub line : WireLine
-  pub moves : List (List Event)
+  pub moves : List (List AppEvent)
   pub refused : List Refusal
 
 abbrev pub IsRefused : List ℕ → ℕ → List Refusal → Type 0
@@ -54,13 +54,13 @@ abbrev pub IsDone : List Owned → WireStep → ℕ → List Spoken → List Ref
 IsDone owned (Common step) number spoken refused = IsStepDone owned step number spoken refused
 IsDone owned _ number spoken refused = (spoken ≡ []) × (refused ≡ [])
 
-abbrev pub events_in : LineRun → List Event
+abbrev pub events_in : LineRun → List AppEvent
 events_in r = flat_map (λ move. move) r.moves
 
 abbrev pub IsLineDone : List Owned → LineRun → Type 0
 IsLineDone owned r = IsDone owned r.line.step r.line.number (spoken_in (events_in r)) r.refused
 
-abbrev pub moves_of : List LineRun → List (List Event)
+abbrev pub moves_of : List LineRun → List (List AppEvent)
 moves_of runs = flat_map (λ r. r.moves) runs
 
 abbrev pub refused_by : List ℕ → List LineRun → List RefusedLine
@@ -73,12 +73,12 @@ abbrev pub owned_of : WireView → List Owned
 owned_of schedule = owned_in (steps_in schedule)
 
 -- the state before the first line
-abbrev pub begins : WireView → sessions.World
+abbrev pub begins : WireView → sessions.AppWorld
 begins schedule =
     beginning (keep_of schedule.version) (accounts_of (steps_in schedule)) (map (λ (o : Owned). o.account) (owned_of schedule))
 
 -- the report of the last state
-pub record IsReportOf (schedule : WireView) (runs : List LineRun) (last : sessions.World) (report : ReportView) : Type 0 where
+pub record IsReportOf (schedule : WireView) (runs : List LineRun) (last : sessions.AppWorld) (report : ReportView) : Type 0 where
   pub version : report.version ≡ schedule.version
   pub wire : report.wire ≡ true
   pub takes : report.takes ≡ map (take_line schedule.version) (map (take_of (owned_of schedule)) last.takes)
@@ -89,14 +89,14 @@ pub record IsReportOf (schedule : WireView) (runs : List LineRun) (last : sessio
 
 -- The report is that of a run of the wire schedule over sessions that may stop at any time; and these were the worlds
 -- before the first move and after each move.
-pub record IsRunOf (schedule : WireView) (worlds : List World) (report : ReportView) : Type 0 where
+pub record IsRunOf (schedule : WireView) (worlds : List ReportWorld) (report : ReportView) : Type 0 where
   pub right : IsWireSchedule schedule
   pub runs : List LineRun
   pub of_lines : map (λ (r : LineRun). r.line) runs ≡ schedule.lines
   pub done : AllByRecursion (IsLineDone (owned_of schedule)) runs
-  pub last : sessions.World
+  pub last : sessions.AppWorld
   pub reaches : Reaches (flat_map (λ move. move) (moves_of runs)) (begins schedule) last
   -- an archive gives no number above its greatest
   pub few : length last.takes ≤ GREATEST_NUMBER
-  pub shown : AreShown (owned_of schedule) (states_of (begins schedule) (moves_of runs)) worlds
+  pub shown : AreRepresented (owned_of schedule) (states_of (begins schedule) (moves_of runs)) worlds
   pub reported : IsReportOf schedule runs last report

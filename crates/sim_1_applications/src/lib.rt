@@ -16,5 +16,5 @@ pub use session_counts::{
 };
 pub use sessions::{
     each_event_keeps, logs_have_what_is_kept, messages_are_taken_once_in_order,
-    reached_states_are_kept, settled_devices_await_no_page, takes_behind_a_bind_are_new,
+    reached_states_are_kept, settled_devices_await_no_page, takes_after_a_bind_are_new,
 };

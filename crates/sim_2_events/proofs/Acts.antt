@@ -5,7 +5,7 @@ use Rattle.sim_2_links.proofs.Reached.{link_kept}
 use Rattle.sim_2_links.proofs.Numbers.{reached_rises}
 use Rattle.sim_2_links.proofs.Seen.{move_seen, run_seen}
 use Rattle.sim_2_links.specs.Views.{View}
-use Rattle.sim_2_links.specs.Events.{Seen, seen, Event, Bound, Named, Counted, Known, Ended, Dropped, Said, Handled, Served, Heard, Learned, IsSeenAs, Follows}
+use Rattle.sim_2_links.specs.Events.{Seen, seen, LinkEvent, Bound, Named, Counted, Known, Ended, Dropped, Said, Handled, Served, Heard, Learned, IsSeenAs, Follows}
 use Rattle.sim_2_links.specs.Events as links
 use Rattle.sim_2_links.specs.Machine.{LinkMove, LinkMoves, nothing_yet, LinkReached}
 use Rattle.sim_2_links.specs.Telling.{Tells}
@@ -17,7 +17,7 @@ use Rattle.sim_2_events.proofs.Events.{Leads, bound_leads, named_leads, counted_
 use Rattle.sim_2_events.specs.Lists.{Stanzas, IsDevice, no_sessions, knows}
 use Rattle.sim_2_events.specs.Acts.{AreActs, ActsLead}
 
-event_leads : {A : Type 0} (r : Stanzas A) (e : Event A) (v : Seen A) (d : Sessions) → links.May e v → IsDevice r v d → Leads r e v d
+event_leads : {A : Type 0} (r : Stanzas A) (e : LinkEvent A) (v : Seen A) (d : Sessions) → links.May e v → IsDevice r v d → Leads r e v d
 event_leads r (Bound m) v d may a = bound_leads r v d m may a
 event_leads r (Named m) v d may a = named_leads r v d m may a
 event_leads r (Counted p) v d may a = counted_leads r v d p may a
@@ -43,22 +43,22 @@ begins r = record {
   online = refl;
 }
 
-seen_leads : {A : Type 0} (r : Stanzas A) (e : Option (Event A)) (v next : Seen A) (d : Sessions) → IsSeenAs e v next → IsDevice r v d → (after : Sessions) × AreActs r e v d after × IsDevice r next after
+seen_leads : {A : Type 0} (r : Stanzas A) (e : Option (LinkEvent A)) (v next : Seen A) (d : Sessions) → IsSeenAs e v next → IsDevice r v d → (after : Sessions) × AreActs r e v d after × IsDevice r next after
 seen_leads r None v next d same a = (d, refl, subst (λ s. IsDevice r s d) (sym same) a)
 seen_leads r (Some e) v next d (may, same) a = let l = event_leads r e v d may a in (l.0, l.1, subst (λ s. IsDevice r s l.0) (sym same) l.2)
 
 pub move_leads : {A : Type 0} (r : Stanzas A) (move : LinkMove A) (v next : View A) (d : Sessions) → LinkReached v → LinkMoves move v next → IsDevice r (seen v) d →
-    (e : Option (Event A)) × Tells move v e × IsSeenAs e (seen v) (seen next) × ((after : Sessions) × AreActs r e (seen v) d after × IsDevice r (seen next) after)
+    (e : Option (LinkEvent A)) × Tells move v e × IsSeenAs e (seen v) (seen next) × ((after : Sessions) × AreActs r e (seen v) d after × IsDevice r (seen next) after)
 move_leads r move v next d reached by a = let s = move_seen move v next by (link_kept v reached) (reached_rises v reached) in (s.0, s.1, s.2, seen_leads r s.0 (seen v) (seen next) d s.2 a)
 
-follow : {A : Type 0} (r : Stanzas A) (es : List (Event A)) (v last : Seen A) (d : Sessions) → Follows es v last → IsDevice r v d → (after : Sessions) × ActsLead r es v d after × IsDevice r last after
+follow : {A : Type 0} (r : Stanzas A) (es : List (LinkEvent A)) (v last : Seen A) (d : Sessions) → Follows es v last → IsDevice r v d → (after : Sessions) × ActsLead r es v d after × IsDevice r last after
 follow r [] v last d same a = (d, refl, subst (λ s. IsDevice r s d) (sym same) a)
 follow r (e ∷ es) v last d (may, along) a =
     let l = event_leads r e v d may a in
     let f = follow r es (links.after e v) last l.0 along l.2 in
     (f.0, (l.0, l.1, f.1), f.2)
 
-pub reached_leads : {A : Type 0} (r : Stanzas A) (v : View A) → LinkReached v → (es : List (Event A)) × Follows es (seen nothing_yet) (seen v) × ((d : Sessions) × ActsLead r es (seen nothing_yet) no_sessions d × IsDevice r (seen v) d)
+pub reached_leads : {A : Type 0} (r : Stanzas A) (v : View A) → LinkReached v → (es : List (LinkEvent A)) × Follows es (seen nothing_yet) (seen v) × ((d : Sessions) × ActsLead r es (seen nothing_yet) no_sessions d × IsDevice r (seen v) d)
 reached_leads r v reached = let s = run_seen v reached in (s.0, s.1, follow r s.0 (seen nothing_yet) (seen v) no_sessions s.1 (begins r))
 
 -- what acts are made of

@@ -13,7 +13,7 @@ use Rattle.sim_1_applications.proofs.Taken.{said_few}
 use Rattle.sim_1_applications.proofs.Whole.{whole}
 use Rattle.sim_1_applications.specs.Counts.{OfEach, said_by}
 use Rattle.sim_1_applications.proofs.Lists.{all_front, all_rest}
-use Rattle.sim_1_applications.specs.Devices.{Device, Session, World, epoch_of, up_put}
+use Rattle.sim_1_applications.specs.Devices.{AppWorld, Device, Session, epoch_of, up_put}
 use Rattle.sim_1_applications.specs.Events as events
 use Rattle.sim_1_applications.specs.Histories.{spoken_in}
 
@@ -67,7 +67,7 @@ epochs r v d is reached = let same = is.epoch in let low = epoch_within v reache
 
 -- Of a run.
 
-pub run_puts : {A : Type 0} (r : Stanzas A) (keep : ℕ) (accounts homes : List (List ℕ)) (all : List events.Event) (w : World) → events.Reaches all (events.beginning keep accounts homes) w →
+pub run_puts : {A : Type 0} (r : Stanzas A) (keep : ℕ) (accounts homes : List (List ℕ)) (all : List events.AppEvent) (w : AppWorld) → events.Reaches all (events.beginning keep accounts homes) w →
     (i : ℕ) (d : Device) → slice_get w.devices i ≡ Some d → (says pages : ℕ) → length (spoken_in all) ≤ says → d.reading.asked ≤ pages + 1 →
     (v : links.View A) → IsDevice r (seen v) d.sessions → (q : ℕ) (s : links.Session A) → v.sessions q ≡ Some s → (length s.up.put ≤ says + pages + 3) × (length s.down.put ≤ 101 * (says + pages + 3) + says)
 run_puts r keep accounts homes all w led i d at says pages spoken asked v is q s there =
@@ -77,7 +77,7 @@ run_puts r keep accounts homes all w led i d at says pages spoken asked v is q s
     let down = known.1 in
     (omega arith, omega arith)
 
-pub run_few : {A : Type 0} (r : Stanzas A) (keep : ℕ) (accounts homes : List (List ℕ)) (all : List events.Event) (w : World) → events.Reaches all (events.beginning keep accounts homes) w →
+pub run_few : {A : Type 0} (r : Stanzas A) (keep : ℕ) (accounts homes : List (List ℕ)) (all : List events.AppEvent) (w : AppWorld) → events.Reaches all (events.beginning keep accounts homes) w →
     (i : ℕ) (d : Device) → slice_get w.devices i ≡ Some d → (says pages : ℕ) → length (spoken_in all) ≤ says → d.reading.asked ≤ pages + 1 → 101 * (says + pages + 4) + says < 2 ^ 32 →
     (v : links.View A) → IsDevice r (seen v) d.sessions → (q : ℕ) (s : links.Session A) → v.sessions q ≡ Some s → (length s.up.put < 2 ^ 32) × (length s.down.put < 2 ^ 32)
 run_few r keep accounts homes all w led i d at says pages spoken asked small v is q s there =

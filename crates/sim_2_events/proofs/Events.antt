@@ -7,7 +7,7 @@ use Rattle.sim_2_links.proofs.Entries.{same_number, other_number, at_same, at_ot
 use Rattle.sim_2_links.proofs.CutLinks.{not_true, some_one, some_same}
 use Rattle.sim_2_links.proofs.Hands.{no_entry}
 use Rattle.sim_2_links.specs.Views.{alter, has}
-use Rattle.sim_2_links.specs.Events.{SeenSession, Seen, new_session, Event, Bound, Named, Counted, Known, Ended, Dropped, Said, Handled, Served, Heard, Learned}
+use Rattle.sim_2_links.specs.Events.{SeenSession, Seen, new_session, LinkEvent, Bound, Named, Counted, Known, Ended, Dropped, Said, Handled, Served, Heard, Learned}
 use Rattle.sim_2_links.specs.Events as links
 use Rattle.sim_1_applications.specs.Devices.{Session, Sessions, fresh}
 use Rattle.sim_1_applications.specs.Devices.Row.{NoRow, Unread, Present}
@@ -19,7 +19,7 @@ use Rattle.sim_2_events.proofs.Changes.{IsOf, present_changes}
 use Rattle.sim_2_events.specs.Lists.{Stanzas, IsSession, IsRow, IsOnline, IsDevice, knows}
 use Rattle.sim_2_events.specs.Acts.{MayAct, IsAct}
 
-abbrev pub Leads : {A : Type 0} → Stanzas A → Event A → Seen A → Sessions → Type 0
+abbrev pub Leads : {A : Type 0} → Stanzas A → LinkEvent A → Seen A → Sessions → Type 0
 Leads r e v d = (next : Sessions) × IsAct r e v d next × IsDevice r (links.after e v) next
 
 -- the session that the server has live, where it has the present epoch, and the client's

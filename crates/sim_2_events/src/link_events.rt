@@ -1,7 +1,7 @@
 //! The moves of the links as acts of the two applications.
 ghost use Rattle.std.specs.Prelude.{◌≡◌, ℕ, true, false, [], ◌∷◌, List, Option, length, take, nat_lt};
 ghost use Rattle.sim_2_links.specs.Views.{View};
-ghost use Rattle.sim_2_links.specs.Events.{Event, Follows, IsSeenAs, Seen, seen};
+ghost use Rattle.sim_2_links.specs.Events.{Follows, IsSeenAs, LinkEvent, Seen, seen};
 ghost use Rattle.sim_2_links.specs.Machine.{LinkMove, LinkMoves, LinkReached, nothing_yet};
 ghost use Rattle.sim_2_links.specs.Telling.{Tells};
 ghost use Rattle.sim_1_applications.specs.Stanzas.{Down, Up};
@@ -17,8 +17,8 @@ ghost use Rattle.sim_2_events.specs.Acts.{ActsLead, AreActs};
 pub fn moves_are_acts_of_sessions<A>()
     ensures begins { (r : Stanzas A) → IsDevice r (seen nothing_yet) no_sessions }
     ensures moves { (r : Stanzas A) (move : LinkMove A) (v next : View A) (d : Sessions) → LinkReached v → LinkMoves move v next → IsDevice r (seen v) d →
-        (e : Option (Event A)) × Tells move v e × IsSeenAs e (seen v) (seen next) × ((after : Sessions) × AreActs r e (seen v) d after × IsDevice r (seen next) after) }
-    ensures runs { (r : Stanzas A) (v : View A) → LinkReached v → (es : List (Event A)) × Follows es (seen nothing_yet) (seen v) × ((d : Sessions) × ActsLead r es (seen nothing_yet) no_sessions d × IsDevice r (seen v) d) }
+        (e : Option (LinkEvent A)) × Tells move v e × IsSeenAs e (seen v) (seen next) × ((after : Sessions) × AreActs r e (seen v) d after × IsDevice r (seen next) after) }
+    ensures runs { (r : Stanzas A) (v : View A) → LinkReached v → (es : List (LinkEvent A)) × Follows es (seen nothing_yet) (seen v) × ((d : Sessions) × ActsLead r es (seen nothing_yet) no_sessions d × IsDevice r (seen v) d) }
 {}
 
 /// An act with more than one stanza is its event and those of the stanzas behind it: the client puts two as it hears that

@@ -14,7 +14,7 @@ use Rattle.sim_2_links.specs.Stages.{Stage, Reoffered, AsksResume, Refused, Resu
 use Rattle.sim_2_links.specs.Views.{with_at, alter, has, Session, Row, Own, View, on_phase, session_on, carries}
 use Rattle.sim_2_links.specs.LinkMoves.{told_if}
 use Rattle.sim_2_links.specs.SessionMoves.{IsAskResume, IsAskBind, IsRefused}
-use Rattle.sim_2_links.specs.Links.{carried_of, ArePiped, IsAsked, FitsOwn, is_yet, ConnKept, IsQuiet, IsPlaced, OwnKept, SessionKept, IsCarried, LinkKept}
+use Rattle.sim_2_links.specs.Links.{carried_of, ArePiped, IsAsked, FitsOwn, is_yet, ConnKept, IsIdle, IsPlaced, OwnKept, SessionKept, IsCarried, LinkKept}
 
 -- the client states its count, and nothing else changes
 
@@ -52,12 +52,12 @@ told_keeps {A = A} v p s is counted kept = record {
   sessions = λ q t found. let w = was f v.sessions q t found in subst SessionKept w.2 (told_kept (has (Some p) q) w.0 (λ e. subst (λ (x : Session A). x.counted ≡ true) (same_session v p q s w.0 is e w.1) counted) (kept.sessions q w.0 w.1));
   goes_down = λ n d q here found carried. let before = kept.goes_down n d q here found carried in
       (f q before.0, altered f v.sessions q before.0 before.1, record { counted = before.2.counted; way = before.2.way; is_open = before.2.is_open; counts = before.2.counts });
-  quiet_up = λ q t found yes_counted.
+  idle_up = λ q t found yes_counted.
       let w = was f v.sessions q t found in
-      elim (kept.quiet_up q w.0 w.1 (ap (λ (x : Session A). x.counted) w.2 ∙ yes_counted)) [ inl quiet ↦ inl (subst (λ (x : Session A). IsQuiet x.up) w.2 (record { way = quiet.way; is_open = quiet.is_open })) | inr x ↦ inr x ];
-  quiet_down = λ q t found yes_counted.
+      elim (kept.idle_up q w.0 w.1 (ap (λ (x : Session A). x.counted) w.2 ∙ yes_counted)) [ inl quiet ↦ inl (subst (λ (x : Session A). IsIdle x.up) w.2 (record { way = quiet.way; is_open = quiet.is_open })) | inr x ↦ inr x ];
+  idle_down = λ q t found yes_counted.
       let w = was f v.sessions q t found in
-      elim (kept.quiet_down q w.0 w.1 (ap (λ (x : Session A). x.counted) w.2 ∙ yes_counted)) [ inl quiet ↦ inl (subst (λ (x : Session A). IsQuiet x.down) w.2 (record { way = quiet.way; is_open = quiet.is_open })) | inr x ↦ inr x ];
+      elim (kept.idle_down q w.0 w.1 (ap (λ (x : Session A). x.counted) w.2 ∙ yes_counted)) [ inl quiet ↦ inl (subst (λ (x : Session A). IsIdle x.down) w.2 (record { way = quiet.way; is_open = quiet.is_open })) | inr x ↦ inr x ];
   late = kept.late;
 }
   where
@@ -83,8 +83,8 @@ unheld_keeps {A = A} v k old new s own here is off bare at off' bare' yet piped 
   own = own_kept;
   sessions = kept.sessions;
   goes_down = λ n c p e found carried. absurd (silent n c p e carried (entry k new v.conns n c found));
-  quiet_up = kept.quiet_up;
-  quiet_down = λ p t found counted. elim (kept.quiet_down p t found counted) [ inl q ↦ inl q | inr c ↦ absurd (before p c) ];
+  idle_up = kept.idle_up;
+  idle_down = λ p t found counted. elim (kept.idle_down p t found counted) [ inl q ↦ inl q | inr c ↦ absurd (before p c) ];
   late = λ n c p found away on carried. absurd (after p carried);
 }
   where

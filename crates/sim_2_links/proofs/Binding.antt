@@ -12,7 +12,7 @@ use Rattle.sim_2_links.specs.Wires.{Wires, up_whole, down_whole, send_down, left
 use Rattle.sim_2_links.specs.Stages.{Stage, Greets, Greeted, Offered, Proves, Challenged, Answers, Succeeded, Regreets, Regreeted, Reoffered, AsksResume, Refused, Resumes, AsksBind, Binds, AsksEnable, Enables, Runs, client_of, up_of, down_of, Stands, tail_of, foot_of, Conn}
 use Rattle.sim_2_links.specs.Views.{Table, with_at, has, Session, Row, Own, View, on_phase, session_on, carried_by, carries}
 use Rattle.sim_2_links.specs.SessionMoves.{unread, IsBound}
-use Rattle.sim_2_links.specs.Links.{IsAsked, FitsOwn, ConnKept, GoesDown, IsQuiet, RowKept, OwnKept, SessionKept, IsCarried, LinkKept}
+use Rattle.sim_2_links.specs.Links.{IsAsked, FitsOwn, ConnKept, GoesDown, IsIdle, RowKept, OwnKept, SessionKept, IsCarried, LinkKept}
 
 pub record Binding {A : Type 0} (s : Stage A) (tail rest : List (UpWord A)) : Type 0 where
   pub is : s ≡ AsksBind
@@ -107,8 +107,8 @@ bound_keeps {A = A} k number v next m kept = subst LinkKept (sym m.gives) (recor
   };
   sessions = λ q s found. session q s (entry number unread v.sessions q s found);
   goes_down = λ n d q here found carried. down n d q here carried (entry k this v.conns n d found);
-  quiet_up = λ q s found counted. quiet_up q s counted (entry number unread v.sessions q s found);
-  quiet_down = λ q s found counted. quiet_down q s counted (entry number unread v.sessions q s found);
+  idle_up = λ q s found counted. idle_up q s counted (entry number unread v.sessions q s found);
+  idle_down = λ q s found counted. idle_down q s counted (entry number unread v.sessions q s found);
   late = λ n d q found away on carried. absurd (late n d q on (back q carried) (entry k this v.conns n d found));
 })
   where
@@ -208,13 +208,13 @@ bound_keeps {A = A} k number v next m kept = subst LinkKept (sym m.gives) (recor
         by (New same is) = absurd (silent (send_down (Bound number ∷ []) (left_up m.rest m.conn.wires)) q (subst (λ x. carries x ≡ Some q) (sym is) carried))
         by (Old ne there) = (n, d, here, there, carried)
 
-    quiet_up : (q : ℕ) (s : Session A) → s.counted ≡ true → Entry number unread v.sessions q s → IsQuiet s.up ⊎ ((x : Row A) × (Some new ≡ Some x) × (x.number ≡ q))
-    quiet_up q s counted (New same this) = absurd (not_true {b = s.counted} (ap (λ (x : Session A). x.counted) (sym this)) counted)
-    quiet_up q s counted (Old ne there) = elim (kept.quiet_up q s there counted) [ inl quiet ↦ inl quiet | inr x ↦ absurd (no_row x.0 x.1) ]
+    idle_up : (q : ℕ) (s : Session A) → s.counted ≡ true → Entry number unread v.sessions q s → IsIdle s.up ⊎ ((x : Row A) × (Some new ≡ Some x) × (x.number ≡ q))
+    idle_up q s counted (New same this) = absurd (not_true {b = s.counted} (ap (λ (x : Session A). x.counted) (sym this)) counted)
+    idle_up q s counted (Old ne there) = elim (kept.idle_up q s there counted) [ inl quiet ↦ inl quiet | inr x ↦ absurd (no_row x.0 x.1) ]
 
-    quiet_down : (q : ℕ) (s : Session A) → s.counted ≡ true → Entry number unread v.sessions q s → IsQuiet s.down ⊎ IsCarried (record v { conns = with_at k this v.conns; row = Some new; sessions = with_at number unread v.sessions; free = number + 1 }) q
-    quiet_down q s counted (New same this) = absurd (not_true {b = s.counted} (ap (λ (x : Session A). x.counted) (sym this)) counted)
-    quiet_down q s counted (Old ne there) = elim (kept.quiet_down q s there counted) [ inl quiet ↦ inl quiet | inr x ↦ inr (carried_on q x) ]
+    idle_down : (q : ℕ) (s : Session A) → s.counted ≡ true → Entry number unread v.sessions q s → IsIdle s.down ⊎ IsCarried (record v { conns = with_at k this v.conns; row = Some new; sessions = with_at number unread v.sessions; free = number + 1 }) q
+    idle_down q s counted (New same this) = absurd (not_true {b = s.counted} (ap (λ (x : Session A). x.counted) (sym this)) counted)
+    idle_down q s counted (Old ne there) = elim (kept.idle_down q s there counted) [ inl quiet ↦ inl quiet | inr x ↦ inr (carried_on q x) ]
 
     late : (n : ℕ) (d : Conn A) (q : ℕ) → session_on d ≡ Some q → IsCarried v q → Entry k this v.conns n d → ⊥
     late n d q on (j, c, here, found, carried) (New same is) =

@@ -11,7 +11,7 @@ use Rattle.sim_2_links.specs.Wires.{Wires, up_words, down_words, up_whole, down_
 use Rattle.sim_2_links.specs.Stages.{Stage, Greets, Greeted, Offered, Proves, Challenged, Answers, Succeeded, Regreets, Regreeted, Reoffered, AsksResume, Refused, Resumes, AsksBind, Binds, AsksEnable, Enables, Runs, Conn, IsAt}
 use Rattle.sim_2_links.specs.Views.{Table, with_at, alter, has, Session, Row, Own, View, session_on, carried_by, carries, cut_if}
 use Rattle.sim_2_links.specs.LinkMoves.{two_cut, ways_cut, IsCut}
-use Rattle.sim_2_links.specs.Links.{UpCounts, DownCounts, ArePiped, IsAsked, FitsOwn, ConnKept, GoesUp, GoesDown, IsQuiet, IsPlaced, RowKept, OwnKept, SessionKept, IsCarried, IsBare, LinkKept}
+use Rattle.sim_2_links.specs.Links.{UpCounts, DownCounts, ArePiped, IsAsked, FitsOwn, ConnKept, GoesUp, GoesDown, IsIdle, IsPlaced, RowKept, OwnKept, SessionKept, IsCarried, IsBare, LinkKept}
 
 pub take_none : {W : Type 0} (i : ℕ) (ws : List W) → ws ≡ [] → take i ws ≡ []
 take_none i ws e = subst (λ x. take i x ≡ []) (sym e) (nothing i)
@@ -83,7 +83,7 @@ fits_cut own epoch works c i j sessions Regreets a = a
 fits_cut own epoch works c i j sessions Regreeted a = a
 fits_cut own epoch works c i j sessions Reoffered a = a
 
-pub quiet_cut : {A : Type 0} (b : Bool) (n : ℕ) (d : Direction A) → IsQuiet d → IsQuiet (cut_if b n d)
+pub quiet_cut : {A : Type 0} (b : Bool) (n : ℕ) (d : Direction A) → IsIdle d → IsIdle (cut_if b n d)
 quiet_cut false n d q = q
 quiet_cut true n d q = record { way = take_none n d.way q.way; is_open = refl }
 
@@ -275,12 +275,12 @@ goes_down_after {A = A} v kept k i j c is n d p here at carried = by (entry k (c
           goes_down_other _ _ (old.0.counted && (has v.here k && has (carries c) p)) _ d old.0 (rw (old.2.counted, works) refl) old.2,
         )
 
-pub quiet_up_after : {A : Type 0} (v : View A) (kept : LinkKept v) (f : ℕ → Session A → Session A) → ((p : ℕ) (s : Session A) → s.counted ≡ (f p s).counted) → ((p : ℕ) (s : Session A) → IsQuiet s.up → IsQuiet (f p s).up) →
-    (p : ℕ) (s : Session A) → alter f v.sessions p ≡ Some s → s.counted ≡ true → IsQuiet s.up ⊎ ((r : Row A) × (v.row ≡ Some r) × (r.number ≡ p))
+pub quiet_up_after : {A : Type 0} (v : View A) (kept : LinkKept v) (f : ℕ → Session A → Session A) → ((p : ℕ) (s : Session A) → s.counted ≡ (f p s).counted) → ((p : ℕ) (s : Session A) → IsIdle s.up → IsIdle (f p s).up) →
+    (p : ℕ) (s : Session A) → alter f v.sessions p ≡ Some s → s.counted ≡ true → IsIdle s.up ⊎ ((r : Row A) × (v.row ≡ Some r) × (r.number ≡ p))
 quiet_up_after v kept f same quiet p s is counted =
     let w = was f v.sessions p s is in
     let before : w.0.counted ≡ true = same p w.0 ∙ ap (λ x. x.counted) w.2 ∙ counted in
-    elim (kept.quiet_up p w.0 w.1 before) [ inl q ↦ inl (subst (λ x. IsQuiet x.up) w.2 (quiet p w.0 q)) | inr row ↦ inr row ]
+    elim (kept.idle_up p w.0 w.1 before) [ inl q ↦ inl (subst (λ x. IsIdle x.up) w.2 (quiet p w.0 q)) | inr row ↦ inr row ]
 
 carried_cut : {A : Type 0} (v : View A) (k i j : ℕ) (c : Conn A) → v.conns k ≡ Some c → (p : ℕ) → IsCarried v p → IsCarried (after_cut v k i j c) p
 carried_cut {A = A} v k i j c is p (n, d, here, at, carried) = by (cases_eq k n)
@@ -335,10 +335,10 @@ cut_keeps {A = A} k i j v next m kept = subst LinkKept (sym m.gives) (record {
   own = λ o own. own_cut v.epoch v.sessions (has v.here k) m.conn i j o (kept.own o own);
   sessions = λ p s is. let w = was (ways_cut (has v.here k) m.conn i j) v.sessions p s is in subst SessionKept w.2 (session_cut (has v.here k) m.conn i j p w.0 (kept.sessions p w.0 w.1));
   goes_down = λ n d p here at carried. goes_down_after v kept k i j m.conn m.is n d p here at carried;
-  quiet_up = quiet_up_after v kept (ways_cut (has v.here k) m.conn i j) (λ p s. refl) (λ p s q. quiet_cut _ _ s.up q);
-  quiet_down = λ p s is counted.
+  idle_up = quiet_up_after v kept (ways_cut (has v.here k) m.conn i j) (λ p s. refl) (λ p s q. quiet_cut _ _ s.up q);
+  idle_down = λ p s is counted.
       let w = was (ways_cut (has v.here k) m.conn i j) v.sessions p s is in
       let before : w.0.counted ≡ true = ap (λ x. x.counted) w.2 ∙ counted in
-      elim (kept.quiet_down p w.0 w.1 before) [ inl q ↦ inl (subst (λ x. IsQuiet x.down) w.2 (quiet_cut _ _ w.0.down q)) | inr c ↦ inr (carried_cut v k i j m.conn m.is p c) ];
+      elim (kept.idle_down p w.0 w.1 before) [ inl q ↦ inl (subst (λ x. IsIdle x.down) w.2 (quiet_cut _ _ w.0.down q)) | inr c ↦ inr (carried_cut v k i j m.conn m.is p c) ];
   late = λ n d p at away on carried. late_cut v kept k i j m.conn m.is n d p at away on (carried_uncut v k i j m.conn m.is p carried);
 })

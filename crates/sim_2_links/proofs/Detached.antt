@@ -16,7 +16,7 @@ use Rattle.sim_2_links.specs.Wires.{Wires, Flow, Stop, is_flowing, up_words, dow
 use Rattle.sim_2_links.specs.Stages.{Stage, Greets, Greeted, Offered, Proves, Challenged, Answers, Succeeded, Regreets, Regreeted, Reoffered, AsksResume, Refused, Resumes, AsksBind, Binds, AsksEnable, Enables, Runs, client_of, up_of, down_of, Ending, Stands, Errs, Closes, tail_of, foot_of, Conn, IsAt}
 use Rattle.sim_2_links.specs.Views.{Table, with_at, alter, has, Session, Row, Own, View, on_phase, session_on, carried_by, carries, cut_if}
 use Rattle.sim_2_links.specs.SessionMoves.{shut, IsReason, lost_if, IsDetached, IsRowEnded}
-use Rattle.sim_2_links.specs.Links.{carried_of, IsFair, ArePiped, DownCounts, IsAsked, FitsOwn, ConnKept, GoesDown, IsQuiet, IsPlaced, RowKept, SessionKept, IsCarried, LinkKept}
+use Rattle.sim_2_links.specs.Links.{carried_of, IsFair, ArePiped, DownCounts, IsAsked, FitsOwn, ConnKept, GoesDown, IsIdle, IsPlaced, RowKept, SessionKept, IsCarried, LinkKept}
 
 carried_row : {A : Type 0} (s : Stage A) (end : Ending) → carried_by (client_of s) (down_of s ++ tail_of end) ≡ carried_of s
 carried_row (Resumes p h downs) end = refl
@@ -161,7 +161,7 @@ halted_counts Closes low stated (Flow us ds) u = down_counts_with low stated ds 
 halted_counts (Errs cause) low stated (Flow us ds) u = subst (λ l. DownCounts low stated l) (append_assoc ds (Err cause ∷ []) (End ∷ [])) (down_counts_with low stated (ds ++ Err cause ∷ []) End (λ n. tt) (down_counts_with low stated ds (Err cause) (λ n. tt) u))
 halted_counts end low stated (Stop us ds lu ld) u = u
 
-quiet_lost : {A : Type 0} (b c : Bool) (s : Session A) → IsQuiet s.down → IsQuiet (lost_if b c s).down
+quiet_lost : {A : Type 0} (b c : Bool) (s : Session A) → IsIdle s.down → IsIdle (lost_if b c s).down
 quiet_lost b false s q = record { way = q.way; is_open = q.is_open }
 quiet_lost b true s q = record { way = q.way; is_open = refl }
 
@@ -200,17 +200,17 @@ detached_keeps {A = A} k ending v next m kept = subst LinkKept (sym m.gives) (re
   };
   sessions = λ q t found. let w = was f v.sessions q t found in subst SessionKept w.2 (lost_kept (has (Some m.row.number) q) (has v.here k && has (carries m.conn) q) w.0 (λ e. subst (λ (x : Session A). x.counted ≡ true) (mine q w.0 e w.1) counted) (kept.sessions q w.0 w.1));
   goes_down = λ n d q here found carried. down n d q here carried (entry k this v.conns n d found);
-  quiet_up = λ q t found yes_counted.
+  idle_up = λ q t found yes_counted.
       let w = was f v.sessions q t found in
       let before : w.0.counted ≡ true = ap (λ (x : Session A). x.counted) w.2 ∙ yes_counted in
-      elim (kept.quiet_up q w.0 w.1 before) [
-        | inl still ↦ inl (subst (λ (x : Session A). IsQuiet x.up) w.2 (quiet_cut (has (Some m.row.number) q) 0 w.0.up still))
+      elim (kept.idle_up q w.0 w.1 before) [
+        | inl still ↦ inl (subst (λ (x : Session A). IsIdle x.up) w.2 (quiet_cut (has (Some m.row.number) q) 0 w.0.up still))
         | inr x ↦ inr (new, refl, ap (λ (r : Row A). r.number) (some_one v.row m.row x.0 m.is_row x.1) ∙ x.2)
       ];
-  quiet_down = λ q t found yes_counted.
+  idle_down = λ q t found yes_counted.
       let w = was f v.sessions q t found in
       let before : w.0.counted ≡ true = ap (λ (x : Session A). x.counted) w.2 ∙ yes_counted in
-      elim (kept.quiet_down q w.0 w.1 before) [ inl still ↦ inl (subst (λ (x : Session A). IsQuiet x.down) w.2 (quiet_lost (has (Some m.row.number) q) (w.0.counted && (has v.here k && has (carries m.conn) q)) w.0 still)) | inr x ↦ inr (carried_on q x) ];
+      elim (kept.idle_down q w.0 w.1 before) [ inl still ↦ inl (subst (λ (x : Session A). IsIdle x.down) w.2 (quiet_lost (has (Some m.row.number) q) (w.0.counted && (has v.here k && has (carries m.conn) q)) w.0 still)) | inr x ↦ inr (carried_on q x) ];
   late = λ n d q found away on carried. absurd (nowhere n d q on (entry k this v.conns n d found));
 })
   where
@@ -371,17 +371,17 @@ row_ended_keeps {A = A} v next m kept = subst LinkKept (sym m.gives) (record {
   own = kept.own;
   sessions = kept.sessions;
   goes_down = kept.goes_down;
-  quiet_up = λ q s found counted. elim (kept.quiet_up q s found counted) [ inl still ↦ inl still | inr x ↦ inl (parked q s found x) ];
-  quiet_down = kept.quiet_down;
+  idle_up = λ q s found counted. elim (kept.idle_up q s found counted) [ inl still ↦ inl still | inr x ↦ inl (parked q s found x) ];
+  idle_down = kept.idle_down;
   late = kept.late;
 })
   where
     none : (n : ℕ) (x : Row A) → v.row ≡ Some x → x.on ≡ Some n → ⊥
     none n x is on = let same : x ≡ m.row = some_one v.row x m.row is m.is_row in no_entry n (sym m.off ∙ subst (λ (y : Row A). y.on ≡ Some n) same on)
 
-    parked : (q : ℕ) (s : Session A) → v.sessions q ≡ Some s → (x : Row A) × (v.row ≡ Some x) × (x.number ≡ q) → IsQuiet s.up
+    parked : (q : ℕ) (s : Session A) → v.sessions q ≡ Some s → (x : Row A) × (v.row ≡ Some x) × (x.number ≡ q) → IsIdle s.up
     parked q s found x =
         let row = kept.row m.row m.is_row in
         let placed : IsPlaced v.conns m.row row.session None = subst (λ o. IsPlaced v.conns m.row row.session o) m.off row.placed in
         let number : m.row.number ≡ q = ap (λ (r : Row A). r.number) (some_one v.row m.row x.0 m.is_row x.1) ∙ x.2 in
-        subst (λ (y : Session A). IsQuiet y.up) (some_one (v.sessions q) row.session s (subst (λ n. v.sessions n ≡ Some row.session) number row.is) found) placed.1
+        subst (λ (y : Session A). IsIdle y.up) (some_one (v.sessions q) row.session s (subst (λ n. v.sessions n ≡ Some row.session) number row.is) found) placed.1

@@ -17,7 +17,7 @@ use Rattle.sim_2_links.specs.Wires.{Wires, Flow, Stop, is_flowing, up_words, dow
 use Rattle.sim_2_links.specs.Stages.{Stage, Greets, Greeted, Offered, Proves, Challenged, Answers, Succeeded, Regreets, Regreeted, Reoffered, AsksResume, Refused, Resumes, AsksBind, Binds, AsksEnable, Enables, Runs, client_of, phase_of, up_of, down_of, Stands, tail_of, foot_of, Conn, IsAt}
 use Rattle.sim_2_links.specs.Views.{Table, with_at, alter, has, Session, Row, Own, View, on_phase, session_on, carries, sends}
 use Rattle.sim_2_links.specs.SessionMoves.{IsEnabled}
-use Rattle.sim_2_links.specs.Links.{UpCounts, DownCounts, IsAsked, FitsOwn, ConnKept, GoesUp, GoesDown, IsQuiet, IsPlaced, RowKept, SessionKept, IsCarried, IsBare, LinkKept}
+use Rattle.sim_2_links.specs.Links.{UpCounts, DownCounts, IsAsked, FitsOwn, ConnKept, GoesUp, GoesDown, IsIdle, IsPlaced, RowKept, SessionKept, IsCarried, IsBare, LinkKept}
 
 pub record AsksEnabled {A : Type 0} (s : Stage A) (tail rest : List (UpWord A)) : Type 0 where
   pub m : ℕ
@@ -142,8 +142,8 @@ enabled_keeps {A = A} k v next m kept = subst LinkKept (sym m.gives) (record {
   };
   sessions = λ q s found. let w = was f v.sessions q s found in subst SessionKept w.2 (enabled_kept (has (Some m.row.number) q) (is_flowing m.conn.wires) w.0 (λ e. subst (λ (x : Session A). (x.counted ≡ false) × ((e : ℕ) × (x.epoch ≡ Some e))) (mine q w.0 e w.1) (uncounted, named)) (kept.sessions q w.0 w.1));
   goes_down = λ n d q here found carried. down n d q here carried (entry k this v.conns n d found);
-  quiet_up = λ q t found yes_counted. quiet_up q t (was f v.sessions q t found) yes_counted (cases_eq m.row.number q);
-  quiet_down = λ q t found yes_counted. quiet_down q t (was f v.sessions q t found) yes_counted (cases_eq m.row.number q);
+  idle_up = λ q t found yes_counted. idle_up q t (was f v.sessions q t found) yes_counted (cases_eq m.row.number q);
+  idle_down = λ q t found yes_counted. idle_down q t (was f v.sessions q t found) yes_counted (cases_eq m.row.number q);
   late = λ n d q found away on carried. absurd (late n d q away on carried (entry k this v.conns n d found));
 })
   where
@@ -314,29 +314,29 @@ enabled_keeps {A = A} k v next m kept = subst LinkKept (sym m.gives) (record {
         let apart : m.row.number ≢ q = λ e. never q e (n, d, here, there, carried) in
         (f q before.0, altered f v.sessions q before.0 before.1, subst (λ x. GoesDown d x) (sym (enabled_other m.row.number (is_flowing m.conn.wires) q before.0 apart)) before.2)
 
-    quiet_up : (q : ℕ) (t : Session A) → (s : Session A) × (v.sessions q ≡ Some s) × (f q s ≡ t) → t.counted ≡ true → (m.row.number ≡ q) ⊎ (m.row.number ≡ q → ⊥) → IsQuiet t.up ⊎ ((r : Row A) × (Some new ≡ Some r) × (r.number ≡ q))
-    quiet_up q t w yes_counted (inl same) = inr (new, refl, same)
-    quiet_up q t w yes_counted (inr ne) =
+    idle_up : (q : ℕ) (t : Session A) → (s : Session A) × (v.sessions q ≡ Some s) × (f q s ≡ t) → t.counted ≡ true → (m.row.number ≡ q) ⊎ (m.row.number ≡ q → ⊥) → IsIdle t.up ⊎ ((r : Row A) × (Some new ≡ Some r) × (r.number ≡ q))
+    idle_up q t w yes_counted (inl same) = inr (new, refl, same)
+    idle_up q t w yes_counted (inr ne) =
         let stays : w.0 ≡ t = sym (enabled_other m.row.number (is_flowing m.conn.wires) q w.0 ne) ∙ w.2 in
-        elim (kept.quiet_up q w.0 w.1 (ap (λ (x : Session A). x.counted) stays ∙ yes_counted)) [
-          | inl still ↦ inl (subst (λ (x : Session A). IsQuiet x.up) stays still)
+        elim (kept.idle_up q w.0 w.1 (ap (λ (x : Session A). x.counted) stays ∙ yes_counted)) [
+          | inl still ↦ inl (subst (λ (x : Session A). IsIdle x.up) stays still)
           | inr x ↦ absurd (ne (ap (λ (r : Row A). r.number) (some_one v.row m.row x.0 m.is_row x.1) ∙ x.2))
         ]
 
-    quiet_down : (q : ℕ) (t : Session A) → (s : Session A) × (v.sessions q ≡ Some s) × (f q s ≡ t) → t.counted ≡ true → (m.row.number ≡ q) ⊎ (m.row.number ≡ q → ⊥) →
-        IsQuiet t.down ⊎ IsCarried (record v { conns = with_at k this v.conns; row = Some new; sessions = alter f v.sessions }) q
-    quiet_down q t w yes_counted (inl same) = elim (cases_Bool (has v.here k)) [
+    idle_down : (q : ℕ) (t : Session A) → (s : Session A) × (v.sessions q ≡ Some s) × (f q s ≡ t) → t.counted ≡ true → (m.row.number ≡ q) ⊎ (m.row.number ≡ q → ⊥) →
+        IsIdle t.down ⊎ IsCarried (record v { conns = with_at k this v.conns; row = Some new; sessions = alter f v.sessions }) q
+    idle_down q t w yes_counted (inl same) = elim (cases_Bool (has v.here k)) [
       | inl e ↦ inr (k, this, has_is v.here k e, at_same k this v.conns, carries_this ∙ ap Some same)
       | inr e ↦
           let dead : is_flowing m.conn.wires ≡ false = stopped_away (has v.here k) m.conn old.piped e in
-          let quiet : IsQuiet (f m.row.number row.session).down = record { way = ap (λ (d : Direction A). d.way) begun.1; is_open = rw same_number dead } in
+          let quiet : IsIdle (f m.row.number row.session).down = record { way = ap (λ (d : Direction A). d.way) begun.1; is_open = rw same_number dead } in
           let one : f m.row.number row.session ≡ t = ap (f m.row.number) (some_one (v.sessions q) row.session w.0 (subst (λ x. v.sessions x ≡ Some row.session) same row.is) w.1) ∙ ap (λ (n : ℕ). f n w.0) same ∙ w.2 in
-          inl (subst (λ (x : Session A). IsQuiet x.down) one quiet)
+          inl (subst (λ (x : Session A). IsIdle x.down) one quiet)
     ]
-    quiet_down q t w yes_counted (inr ne) =
+    idle_down q t w yes_counted (inr ne) =
         let stays : w.0 ≡ t = sym (enabled_other m.row.number (is_flowing m.conn.wires) q w.0 ne) ∙ w.2 in
-        elim (kept.quiet_down q w.0 w.1 (ap (λ (x : Session A). x.counted) stays ∙ yes_counted)) [
-          | inl still ↦ inl (subst (λ (x : Session A). IsQuiet x.down) stays still)
+        elim (kept.idle_down q w.0 w.1 (ap (λ (x : Session A). x.counted) stays ∙ yes_counted)) [
+          | inl still ↦ inl (subst (λ (x : Session A). IsIdle x.down) stays still)
           | inr x ↦ inr (carried_on q x)
         ]
       where

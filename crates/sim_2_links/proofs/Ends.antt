@@ -27,8 +27,8 @@ left_keeps {A = A} v k old new s away is off off' at yet counts piped asked kept
   own = kept.own;
   sessions = kept.sessions;
   goes_down = λ n c p here found carried. down n c p here carried (entry k new v.conns n c found);
-  quiet_up = kept.quiet_up;
-  quiet_down = λ p t found counted. elim (kept.quiet_down p t found counted) [ inl q ↦ inl q | inr c ↦ inr (c.0, c.1, c.2, at_other k new v.conns c.0 (apart c.0 c.2) ∙ c.3, c.4) ];
+  idle_up = kept.idle_up;
+  idle_down = λ p t found counted. elim (kept.idle_down p t found counted) [ inl q ↦ inl q | inr c ↦ inr (c.0, c.1, c.2, at_other k new v.conns c.0 (apart c.0 c.2) ∙ c.3, c.4) ];
   late = λ n c p found gone on carried. late n c p gone on (back p carried) (entry k new v.conns n c found);
 }
   where
@@ -121,8 +121,8 @@ gone_keeps {A = A} k v next m kept = subst LinkKept (sym m.gives) (record {
   own = kept.own;
   sessions = kept.sessions;
   goes_down = λ n d q here found carried. down n d q here carried (entry k this v.conns n d found);
-  quiet_up = kept.quiet_up;
-  quiet_down = λ q t found counted. elim (kept.quiet_down q t found counted) [ inl quiet ↦ inl quiet | inr x ↦ inr (carried_on q x) ];
+  idle_up = kept.idle_up;
+  idle_down = λ q t found counted. elim (kept.idle_down q t found counted) [ inl quiet ↦ inl quiet | inr x ↦ inr (carried_on q x) ];
   late = λ n d q found away on carried. late n d q away on (back q carried) (entry k this v.conns n d found);
 })
   where

@@ -7,7 +7,7 @@ use Rattle.sim_2_links.proofs.Hands.{no_entry}
 use Rattle.sim_2_links.proofs.Numbers.{reached_rises}
 use Rattle.sim_2_links.proofs.Seen.{run_seen}
 use Rattle.sim_2_links.specs.Views.{View, Session, Table, has, alter}
-use Rattle.sim_2_links.specs.Events.{Seen, SeenSession, seen, seen_as, seen_session, new_session, Event, Bound, Named, Counted, Known, Ended, Dropped, Said, Handled, Served, Heard, Learned, Follows}
+use Rattle.sim_2_links.specs.Events.{Seen, SeenSession, seen, seen_as, seen_session, new_session, LinkEvent, Bound, Named, Counted, Known, Ended, Dropped, Said, Handled, Served, Heard, Learned, Follows}
 use Rattle.sim_2_links.specs.Events as links
 use Rattle.sim_2_links.specs.Machine.{LinkReached, nothing_yet}
 
@@ -101,7 +101,7 @@ named_within {A = A} m s may kept = record {
         let old = kept.each q e t at (sym (ap (λ b. cond b (Some (s.epoch + 1)) t.epoch) there) ∙ is) in
         (old.0, let low = old.1 in omega arith)
 
-event_within : {A : Type 0} (e : Event A) (s : Seen A) → links.May e s → AreWithin s → AreWithin (links.after e s)
+event_within : {A : Type 0} (e : LinkEvent A) (s : Seen A) → links.May e s → AreWithin s → AreWithin (links.after e s)
 event_within (Bound m) s may kept = bound_within m s may kept
 event_within (Named m) s may kept = named_within m s may kept
 event_within (Counted p) s may kept = same_epochs _ s (links.after (Counted p) s) (λ q t. refl) refl refl kept
@@ -114,7 +114,7 @@ event_within (Served p z) s may kept = same_epochs _ s (links.after (Served p z)
 event_within (Heard p z) s may kept = same_epochs _ s (links.after (Heard p z) s) (λ q t. refl) refl refl kept
 event_within (Learned p n) s may kept = same_epochs _ s (links.after (Learned p n) s) (λ q t. refl) refl refl kept
 
-along_within : {A : Type 0} (es : List (Event A)) (s last : Seen A) → Follows es s last → AreWithin s → AreWithin last
+along_within : {A : Type 0} (es : List (LinkEvent A)) (s last : Seen A) → Follows es s last → AreWithin s → AreWithin last
 along_within [] s last same kept = subst AreWithin (sym same) kept
 along_within (e ∷ es) s last follows kept = along_within es (links.after e s) last follows.1 (event_within e s follows.0 kept)
 

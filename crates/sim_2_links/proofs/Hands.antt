@@ -11,7 +11,7 @@ use Rattle.sim_2_links.specs.Stages.{Stage, Greets, AsksResume, Refused, Resumes
 use Rattle.sim_2_links.specs.Views.{Table, with_at, has, Session, Row, Own, View, on_phase, session_on, carried_by, carries}
 use Rattle.sim_2_links.specs.LinkMoves.{IsLetGo, dialled, IsDialled, IsUpHand, IsDownHand}
 use Rattle.sim_2_links.specs.Machine.{nothing_yet}
-use Rattle.sim_2_links.specs.Links.{carried_of, ArePiped, IsAsked, FitsOwn, is_yet, ConnKept, GoesDown, IsQuiet, IsPlaced, RowKept, IsCarried, IsBare, LinkKept}
+use Rattle.sim_2_links.specs.Links.{carried_of, ArePiped, IsAsked, FitsOwn, is_yet, ConnKept, GoesDown, IsIdle, IsPlaced, RowKept, IsCarried, IsBare, LinkKept}
 
 pub no_entry : {B C : Type 0} (b : B) → None ≡ Some b → C
 no_entry b e = absurd (let no_way : ⊥ = cc in no_way)
@@ -24,8 +24,8 @@ beginning_keeps = record {
   own = λ o own. no_entry o own;
   sessions = λ p s is. no_entry s is;
   goes_down = λ k c p here at carried. no_entry c at;
-  quiet_up = λ p s is counted. no_entry s is;
-  quiet_down = λ p s is counted. no_entry s is;
+  idle_up = λ p s is counted. no_entry s is;
+  idle_down = λ p s is counted. no_entry s is;
   late = λ k c p at away on carried. no_entry c at;
 }
 
@@ -39,8 +39,8 @@ let_go_keeps {A = A} k v next m kept = subst LinkKept (sym m.gives) (record {
   own = kept.own;
   sessions = kept.sessions;
   goes_down = λ n c p here at carried. no_entry n here;
-  quiet_up = kept.quiet_up;
-  quiet_down = λ p s is counted. elim (kept.quiet_down p s is counted) [ inl q ↦ inl q | inr c ↦ inl (carried_quiet p s is c) ];
+  idle_up = kept.idle_up;
+  idle_down = λ p s is counted. elim (kept.idle_down p s is counted) [ inl q ↦ inl q | inr c ↦ inl (carried_quiet p s is c) ];
   late = λ n c p at away on carried. no_entry carried.0 carried.2;
 })
   where
@@ -84,13 +84,13 @@ let_go_keeps {A = A} k v next m kept = subst LinkKept (sym m.gives) (record {
           counting = old.counting;
         }
 
-    carried_quiet : (p : ℕ) (s : Session A) → v.sessions p ≡ Some s → IsCarried v p → IsQuiet s.down
+    carried_quiet : (p : ℕ) (s : Session A) → v.sessions p ≡ Some s → IsCarried v p → IsIdle s.down
     carried_quiet p s is (n, c, here, at, carried) =
         let same : k ≡ n = let e = m.here in cc in
         let one : m.conn ≡ c = some_one (v.conns n) m.conn c (subst (λ x. v.conns x ≡ Some m.conn) same m.is) at in
         let old = kept.goes_down n c p here at carried in
         let this : old.0 ≡ s = some_one (v.sessions p) old.0 s old.1 is in
-        subst (λ x. IsQuiet x.down) this (record {
+        subst (λ x. IsIdle x.down) this (record {
           way = old.2.way ∙ ap down_stanzas (subst (λ x. down_words x.wires ≡ []) one m.empty);
           is_open = old.2.is_open ∙ subst (λ x. is_flowing x.wires ≡ false) one m.ended;
         })
@@ -128,8 +128,8 @@ dial_keeps {A = A} k v next m kept = subst LinkKept (sym m.gives) (record {
   own = kept.own;
   sessions = kept.sessions;
   goes_down = λ n c p here at carried. silent n c p here (entry k dialled v.conns n c at) carried;
-  quiet_up = kept.quiet_up;
-  quiet_down = λ p s is counted. elim (kept.quiet_down p s is counted) [ inl q ↦ inl q | inr c ↦ no_entry c.0 (sym m.idle ∙ c.2) ];
+  idle_up = kept.idle_up;
+  idle_down = λ p s is counted. elim (kept.idle_down p s is counted) [ inl q ↦ inl q | inr c ↦ no_entry c.0 (sym m.idle ∙ c.2) ];
   late = λ n c p at away on carried. none_carried p carried;
 })
   where
@@ -247,8 +247,8 @@ plain_keeps {A = A} v k old new s s' is at plain at' plain' piped kept = record 
   own = kept.own;
   sessions = kept.sessions;
   goes_down = λ n c p here found carried. down n c p here carried (entry k new v.conns n c found);
-  quiet_up = kept.quiet_up;
-  quiet_down = λ p t found counted. elim (kept.quiet_down p t found counted) [ inl q ↦ inl q | inr c ↦ inr (carried_on p c) ];
+  idle_up = kept.idle_up;
+  idle_down = λ p t found counted. elim (kept.idle_down p t found counted) [ inl q ↦ inl q | inr c ↦ inr (carried_on p c) ];
   late = λ n c p found away on carried. late n c p away on (carried_back p carried) (entry k new v.conns n c found);
 }
   where

@@ -17,7 +17,7 @@ use Rattle.sim_2_links.specs.Wires.{Wires, Flow, Stop, is_flowing, up_words, dow
 use Rattle.sim_2_links.specs.Stages.{Stage, AsksResume, Resumes, AsksEnable, Runs, client_of, phase_of, up_of, down_of, Ending, Stands, Errs, Closes, tail_of, foot_of, Conn, IsAt}
 use Rattle.sim_2_links.specs.Views.{Table, with_at, alter, has, Session, Row, Own, View, on_phase, session_on, carried_by, carries, sends}
 use Rattle.sim_2_links.specs.LinkMoves.{read_if, IsDownStanza, told_if, IsDownRequest, heard_if, IsDownCount}
-use Rattle.sim_2_links.specs.Links.{carried_of, UpCounts, DownCounts, ArePiped, IsAsked, ConnKept, GoesUp, GoesDown, IsQuiet, IsPlaced, RowKept, OwnKept, SessionKept, IsCarried, IsBare, LinkKept}
+use Rattle.sim_2_links.specs.Links.{carried_of, UpCounts, DownCounts, ArePiped, IsAsked, ConnKept, GoesUp, GoesDown, IsIdle, IsPlaced, RowKept, OwnKept, SessionKept, IsCarried, IsBare, LinkKept}
 
 pub record RunsDown {A : Type 0} (s : Stage A) (p : ℕ) : Type 0 where
   pub ups : List (Traffic A)
@@ -52,7 +52,7 @@ abbrev pub answered : {A : Type 0} → Conn A → List (DownWord A) → List (Tr
 answered c rest puts = record c { wires = send_up (map Up puts) (left_down rest c.wires) }
 
 -- what a change of the sessions leaves, for the server's row and for connections that were left
-pub record IsMild {A : Type 0} (p : ℕ) (f : ℕ → Session A → Session A) : Type 0 where
+pub record IsRelayable {A : Type 0} (p : ℕ) (f : ℕ → Session A → Session A) : Type 0 where
   pub counted : (q : ℕ) (s : Session A) → (f q s).counted ≡ s.counted
   pub epoch : (q : ℕ) (s : Session A) → (f q s).epoch ≡ s.epoch
   pub read : (q : ℕ) (s : Session A) → (f q s).read ≡ s.read
@@ -62,10 +62,10 @@ pub record IsMild {A : Type 0} (p : ℕ) (f : ℕ → Session A → Session A) :
   pub put : (q : ℕ) (s : Session A) → (f q s).down.put ≡ s.down.put
   pub others : (q : ℕ) (s : Session A) → p ≢ q → f q s ≡ s
 
-mild_asked : {A : Type 0} (p : ℕ) (f : ℕ → Session A → Session A) (sessions : Table (Session A)) (s : Stage A) → IsMild p f → IsAsked sessions s → IsAsked (alter f sessions) s
-mild_asked p f sessions (AsksResume q h) g (s, is, read, stated) = (f q s, altered f sessions q s is, g.read q s ∙ read, g.stated q s h stated)
-mild_asked p f sessions (AsksEnable m) g (s, e, is, epoch) = (f m s, e, altered f sessions m s is, g.epoch m s ∙ epoch)
-mild_asked p f sessions _ g a = tt
+relayable_asked : {A : Type 0} (p : ℕ) (f : ℕ → Session A → Session A) (sessions : Table (Session A)) (s : Stage A) → IsRelayable p f → IsAsked sessions s → IsAsked (alter f sessions) s
+relayable_asked p f sessions (AsksResume q h) g (s, is, read, stated) = (f q s, altered f sessions q s is, g.read q s ∙ read, g.stated q s h stated)
+relayable_asked p f sessions (AsksEnable m) g (s, e, is, epoch) = (f m s, e, altered f sessions m s is, g.epoch m s ∙ epoch)
+relayable_asked p f sessions _ g a = tt
 
 pub record IsHeard {A : Type 0} (v : View A) (k : ℕ) (c : Conn A) (o new : Own A) (rest : List (DownWord A)) (puts : List (Traffic A)) (f : ℕ → Session A → Session A) : Type 0 where
   pub is : v.conns k ≡ Some c
@@ -74,13 +74,13 @@ pub record IsHeard {A : Type 0} (v : View A) (k : ℕ) (c : Conn A) (o new : Own
   pub client : c.client ≡ InOnline o.number
   pub takes : (downs : List (Traffic A)) → map Down downs ++ tail_of c.ending ≡ down_whole c.wires → (later : List (Traffic A)) × (map Down later ++ tail_of c.ending ≡ down_whole (left_down rest c.wires))
   pub number : new.number ≡ o.number
-  pub mild : IsMild o.number f
+  pub relayable : IsRelayable o.number f
   pub sessions : (q : ℕ) (s : Session A) → v.sessions q ≡ Some s → SessionKept (f q s)
   pub own : OwnKept v.epoch (alter f v.sessions) new
   pub up_other : (q : ℕ) (s : Session A) (d : Conn A) → is_flowing d.wires ≡ false → GoesUp d s → GoesUp d (f q s)
   pub up_this : (s : Session A) → v.sessions o.number ≡ Some s → GoesUp c s → GoesUp (answered c rest puts) (f o.number s)
   pub down : (s : Session A) → v.sessions o.number ≡ Some s → GoesDown c s → GoesDown (answered c rest puts) (f o.number s)
-  pub quiet_up : (q : ℕ) (s : Session A) → IsQuiet s.up → IsQuiet (f q s).up
+  pub idle_up : (q : ℕ) (s : Session A) → IsIdle s.up → IsIdle (f q s).up
 
 pub heard_keeps : {A : Type 0} (v : View A) (k : ℕ) (c : Conn A) (o new : Own A) (rest : List (DownWord A)) (puts : List (Traffic A)) (f : ℕ → Session A → Session A) →
     IsHeard v k c o new rest puts f → LinkKept v → LinkKept (record v { conns = with_at k (answered c rest puts) v.conns; own = Some new; sessions = alter f v.sessions })
@@ -91,11 +91,11 @@ heard_keeps {A = A} v k c o new rest puts f m kept = record {
   own = λ q e. subst (λ x. OwnKept v.epoch (alter f v.sessions) x) (let out : new ≡ q = cc in out) m.own;
   sessions = λ q s found. let w = was f v.sessions q s found in subst SessionKept w.2 (m.sessions q w.0 w.1);
   goes_down = λ n d q here found carried. down n d q here carried (entry k (answered c rest puts) v.conns n d found);
-  quiet_up = λ q s found counted.
+  idle_up = λ q s found counted.
       let w = was f v.sessions q s found in
-      let before : w.0.counted ≡ true = sym (m.mild.counted q w.0) ∙ ap (λ x. x.counted) w.2 ∙ counted in
-      elim (kept.quiet_up q w.0 w.1 before) [ inl quiet ↦ inl (subst (λ x. IsQuiet x.up) w.2 (m.quiet_up q w.0 quiet)) | inr x ↦ inr x ];
-  quiet_down = λ q s found counted. quiet_down q s (was f v.sessions q s found) counted (cases_eq o.number q);
+      let before : w.0.counted ≡ true = sym (m.relayable.counted q w.0) ∙ ap (λ x. x.counted) w.2 ∙ counted in
+      elim (kept.idle_up q w.0 w.1 before) [ inl quiet ↦ inl (subst (λ x. IsIdle x.up) w.2 (m.idle_up q w.0 quiet)) | inr x ↦ inr x ];
+  idle_down = λ q s found counted. idle_down q s (was f v.sessions q s found) counted (cases_eq o.number q);
   late = λ n d q found away on carried. late n d q away on (carried_back q carried) (entry k (answered c rest puts) v.conns n d found);
 }
   where
@@ -158,7 +158,7 @@ heard_keeps {A = A} v k c o new rest puts f m kept = record {
           piped = before.piped;
           stage = before.stage;
           at = before.at;
-          asked = mild_asked o.number f v.sessions before.stage m.mild before.asked;
+          asked = relayable_asked o.number f v.sessions before.stage m.relayable before.asked;
           fits = λ e. absurd (ne (let h : v.here ≡ Some n = has_is v.here n e in let here = m.here in let same : k ≡ n = cc in same));
           attached = before.attached;
           uncounted = before.uncounted;
@@ -166,7 +166,7 @@ heard_keeps {A = A} v k c o new rest puts f m kept = record {
         }
 
     placed : (r : Row A) (s : Session A) → v.row ≡ Some r → v.sessions r.number ≡ Some s → (x : Option ℕ) → IsPlaced v.conns r s x → IsPlaced (with_at k (answered c rest puts) v.conns) r (f r.number s) x
-    placed r s is_row is None (counted, quiet) = (counted, m.quiet_up r.number s quiet)
+    placed r s is_row is None (counted, quiet) = (counted, m.idle_up r.number s quiet)
     placed r s is_row is (Some n) (d, found, held, goes) = by (cases_eq k n)
       where
         by : (k ≡ n) ⊎ (k ≡ n → ⊥) → IsPlaced (with_at k (answered c rest puts) v.conns) r (f r.number s) (Some n)
@@ -175,8 +175,8 @@ heard_keeps {A = A} v k c o new rest puts f m kept = record {
             let held_this : session_on c ≡ Some r.number = subst (λ x. session_on x ≡ Some r.number) one held in
             let mine : o.number ≡ r.number = on_this r.number held_this in
             let goes_this : s.counted ≡ true → GoesUp (answered c rest puts) (f r.number s) = λ e. subst (λ x. GoesUp (answered c rest puts) (f x s)) mine (m.up_this s (subst (λ x. v.sessions x ≡ Some s) (sym mine) is) (subst (λ x. GoesUp x s) one (goes e))) in
-            (answered c rest puts, subst (λ x. with_at k (answered c rest puts) v.conns x ≡ Some (answered c rest puts)) same (at_same k (answered c rest puts) v.conns), held_this, λ e. goes_this (sym (m.mild.counted r.number s) ∙ e))
-        by (inr ne) = (d, at_other k (answered c rest puts) v.conns n ne ∙ found, held, λ e. m.up_other r.number s d (stopped_away (has v.here n) d (kept.conns n d found).piped (here_or_not v n k (λ w. ne (sym w)) m.here)) (goes (sym (m.mild.counted r.number s) ∙ e)))
+            (answered c rest puts, subst (λ x. with_at k (answered c rest puts) v.conns x ≡ Some (answered c rest puts)) same (at_same k (answered c rest puts) v.conns), held_this, λ e. goes_this (sym (m.relayable.counted r.number s) ∙ e))
+        by (inr ne) = (d, at_other k (answered c rest puts) v.conns n ne ∙ found, held, λ e. m.up_other r.number s d (stopped_away (has v.here n) d (kept.conns n d found).piped (here_or_not v n k (λ w. ne (sym w)) m.here)) (goes (sym (m.relayable.counted r.number s) ∙ e)))
 
     row : (r : Row A) → v.row ≡ Some r → RowKept (with_at k (answered c rest puts) v.conns) (alter f v.sessions) r
     row r found =
@@ -184,10 +184,10 @@ heard_keeps {A = A} v k c o new rest puts f m kept = record {
         record {
           session = f r.number before.session;
           is = altered f v.sessions r.number before.session before.is;
-          counted = before.counted ∙ sym (m.mild.counted r.number before.session);
-          handled = before.handled ∙ ap length (sym (m.mild.got r.number before.session));
-          acked = before.acked ∙ sym (m.mild.acked r.number before.session);
-          queue = let a = m.mild.acked r.number before.session in let p = m.mild.put r.number before.session in before.queue ∙ ap (λ (n : ℕ). drop n before.session.down.put) (sym a) ∙ ap (drop (f r.number before.session).down.acked) (sym p);
+          counted = before.counted ∙ sym (m.relayable.counted r.number before.session);
+          handled = before.handled ∙ ap length (sym (m.relayable.got r.number before.session));
+          acked = before.acked ∙ sym (m.relayable.acked r.number before.session);
+          queue = let a = m.relayable.acked r.number before.session in let p = m.relayable.put r.number before.session in before.queue ∙ ap (λ (n : ℕ). drop n before.session.down.put) (sym a) ∙ ap (drop (f r.number before.session).down.acked) (sym p);
           placed = placed r before.session found before.is r.on before.placed;
         }
 
@@ -200,14 +200,14 @@ heard_keeps {A = A} v k c o new rest puts f m kept = record {
         subst (λ x. (s : Session A) × (alter f v.sessions x ≡ Some s) × GoesDown d s) mine after
     down n d q here carried (Old ne there) = absurd (ne (let h = m.here in let same : k ≡ n = cc in same))
 
-    quiet_down : (q : ℕ) (s : Session A) → (a : Session A) × (v.sessions q ≡ Some a) × (f q a ≡ s) → s.counted ≡ true → (o.number ≡ q) ⊎ (o.number ≡ q → ⊥) →
-        IsQuiet s.down ⊎ IsCarried (record v { conns = with_at k (answered c rest puts) v.conns; own = Some new; sessions = alter f v.sessions }) q
-    quiet_down q s w counted (inl same) = inr (k, answered c rest puts, m.here, at_same k (answered c rest puts) v.conns, carries_this ∙ ap Some same)
-    quiet_down q s w counted (inr ne) =
-        let stays : w.0 ≡ s = sym (m.mild.others q w.0 ne) ∙ w.2 in
+    idle_down : (q : ℕ) (s : Session A) → (a : Session A) × (v.sessions q ≡ Some a) × (f q a ≡ s) → s.counted ≡ true → (o.number ≡ q) ⊎ (o.number ≡ q → ⊥) →
+        IsIdle s.down ⊎ IsCarried (record v { conns = with_at k (answered c rest puts) v.conns; own = Some new; sessions = alter f v.sessions }) q
+    idle_down q s w counted (inl same) = inr (k, answered c rest puts, m.here, at_same k (answered c rest puts) v.conns, carries_this ∙ ap Some same)
+    idle_down q s w counted (inr ne) =
+        let stays : w.0 ≡ s = sym (m.relayable.others q w.0 ne) ∙ w.2 in
         let before : w.0.counted ≡ true = ap (λ x. x.counted) stays ∙ counted in
-        elim (kept.quiet_down q w.0 w.1 before) [
-          | inl quiet ↦ inl (subst (λ x. IsQuiet x.down) stays quiet)
+        elim (kept.idle_down q w.0 w.1 before) [
+          | inl quiet ↦ inl (subst (λ x. IsIdle x.down) stays quiet)
           | inr x ↦ absurd (ne (mine q x))
         ]
       where
@@ -292,8 +292,8 @@ read_kept true z ways s good kept = record {
   unheard = λ e. absurd (not_true e (good refl).2);
 }
 
-read_mild : {A : Type 0} (p : ℕ) (z : A) (ways : List A) → IsMild p (λ q s. read_if (has (Some p) q) z ways s)
-read_mild {A = A} p z ways = record {
+read_relayable : {A : Type 0} (p : ℕ) (z : A) (ways : List A) → IsRelayable p (λ q s. read_if (has (Some p) q) z ways s)
+read_relayable {A = A} p z ways = record {
   counted = λ q s. refl;
   epoch = λ q s. refl;
   read = λ q s. refl;
@@ -315,7 +315,7 @@ down_stanza_keeps {A = A} k z v next m kept = subst LinkKept (sym m.gives) (hear
   client = m.client;
   takes = λ downs e. taken downs m.conn.ending (St z) m.rest m.conn.wires e m.first;
   number = refl;
-  mild = read_mild m.own.number z (down_stanzas m.rest);
+  relayable = read_relayable m.own.number z (down_stanzas m.rest);
   sessions = λ q s found. read_kept (has (Some m.own.number) q) z (down_stanzas m.rest) s
       (λ e. subst (λ (x : Session A). (x.down.way ≡ z ∷ down_stanzas m.rest) × (x.counted ≡ true) × (x.read ≡ true)) (same_session v m.own.number q on.0 s on.1.is e found) (split, on.1.goes.counted, on.1.read))
       (kept.sessions q s found);
@@ -336,7 +336,7 @@ down_stanza_keeps {A = A} k z v next m kept = subst LinkKept (sym m.gives) (hear
     is_open = g.is_open ∙ sym (flow_up [] m.rest m.conn.wires);
     counts = subst (λ ws. DownCounts s.up.acked s.up.stated ws) (sym (down_words_up [] m.rest m.conn.wires)) (subst (λ ws. DownCounts s.up.acked s.up.stated ws) m.first g.counts);
   };
-  quiet_up = λ q s quiet. quiet;
+  idle_up = λ q s quiet. quiet;
 }) kept)
   where
     f : ℕ → Session A → Session A
@@ -366,8 +366,8 @@ pub told_contains : {A : Type 0} (b : Bool) (s : Session A) (h : ℕ) → Contai
 told_contains false s h c = c
 told_contains true s h c = Contains-append_left s.down.stated (length s.down.got ∷ []) h c
 
-told_mild : {A : Type 0} (p : ℕ) → IsMild {A = A} p (λ q s. told_if (has (Some p) q) s)
-told_mild {A = A} p = record {
+told_relayable : {A : Type 0} (p : ℕ) → IsRelayable {A = A} p (λ q s. told_if (has (Some p) q) s)
+told_relayable {A = A} p = record {
   counted = λ q s. refl;
   epoch = λ q s. refl;
   read = λ q s. refl;
@@ -404,7 +404,7 @@ down_request_keeps {A = A} k v next m kept = subst LinkKept (sym m.gives) (subst
   client = m.client;
   takes = λ downs e. taken downs m.conn.ending (Req) m.rest m.conn.wires e m.first;
   number = refl;
-  mild = told_mild m.own.number;
+  relayable = told_relayable m.own.number;
   sessions = λ q s found. told_kept (has (Some m.own.number) q) s (λ e. subst (λ (x : Session A). x.counted ≡ true) (same_session v m.own.number q on.0 s on.1.is e found) on.1.goes.counted) (kept.sessions q s found);
   own = record {
     session = f m.own.number on.0;
@@ -430,7 +430,7 @@ down_request_keeps {A = A} k v next m kept = subst LinkKept (sym m.gives) (subst
     is_open = g.is_open ∙ sym (flow_up (Up (Ack m.own.handled) ∷ []) m.rest m.conn.wires);
     counts = subst (λ ws. DownCounts s.up.acked s.up.stated ws) (sym (down_words_up (Up (Ack m.own.handled) ∷ []) m.rest m.conn.wires)) (subst (λ ws. DownCounts s.up.acked s.up.stated ws) m.first g.counts);
   };
-  quiet_up = λ q s quiet. quiet;
+  idle_up = λ q s quiet. quiet;
 }) kept))
   where
     f : ℕ → Session A → Session A
@@ -453,8 +453,8 @@ heard_kept true h s good kept = record {
   unheard = kept.unheard;
 }
 
-heard_mild : {A : Type 0} (p h : ℕ) → IsMild {A = A} p (λ q s. heard_if (has (Some p) q) h s)
-heard_mild {A = A} p h = record {
+heard_relayable : {A : Type 0} (p h : ℕ) → IsRelayable {A = A} p (λ q s. heard_if (has (Some p) q) h s)
+heard_relayable {A = A} p h = record {
   counted = λ q s. refl;
   epoch = λ q s. refl;
   read = λ q s. refl;
@@ -476,7 +476,7 @@ down_count_keeps {A = A} k h v next m kept = subst LinkKept (sym m.gives) (heard
   client = m.client;
   takes = λ downs e. taken downs m.conn.ending (Ack h) m.rest m.conn.wires e m.first;
   number = refl;
-  mild = heard_mild m.own.number h;
+  relayable = heard_relayable m.own.number h;
   sessions = λ q s found. heard_kept (has (Some m.own.number) q) h s
       (λ e. subst (λ (x : Session A). (x.counted ≡ true) × Contains x.up.stated h × (x.up.acked ≤ h)) (same_session v m.own.number q on.0 s on.1.is e found) (on.1.goes.counted, counts.1, counts.0))
       (kept.sessions q s found);
@@ -499,7 +499,7 @@ down_count_keeps {A = A} k h v next m kept = subst LinkKept (sym m.gives) (heard
         is_open = g.is_open ∙ sym (flow_up [] m.rest m.conn.wires);
         counts = rw same_number (subst (λ ws. DownCounts h s.up.stated ws) (sym (down_words_up [] m.rest m.conn.wires)) mine.2);
       };
-  quiet_up = λ q s quiet. record { way = quiet.way; is_open = quiet.is_open };
+  idle_up = λ q s quiet. record { way = quiet.way; is_open = quiet.is_open };
 }) kept)
   where
     new : Own A

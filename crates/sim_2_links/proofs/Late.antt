@@ -19,7 +19,7 @@ use Rattle.sim_2_links.specs.Wires.{Wires, Flow, Stop, is_flowing, up_words, dow
 use Rattle.sim_2_links.specs.Stages.{AsksResume, Resumes, client_of, down_of, Stands, tail_of, foot_of, Conn}
 use Rattle.sim_2_links.specs.Views.{with_at, alter, has, Session, Row, View, on_phase, session_on, carries, sends}
 use Rattle.sim_2_links.specs.SessionMoves.{IsResumedLate}
-use Rattle.sim_2_links.specs.Links.{UpCounts, IsAsked, ConnKept, GoesUp, GoesDown, IsQuiet, IsPlaced, RowKept, SessionKept, IsBare, LinkKept}
+use Rattle.sim_2_links.specs.Links.{UpCounts, IsAsked, ConnKept, GoesUp, GoesDown, IsIdle, IsPlaced, RowKept, SessionKept, IsBare, LinkKept}
 
 abbrev pub late_if : {A : Type 0} → Bool → ℕ → Session A → Session A
 late_if b h s = record s {
@@ -77,18 +77,18 @@ resumed_late_keeps {A = A} k v next m kept = subst LinkKept (sym m.gives) (recor
   };
   sessions = λ q t found. let w = was f v.sessions q t found in subst SessionKept w.2 (late_kept (has (Some m.row.number) q) m.h w.0 (λ e. subst (λ (x : Session A). (x.counted ≡ true) × Contains x.down.stated m.h × (x.down.acked ≤ m.h)) (mine q w.0 e w.1) (counted, stated, low)) (kept.sessions q w.0 w.1));
   goes_down = λ n d q here found carried. down n d q here carried (entry k this v.conns n d found);
-  quiet_up = λ q t found yes_counted.
+  idle_up = λ q t found yes_counted.
       let w = was f v.sessions q t found in
       let before : w.0.counted ≡ true = ap (λ (x : Session A). x.counted) w.2 ∙ yes_counted in
-      elim (kept.quiet_up q w.0 w.1 before) [
-        | inl quiet ↦ inl (subst (λ (x : Session A). IsQuiet x.up) w.2 (record { way = quiet.way; is_open = quiet.is_open }))
+      elim (kept.idle_up q w.0 w.1 before) [
+        | inl quiet ↦ inl (subst (λ (x : Session A). IsIdle x.up) w.2 (record { way = quiet.way; is_open = quiet.is_open }))
         | inr x ↦ inr (new, refl, ap (λ (r : Row A). r.number) (some_one v.row m.row x.0 m.is_row x.1) ∙ x.2)
       ];
-  quiet_down = λ q t found yes_counted.
+  idle_down = λ q t found yes_counted.
       let w = was f v.sessions q t found in
       let before : w.0.counted ≡ true = ap (λ (x : Session A). x.counted) w.2 ∙ yes_counted in
-      elim (kept.quiet_down q w.0 w.1 before) [
-        | inl quiet ↦ inl (subst (λ (x : Session A). IsQuiet x.down) w.2 (record { way = quiet.way; is_open = quiet.is_open }))
+      elim (kept.idle_down q w.0 w.1 before) [
+        | inl quiet ↦ inl (subst (λ (x : Session A). IsIdle x.down) w.2 (record { way = quiet.way; is_open = quiet.is_open }))
         | inr x ↦ inr (x.0, x.1, x.2, at_other k this v.conns x.0 (elsewhere x.0 x.2) ∙ x.3, x.4)
       ];
   late = λ n d q found away on carried. late n d q on (entry k this v.conns n d found);
@@ -139,7 +139,7 @@ resumed_late_keeps {A = A} k v next m kept = subst LinkKept (sym m.gives) (recor
     counted : row.session.counted ≡ true
     counted = sym row.counted ∙ m.counted
 
-    quiet : IsQuiet row.session.up
+    quiet : IsIdle row.session.up
     quiet = let placed : IsPlaced v.conns m.row row.session None = subst (λ o. IsPlaced v.conns m.row row.session o) m.off row.placed in placed.1
 
     asked : IsAsked v.sessions (AsksResume m.row.number m.h)

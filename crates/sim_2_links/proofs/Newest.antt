@@ -92,9 +92,9 @@ pub shut_words : {A : Type 0} (end : Ending) (x : Wires A) → up_whole (halt (s
 shut_words end x = halt_whole_up (send_down (tail_of end) x) ∙ send_down_whole_up (tail_of end) x
 
 -- nothing but the footer is left behind the word
-pub no_word_behind : {A C : Type 0} (foot : Bool) (p h : ℕ) (more : List (UpWord A)) → foot_of foot ≡ ResumeAt p h ∷ more → C
-no_word_behind false p h more e = absurd (let no_way : ⊥ = cc in no_way)
-no_word_behind true p h more e = absurd (let no_way : ⊥ = cc in no_way)
+pub no_word_after : {A C : Type 0} (foot : Bool) (p h : ℕ) (more : List (UpWord A)) → foot_of foot ≡ ResumeAt p h ∷ more → C
+no_word_after false p h more e = absurd (let no_way : ⊥ = cc in no_way)
+no_word_after true p h more e = absurd (let no_way : ⊥ = cc in no_way)
 
 pub footed_words : {A : Type 0} (x : Wires A) → up_lost x ≡ [] → (p h : ℕ) (more : List (UpWord A)) → up_whole (with_foot x) ≡ ResumeAt p h ∷ more → (rest : List (UpWord A)) × (up_whole x ≡ ResumeAt p h ∷ rest)
 footed_words (Flow [] ds) none p h more e = absurd (let no_way : ⊥ = cc in no_way)

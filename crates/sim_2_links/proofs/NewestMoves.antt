@@ -14,7 +14,7 @@ use Rattle.sim_2_links.proofs.Late.{late_if}
 use Rattle.sim_2_links.proofs.Puts.{putting}
 use Rattle.sim_2_links.proofs.Putting.{serving}
 use Rattle.sim_2_links.proofs.Serving.{sent_down}
-use Rattle.sim_2_links.proofs.Newest.{IsNewest, asking_client, asking_phase, at_asking, plain_asks, IsOther, client_newest, IsHeardSame, heard_by, heard_same, server_newest, same_words, shut_words, no_word_behind, footed_words}
+use Rattle.sim_2_links.proofs.Newest.{IsNewest, asking_client, asking_phase, at_asking, plain_asks, IsOther, client_newest, IsHeardSame, heard_by, heard_same, server_newest, same_words, shut_words, no_word_after, footed_words}
 use Rattle.sim_2_links.specs.Words.{St, Req, Ack, up_stanzas, down_stanzas, UpWord, Hdr, ResumeAt, Bind, Enable, Up, Feat, Failed, Bound, Enabled, Down, InResume, InBind, InEnable, InOnline, Ready, AtSession, TooHigh}
 use Rattle.sim_2_links.specs.Wires.{is_flowing, up_whole, down_whole, send_up, send_down, left_up, left_down, cut, halt}
 use Rattle.sim_2_links.specs.Stages.{Reoffered, AsksResume, client_of, phase_of, up_of, down_of, Goes, server_hand, client_hand, Ending, Errs, Closes, tail_of, foot_of, Conn, IsAt, IsEarly}
@@ -164,7 +164,7 @@ up_hand_newest {A = A} n k v next m kept after a = subst (IsNewest n) (sym m.giv
 
 pub failed_newest : {A : Type 0} (n : Option ℕ) (k : ℕ) (v next : View A) → IsFailed k v next → LinkKept v → IsNewest n v → IsNewest n next
 failed_newest {A = A} n k v next m kept a = subst (IsNewest n) (sym m.gives) (server_newest n v k m.conn (record m.conn { wires = send_down (Failed ∷ []) (left_up m.rest m.conn.wires) }) v.row v.sessions v.free m.is (heard_same v.sessions)
-    (λ p h more word. no_word_behind m.conn.footed p h more (asking.left ∙ sym (send_down_whole_up (Failed ∷ []) (left_up m.rest m.conn.wires)) ∙ word)) a)
+    (λ p h more word. no_word_after m.conn.footed p h more (asking.left ∙ sym (send_down_whole_up (Failed ∷ []) (left_up m.rest m.conn.wires)) ∙ word)) a)
   where
     old : ConnKept v k m.conn
     old = kept.conns k m.conn m.is

@@ -46,8 +46,8 @@ left_words rest (Flow us ds) = refl
 left_words rest (Stop us ds lu ld) = refl
 
 -- nothing else goes up
-none_behind_it : {A : Type 0} (rest : List (UpWord A)) (x : Wires A) → up_whole (left_up rest x) ≡ [] → rest ≡ []
-none_behind_it rest x e = sym (left_words rest x) ∙ up_none (left_up rest x) e
+none_after_it : {A : Type 0} (rest : List (UpWord A)) (x : Wires A) → up_whole (left_up rest x) ≡ [] → rest ≡ []
+none_after_it rest x e = sym (left_words rest x) ∙ up_none (left_up rest x) e
 
 -- the server counts a session, of which nothing was put
 
@@ -107,7 +107,7 @@ enabled_paged {A = A} p k v next m kept paged = subst (PagingKept p) (sym m.give
         let yet : w.0.counted ≡ false = ap (λ (x : Session A). x.counted) (sym same) ∙ sym row.counted ∙ m.uncounted in
         let begun = (kept.sessions q w.0 w.1).begun yet in
         let unfooted : m.conn.footed ≡ false = old.piped.unfooted (is_has v.here k here) in
-        let rest : m.rest ≡ [] = none_behind_it m.rest m.conn.wires (sym asking.left ∙ ap foot_of unfooted) in
+        let rest : m.rest ≡ [] = none_after_it m.rest m.conn.wires (sym asking.left ∙ ap foot_of unfooted) in
         subst (λ (x : Session A). IsInTime p (send_down (Enabled m.row.number ∷ []) (left_up m.rest m.conn.wires)) (course_of x)) w.2
         (begun_in_time p (send_down (Enabled m.row.number ∷ []) (left_up m.rest m.conn.wires)) (course_of w.0) (ap (λ (d : Direction A). d.got) begun.0) (up_words_down (Enabled m.row.number ∷ []) m.rest m.conn.wires ∙ rest)
         (enabled_words p w.0.up.put (asked_now p (course_of w.0)) (many p.ends w.0.down.got) m.row.number m.rest m.conn.wires (down_none m.conn.wires none)))
@@ -180,7 +180,7 @@ resumed_here_paged {A = A} p k v next m kept paged = subst (PagingKept p) (sym m
     no_down = down_none m.conn.wires none
 
     no_rest : m.rest ≡ []
-    no_rest = none_behind_it m.rest m.conn.wires (sym asking.left ∙ ap foot_of (old.piped.unfooted works))
+    no_rest = none_after_it m.rest m.conn.wires (sym asking.left ∙ ap foot_of (old.piped.unfooted works))
 
     row : RowKept v.conns v.sessions m.row
     row = kept.row m.row m.is_row

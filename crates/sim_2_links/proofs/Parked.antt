@@ -28,11 +28,11 @@ parked_keeps {A = A} k v next m kept = subst LinkKept (sym m.gives) (record {
   own = kept.own;
   sessions = kept.sessions;
   goes_down = λ n d q here found carried. down n d q here carried (entry k this v.conns n d found);
-  quiet_up = λ q t found counted. elim (kept.quiet_up q t found counted) [
+  idle_up = λ q t found counted. elim (kept.idle_up q t found counted) [
     | inl quiet ↦ inl quiet
     | inr x ↦ inr (new, refl, ap (λ (r : Row A). r.number) (some_one v.row m.row x.0 m.is_row x.1) ∙ x.2)
   ];
-  quiet_down = λ q t found counted. elim (kept.quiet_down q t found counted) [ inl quiet ↦ inl quiet | inr x ↦ inr (carried_on q x) ];
+  idle_down = λ q t found counted. elim (kept.idle_down q t found counted) [ inl quiet ↦ inl quiet | inr x ↦ inr (carried_on q x) ];
   late = λ n d q found away on carried. absurd (nowhere n d q on (entry k this v.conns n d found));
 })
   where

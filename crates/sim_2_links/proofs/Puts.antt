@@ -7,7 +7,7 @@ use Rattle.std.proofs.lemmas.List.{drop-append-le, length-append}
 use Rattle.sm_acks.proofs.Directions.{kept_reached}
 use Rattle.sim_2_links.proofs.CutLinks.{not_true}
 use Rattle.sim_2_links.proofs.Counting.{up_counts_with, up_stanzas_with}
-use Rattle.sim_2_links.proofs.Heard.{IsMild, heard_keeps, IsIn, in_own, same_session}
+use Rattle.sim_2_links.proofs.Heard.{IsRelayable, heard_keeps, IsIn, in_own, same_session}
 use Rattle.sim_2_links.specs.Words.{St, up_stanzas, down_stanzas, Up, InOnline}
 use Rattle.sim_2_links.specs.Wires.{Wires, Flow, Stop, is_flowing, up_words, down_words, down_whole, send_up, left_down}
 use Rattle.sim_2_links.specs.Stages.{Conn}
@@ -30,8 +30,8 @@ put_kept true z s good kept = record {
   unheard = kept.unheard;
 }
 
-put_mild : {A : Type 0} (p : ℕ) (z : A) → IsMild {A = A} p (λ q s. putting (has (Some p) q) z s)
-put_mild {A = A} p z = record {
+put_relayable : {A : Type 0} (p : ℕ) (z : A) → IsRelayable {A = A} p (λ q s. putting (has (Some p) q) z s)
+put_relayable {A = A} p z = record {
   counted = λ q s. refl;
   epoch = λ q s. refl;
   read = λ q s. refl;
@@ -95,7 +95,7 @@ client_put_keeps {A = A} k z v next m kept = subst LinkKept (sym m.gives) (subst
   client = m.client;
   takes = λ downs e. (downs, e ∙ ap down_whole (sym (same_wires m.conn.wires)));
   number = refl;
-  mild = put_mild m.own.number z;
+  relayable = put_relayable m.own.number z;
   sessions = λ q s found. put_kept (has (Some m.own.number) q) z s (λ e. subst (λ (x : Session A). (x.counted ≡ true) × (x.read ≡ true)) (same_session v m.own.number q on.0 s on.1.is e found) (on.1.goes.counted, on.1.read)) (kept.sessions q s found);
   own = record {
     session = f m.own.number on.0;
@@ -116,7 +116,7 @@ client_put_keeps {A = A} k z v next m kept = subst LinkKept (sym m.gives) (subst
     is_open = g.is_open ∙ sym (same_flow z m.conn.wires);
     counts = subst (λ ws. DownCounts s.up.acked s.up.stated ws) (sym (same_down z m.conn.wires)) g.counts;
   });
-  quiet_up = λ q s quiet. record { way = put_quiet (has (Some m.own.number) q) z s.up quiet.is_open ∙ quiet.way; is_open = quiet.is_open };
+  idle_up = λ q s quiet. record { way = put_quiet (has (Some m.own.number) q) z s.up quiet.is_open ∙ quiet.way; is_open = quiet.is_open };
 }) kept))
   where
     new : Own A

@@ -20,7 +20,7 @@ use Rattle.sim_2_links.specs.Stages.{Conn}
 use Rattle.sim_2_links.specs.Views.{Table, with_at, alter, changed, has, Session, Row, Own, View, session_on, carries}
 use Rattle.sim_2_links.specs.SessionMoves.{put_if}
 use Rattle.sim_2_links.specs.PutMoves.{IsServerPut, IsServerQueued, IsServerRequest}
-use Rattle.sim_2_links.specs.Links.{DownCounts, GoesDown, IsQuiet, IsPlaced, RowKept, OwnKept, SessionKept, LinkKept}
+use Rattle.sim_2_links.specs.Links.{DownCounts, GoesDown, IsIdle, IsPlaced, RowKept, OwnKept, SessionKept, LinkKept}
 
 -- a table in which nothing changes is the same
 pub unchanged : {B : Type 0} (t : Table B) → alter (λ q b. b) t ≡ t
@@ -70,7 +70,7 @@ serving_own p epoch z sessions o old = record {
   queue = old.queue;
 }
 
-serving_quiet : {A : Type 0} (b : Bool) (z : A) (s : Session A) → IsQuiet s.down → IsQuiet (serving b z s).down
+serving_quiet : {A : Type 0} (b : Bool) (z : A) (s : Session A) → IsIdle s.down → IsIdle (serving b z s).down
 serving_quiet b z s quiet = record { way = put_quiet b z s.down quiet.is_open ∙ quiet.way; is_open = quiet.is_open }
 
 serving_closed : {A : Type 0} (b : Bool) (z : A) (s : Session A) (d : Conn A) → s.down.is_open ≡ false → GoesDown d s → GoesDown d (serving b z s)
@@ -113,10 +113,10 @@ server_put_keeps {A = A} k z v next m kept = subst LinkKept (sym m.gives) (sent_
   ends = λ s found acked queue. (acked, rw same_number (ap (λ l. l ++ z ∷ []) queue ∙ sym (drop-append-le s.down.acked s.down.put (z ∷ []) (within s.down (kept.sessions m.row.number s found).down))));
   own = λ o old. serving_own m.row.number v.epoch z v.sessions o old;
   up = λ q s d g. record { way = g.way; is_open = g.is_open; counts = g.counts };
-  quiet_up = λ q s quiet. quiet;
+  idle_up = λ q s quiet. quiet;
   down_this = λ s found g. rw same_number (serving_goes z m.conn s g);
   down_other = λ q s d closed g. serving_other m.row.number q z s d closed g;
-  quiet_down = λ q s quiet. serving_quiet (has (Some m.row.number) q) z s quiet;
+  idle_down = λ q s quiet. serving_quiet (has (Some m.row.number) q) z s quiet;
 }) kept)
   where
     new : Row A
@@ -161,10 +161,10 @@ server_request_keeps {A = A} k v next m kept = subst LinkKept (sym m.gives) (sub
       ends = λ s found acked queue. (acked, queue);
       own = λ o old. record { session = old.session; is = altered f v.sessions o.number old.session old.is; read = old.read; of_epoch = old.of_epoch; handled = old.handled; acked = old.acked; queue = old.queue };
       up = λ q s d g. g;
-      quiet_up = λ q s quiet. quiet;
+      idle_up = λ q s quiet. quiet;
       down_this = λ s found g. asked_goes m.conn s g;
       down_other = λ q s d closed g. g;
-      quiet_down = λ q s quiet. quiet;
+      idle_down = λ q s quiet. quiet;
     }) kept)))
   where
     f : ℕ → Session A → Session A
@@ -191,17 +191,17 @@ server_queued_keeps {A = A} z v next m kept = subst LinkKept (sym m.gives) (reco
   goes_down = λ n d q here found carried.
       let before = kept.goes_down n d q here found carried in
       (f q before.0, altered f v.sessions q before.0 before.1, serving_closed (has (Some m.row.number) q) z before.0 d (before.2.is_open ∙ dead n d q found carried (cases_Bool (is_flowing d.wires))) before.2);
-  quiet_up = λ q s found counted.
+  idle_up = λ q s found counted.
       let w = was f v.sessions q s found in
       let before : w.0.counted ≡ true = ap (λ (x : Session A). x.counted) w.2 ∙ counted in
-      elim (kept.quiet_up q w.0 w.1 before) [
-        | inl quiet ↦ inl (subst (λ (x : Session A). IsQuiet x.up) w.2 (record { way = quiet.way; is_open = quiet.is_open }))
+      elim (kept.idle_up q w.0 w.1 before) [
+        | inl quiet ↦ inl (subst (λ (x : Session A). IsIdle x.up) w.2 (record { way = quiet.way; is_open = quiet.is_open }))
         | inr x ↦ inr (new, refl, ap (λ (r : Row A). r.number) (some_one v.row m.row x.0 m.is_row x.1) ∙ x.2)
       ];
-  quiet_down = λ q s found counted.
+  idle_down = λ q s found counted.
       let w = was f v.sessions q s found in
       let before : w.0.counted ≡ true = ap (λ (x : Session A). x.counted) w.2 ∙ counted in
-      elim (kept.quiet_down q w.0 w.1 before) [ inl quiet ↦ inl (subst (λ (x : Session A). IsQuiet x.down) w.2 (serving_quiet (has (Some m.row.number) q) z w.0 quiet)) | inr x ↦ inr x ];
+      elim (kept.idle_down q w.0 w.1 before) [ inl quiet ↦ inl (subst (λ (x : Session A). IsIdle x.down) w.2 (serving_quiet (has (Some m.row.number) q) z w.0 quiet)) | inr x ↦ inr x ];
   late = kept.late;
 })
   where

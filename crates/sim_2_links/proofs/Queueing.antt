@@ -15,7 +15,7 @@ use Rattle.sim_2_links.specs.Wires.{Wires, Flow, Stop, is_flowing, up_words, dow
 use Rattle.sim_2_links.specs.Stages.{Stage, Greets, Greeted, Offered, Proves, Challenged, Answers, Succeeded, Regreets, Regreeted, Reoffered, AsksResume, Refused, Resumes, AsksBind, Binds, AsksEnable, Enables, Runs, client_of, Conn}
 use Rattle.sim_2_links.specs.Views.{Table, with_at, alter, has, Session, Row, Own, View, sends}
 use Rattle.sim_2_links.specs.PutMoves.{is_online, IsClientQueued, IsClientRequest}
-use Rattle.sim_2_links.specs.Links.{UpCounts, DownCounts, FitsOwn, GoesUp, IsQuiet, IsPlaced, RowKept, OwnKept, SessionKept, LinkKept}
+use Rattle.sim_2_links.specs.Links.{UpCounts, DownCounts, FitsOwn, GoesUp, IsIdle, IsPlaced, RowKept, OwnKept, SessionKept, LinkKept}
 
 -- a client with a session that is not online sends nothing
 sends_nothing : {A : Type 0} (own : Option (Own A)) (epoch : ℕ) (sessions : Table (Session A)) (o : Own A) (s : Stage A) → own ≡ Some o → FitsOwn own epoch sessions s → is_online (client_of s) ≡ false → sends (client_of s) ≡ false
@@ -51,17 +51,17 @@ client_queued_keeps {A = A} z v next m kept = subst LinkKept (sym m.gives) (reco
       (kept.sessions q w.0 w.1));
   goes_down = λ n d q here found carried. let before = kept.goes_down n d q here found carried in
       (f q before.0, altered f v.sessions q before.0 before.1, record { counted = before.2.counted; way = before.2.way; is_open = before.2.is_open; counts = before.2.counts });
-  quiet_up = λ q s found counted.
+  idle_up = λ q s found counted.
       let w = was f v.sessions q s found in
       let before : w.0.counted ≡ true = ap (λ (x : Session A). x.counted) w.2 ∙ counted in
-      elim (kept.quiet_up q w.0 w.1 before) [
-        | inl quiet ↦ inl (subst (λ (x : Session A). IsQuiet x.up) w.2 (quiet_put (has (Some p) q) w.0 quiet))
+      elim (kept.idle_up q w.0 w.1 before) [
+        | inl quiet ↦ inl (subst (λ (x : Session A). IsIdle x.up) w.2 (quiet_put (has (Some p) q) w.0 quiet))
         | inr x ↦ inr x
       ];
-  quiet_down = λ q s found counted.
+  idle_down = λ q s found counted.
       let w = was f v.sessions q s found in
       let before : w.0.counted ≡ true = ap (λ (x : Session A). x.counted) w.2 ∙ counted in
-      elim (kept.quiet_down q w.0 w.1 before) [ inl quiet ↦ inl (subst (λ (x : Session A). IsQuiet x.down) w.2 (record { way = quiet.way; is_open = quiet.is_open })) | inr x ↦ inr x ];
+      elim (kept.idle_down q w.0 w.1 before) [ inl quiet ↦ inl (subst (λ (x : Session A). IsIdle x.down) w.2 (record { way = quiet.way; is_open = quiet.is_open })) | inr x ↦ inr x ];
   late = kept.late;
 })
   where
@@ -100,7 +100,7 @@ client_queued_keeps {A = A} z v next m kept = subst LinkKept (sym m.gives) (reco
     moved Regreeted a = a
     moved Reoffered a = a
 
-    quiet_put : (b : Bool) (s : Session A) → IsQuiet s.up → IsQuiet (putting b z s).up
+    quiet_put : (b : Bool) (s : Session A) → IsIdle s.up → IsIdle (putting b z s).up
     quiet_put b s quiet = record { way = put_quiet b z s.up quiet.is_open ∙ quiet.way; is_open = quiet.is_open }
 
     -- its way up is closed, wherever the server has the session
@@ -173,7 +173,7 @@ client_request_keeps {A = A} k v next m kept = subst LinkKept (sym m.gives) (sub
       client = m.client;
       takes = λ downs e. (downs, e ∙ ap down_whole (sym (same_wires m.conn.wires)));
       number = refl;
-      mild = record { counted = λ q s. refl; epoch = λ q s. refl; read = λ q s. refl; stated = λ q s h c. c; got = λ q s. refl; acked = λ q s. refl; put = λ q s. refl; others = λ q s ne. refl };
+      relayable = record { counted = λ q s. refl; epoch = λ q s. refl; read = λ q s. refl; stated = λ q s h c. c; got = λ q s. refl; acked = λ q s. refl; put = λ q s. refl; others = λ q s ne. refl };
       sessions = λ q s found. kept.sessions q s found;
       own = (let old = kept.own m.own m.is_own in record { session = old.session; is = altered f v.sessions m.own.number old.session old.is; read = old.read; of_epoch = old.of_epoch; handled = old.handled; acked = old.acked; queue = old.queue });
       up_other = λ q s d dead g. g;
@@ -188,7 +188,7 @@ client_request_keeps {A = A} k v next m kept = subst LinkKept (sym m.gives) (sub
         is_open = g.is_open ∙ sym (same_flow m.conn.wires);
         counts = subst (λ ws. DownCounts s.up.acked s.up.stated ws) (sym (same_down m.conn.wires)) g.counts;
       };
-      quiet_up = λ q s quiet. quiet;
+      idle_up = λ q s quiet. quiet;
     }) kept))))
   where
     f : ℕ → Session A → Session A

@@ -13,7 +13,7 @@ use Rattle.sim_2_links.specs.Wires.{down_whole, left_down}
 use Rattle.sim_2_links.specs.Stages.{Stage, AsksResume, Resumes, AsksBind, Binds, AsksEnable, Runs, client_of, down_of, Ending, Stands, Errs, Closes, tail_of, Conn, IsAt}
 use Rattle.sim_2_links.specs.Views.{Table, with_at, alter, has, Session, Row, View, on_phase, session_on, carries}
 use Rattle.sim_2_links.specs.SessionMoves.{IsReadBound}
-use Rattle.sim_2_links.specs.Links.{ArePiped, IsAsked, FitsOwn, is_yet, ConnKept, IsQuiet, IsPlaced, RowKept, SessionKept, IsCarried, LinkKept}
+use Rattle.sim_2_links.specs.Links.{ArePiped, IsAsked, FitsOwn, is_yet, ConnKept, IsIdle, IsPlaced, RowKept, SessionKept, IsCarried, LinkKept}
 
 no_tail : {A C : Type 0} (end : Ending) (m : ℕ) (rest : List (DownWord A)) → tail_of end ≡ Bound m ∷ rest → C
 no_tail Stands m rest e = absurd (let no_way : ⊥ = cc in no_way)
@@ -62,14 +62,14 @@ read_bound_keeps {A = A} k number v next m kept = subst LinkKept (sym m.gives) (
   own = λ o found. no_entry o (sym fits.0 ∙ found);
   sessions = λ q s found. let w = was f v.sessions q s found in subst SessionKept w.2 (named_kept (has (Some number) q) (v.epoch + 1) w.0 (kept.sessions q w.0 w.1));
   goes_down = λ n d q here found carried. absurd (silent n d q here carried (entry k this v.conns n d found));
-  quiet_up = λ q s found counted.
+  idle_up = λ q s found counted.
       let w = was f v.sessions q s found in
       let before : w.0.counted ≡ true = ap (λ (x : Session A). x.counted) w.2 ∙ counted in
-      elim (kept.quiet_up q w.0 w.1 before) [ inl quiet ↦ inl (subst (λ (x : Session A). IsQuiet x.up) w.2 quiet) | inr x ↦ inr x ];
-  quiet_down = λ q s found counted.
+      elim (kept.idle_up q w.0 w.1 before) [ inl quiet ↦ inl (subst (λ (x : Session A). IsIdle x.up) w.2 quiet) | inr x ↦ inr x ];
+  idle_down = λ q s found counted.
       let w = was f v.sessions q s found in
       let before : w.0.counted ≡ true = ap (λ (x : Session A). x.counted) w.2 ∙ counted in
-      elim (kept.quiet_down q w.0 w.1 before) [ inl quiet ↦ inl (subst (λ (x : Session A). IsQuiet x.down) w.2 quiet) | inr x ↦ absurd (none_before q x) ];
+      elim (kept.idle_down q w.0 w.1 before) [ inl quiet ↦ inl (subst (λ (x : Session A). IsIdle x.down) w.2 quiet) | inr x ↦ absurd (none_before q x) ];
   late = λ n d q found away on carried. absurd (silent carried.0 carried.1 q carried.2 carried.4 (entry k this v.conns carried.0 carried.1 carried.3));
 })
   where

@@ -15,7 +15,7 @@ use Rattle.sim_2_links.specs.Wires.{is_flowing, up_words, up_whole, down_whole, 
 use Rattle.sim_2_links.specs.Stages.{Stage, AsksResume, Resumes, AsksEnable, Enables, Runs, client_of, phase_of, up_of, down_of, Ending, Stands, Errs, Closes, tail_of, foot_of, Conn, IsAt}
 use Rattle.sim_2_links.specs.Views.{Table, with_at, alter, has, Session, Row, Own, View, session_on, carries, sends}
 use Rattle.sim_2_links.specs.SessionMoves.{IsReadEnabled}
-use Rattle.sim_2_links.specs.Links.{carried_of, UpCounts, DownCounts, ArePiped, IsAsked, FitsOwn, ConnKept, GoesUp, GoesDown, IsQuiet, IsPlaced, RowKept, OwnKept, SessionKept, IsCarried, IsBare, LinkKept}
+use Rattle.sim_2_links.specs.Links.{carried_of, UpCounts, DownCounts, ArePiped, IsAsked, FitsOwn, ConnKept, GoesUp, GoesDown, IsIdle, IsPlaced, RowKept, OwnKept, SessionKept, IsCarried, IsBare, LinkKept}
 
 pub record EnabledFirst {A : Type 0} (s : Stage A) (m : ℕ) (tail rest : List (DownWord A)) : Type 0 where
   pub downs : List (Traffic A)
@@ -87,14 +87,14 @@ read_enabled_keeps {A = A} k number v next m kept = subst LinkKept (sym m.gives)
   own = λ o e. subst (λ x. OwnKept v.epoch (alter f v.sessions) x) (let out : new ≡ o = cc in out) own_kept;
   sessions = λ q s found. let w = was f v.sessions q s found in subst SessionKept w.2 (known_kept (has (Some number) q) w.0 (λ e. subst (λ (x : Session A). x.counted ≡ true) (mine q w.0 e w.1) fits.1.3) (kept.sessions q w.0 w.1));
   goes_down = λ n d q here found carried. down n d q here carried (entry k this v.conns n d found);
-  quiet_up = λ q s found counted.
+  idle_up = λ q s found counted.
       let w = was f v.sessions q s found in
       let before : w.0.counted ≡ true = ap (λ (x : Session A). x.counted) w.2 ∙ counted in
-      elim (kept.quiet_up q w.0 w.1 before) [ inl quiet ↦ inl (subst (λ (x : Session A). IsQuiet x.up) w.2 quiet) | inr x ↦ inr x ];
-  quiet_down = λ q s found counted.
+      elim (kept.idle_up q w.0 w.1 before) [ inl quiet ↦ inl (subst (λ (x : Session A). IsIdle x.up) w.2 quiet) | inr x ↦ inr x ];
+  idle_down = λ q s found counted.
       let w = was f v.sessions q s found in
       let before : w.0.counted ≡ true = ap (λ (x : Session A). x.counted) w.2 ∙ counted in
-      elim (kept.quiet_down q w.0 w.1 before) [ inl quiet ↦ inl (subst (λ (x : Session A). IsQuiet x.down) w.2 quiet) | inr x ↦ inr (carried_on q x) ];
+      elim (kept.idle_down q w.0 w.1 before) [ inl quiet ↦ inl (subst (λ (x : Session A). IsIdle x.down) w.2 quiet) | inr x ↦ inr (carried_on q x) ];
   late = λ n d q found away on carried. late n d q away on (back q carried) (entry k this v.conns n d found);
 })
   where

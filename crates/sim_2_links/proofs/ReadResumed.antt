@@ -14,7 +14,7 @@ use Rattle.sim_2_links.specs.Wires.{Wires, Flow, Stop, is_flowing, up_words, dow
 use Rattle.sim_2_links.specs.Stages.{Stage, Greets, Greeted, Offered, Proves, Challenged, Answers, Succeeded, Regreets, Regreeted, Reoffered, AsksResume, Refused, Resumes, AsksBind, Binds, AsksEnable, Enables, Runs, phase_of, up_of, down_of, Ending, Stands, Errs, Closes, tail_of, foot_of, Conn}
 use Rattle.sim_2_links.specs.Views.{Table, with_at, alter, has, Session, Row, Own, View, on_phase, session_on, carried_by, carries, sends}
 use Rattle.sim_2_links.specs.SessionMoves.{again, IsReadResumed}
-use Rattle.sim_2_links.specs.Links.{carried_of, UpCounts, DownCounts, ArePiped, IsAsked, FitsOwn, ConnKept, GoesUp, GoesDown, IsQuiet, IsPlaced, RowKept, OwnKept, SessionKept, IsCarried, IsBare, LinkKept}
+use Rattle.sim_2_links.specs.Links.{carried_of, UpCounts, DownCounts, ArePiped, IsAsked, FitsOwn, ConnKept, GoesUp, GoesDown, IsIdle, IsPlaced, RowKept, OwnKept, SessionKept, IsCarried, IsBare, LinkKept}
 
 pub record Reads {A : Type 0} (s : Stage A) (p h : ℕ) (tail rest : List (DownWord A)) : Type 0 where
   pub downs : List (Traffic A)
@@ -82,9 +82,9 @@ up_none (Stop [] ds lu ld) e = refl
 up_none (Stop (u ∷ us) ds lu ld) e = absurd (let no_way : ⊥ = cc in no_way)
 
 -- the words up behind it, on a way up that had nothing
-up_behind : {A : Type 0} (ws : List (UpWord A)) (rest : List (DownWord A)) (x : Wires A) → up_words x ≡ [] → up_words (send_up ws (left_down rest x)) ≡ cond (is_flowing x) ws []
-up_behind ws rest (Flow us ds) e = ap (λ l. l ++ ws) e
-up_behind ws rest (Stop us ds lu ld) e = e
+up_after : {A : Type 0} (ws : List (UpWord A)) (rest : List (DownWord A)) (x : Wires A) → up_words x ≡ [] → up_words (send_up ws (left_down rest x)) ≡ cond (is_flowing x) ws []
+up_after ws rest (Flow us ds) e = ap (λ l. l ++ ws) e
+up_after ws rest (Stop us ds lu ld) e = e
 
 down_words_up : {A : Type 0} (puts : List (UpWord A)) (rest : List (DownWord A)) (x : Wires A) → down_words (send_up puts (left_down rest x)) ≡ rest
 down_words_up puts rest (Flow us ds) = refl
@@ -148,8 +148,8 @@ read_resumed_keeps {A = A} k v next m kept = subst LinkKept (sym m.gives) (recor
   own = λ o e. subst (λ x. OwnKept v.epoch (alter f v.sessions) x) (let out : new ≡ o = cc in out) own_kept;
   sessions = λ q t found. let w = was f v.sessions q t found in subst SessionKept w.2 (resent_kept (has (Some p) q) (is_flowing m.conn.wires) w.0 (λ e. subst (λ (x : Session A). x.counted ≡ true) (mine q w.0 e w.1) g.2.counted) (kept.sessions q w.0 w.1));
   goes_down = λ n d q here found carried. down n d q here carried (entry k this v.conns n d found);
-  quiet_up = λ q t found yes_counted. quiet_up q t (was f v.sessions q t found) yes_counted (cases_eq p q);
-  quiet_down = λ q t found yes_counted. quiet_down q t (was f v.sessions q t found) yes_counted (cases_eq p q);
+  idle_up = λ q t found yes_counted. idle_up q t (was f v.sessions q t found) yes_counted (cases_eq p q);
+  idle_down = λ q t found yes_counted. idle_down q t (was f v.sessions q t found) yes_counted (cases_eq p q);
   late = λ n d q found away on carried. late n d q away on (back q carried) (entry k this v.conns n d found);
 })
   where
@@ -284,7 +284,7 @@ read_resumed_keeps {A = A} k v next m kept = subst LinkKept (sym m.gives) (recor
         some_counts (Flow us ds) e = subst (λ l. UpCounts g.0.down.acked g.0.down.stated (l ++ again (drop (m.h - m.own.acked) m.own.queue))) (sym e) (again_counts g.0.down.acked g.0.down.stated (drop (m.h - m.own.acked) m.own.queue))
         some_counts (Stop us ds lu ld) e = subst (λ l. UpCounts g.0.down.acked g.0.down.stated l) (sym e) tt
 
-    closed : is_flowing m.conn.wires ≡ false → IsQuiet (f m.own.number g.0).up
+    closed : is_flowing m.conn.wires ≡ false → IsIdle (f m.own.number g.0).up
     closed e = record { way = rw (same_number, e) refl; is_open = rw (same_number, e) refl }
 
     placed : (x : Row A) (t : Session A) → v.row ≡ Some x → v.sessions x.number ≡ Some t → (o : Option ℕ) → x.on ≡ o → IsPlaced v.conns x t o → IsPlaced (with_at k this v.conns) x (f x.number t) o
@@ -379,17 +379,17 @@ read_resumed_keeps {A = A} k v next m kept = subst LinkKept (sym m.gives) (recor
         subst (λ x. (t : Session A) × (alter f v.sessions x ≡ Some t) × GoesDown d t) one this_one
     down n d q here carried (Old ne there) = absurd (ne (let h = m.here in let same : k ≡ n = cc in same))
 
-    quiet_up : (q : ℕ) (t : Session A) → (a : Session A) × (v.sessions q ≡ Some a) × (f q a ≡ t) → t.counted ≡ true → (m.own.number ≡ q) ⊎ (m.own.number ≡ q → ⊥) → IsQuiet t.up ⊎ ((x : Row A) × (v.row ≡ Some x) × (x.number ≡ q))
-    quiet_up q t w yes_counted (inl same) =
+    idle_up : (q : ℕ) (t : Session A) → (a : Session A) × (v.sessions q ≡ Some a) × (f q a ≡ t) → t.counted ≡ true → (m.own.number ≡ q) ⊎ (m.own.number ≡ q → ⊥) → IsIdle t.up ⊎ ((x : Row A) × (v.row ≡ Some x) × (x.number ≡ q))
+    idle_up q t w yes_counted (inl same) =
         let one : f m.own.number g.0 ≡ t = ap (f m.own.number) (some_one (v.sessions q) g.0 w.0 (subst (λ x. v.sessions x ≡ Some g.0) same g.1) w.1) ∙ ap (λ (n : ℕ). f n w.0) same ∙ w.2 in
         elim (cases_Bool (is_flowing m.conn.wires)) [
           | inl e ↦ inr (let a = attached e in (a.0, a.1, a.2 ∙ same))
-          | inr e ↦ inl (subst (λ (x : Session A). IsQuiet x.up) one (closed e))
+          | inr e ↦ inl (subst (λ (x : Session A). IsIdle x.up) one (closed e))
         ]
-    quiet_up q t w yes_counted (inr ne) =
+    idle_up q t w yes_counted (inr ne) =
         let stays : w.0 ≡ t = sym (resent_other m.own.number (is_flowing m.conn.wires) q w.0 ne) ∙ w.2 in
         let before : w.0.counted ≡ true = ap (λ (x : Session A). x.counted) stays ∙ yes_counted in
-        elim (kept.quiet_up q w.0 w.1 before) [ inl still ↦ inl (subst (λ (x : Session A). IsQuiet x.up) stays still) | inr x ↦ inr x ]
+        elim (kept.idle_up q w.0 w.1 before) [ inl still ↦ inl (subst (λ (x : Session A). IsIdle x.up) stays still) | inr x ↦ inr x ]
 
     back : (q : ℕ) → IsCarried (record v { conns = with_at k this v.conns; own = Some new; sessions = alter f v.sessions }) q → IsCarried v q
     back q (n, d, here, found, carried) = by (entry k this v.conns n d found)
@@ -398,13 +398,13 @@ read_resumed_keeps {A = A} k v next m kept = subst LinkKept (sym m.gives) (recor
         by (New same is) = let e : Some m.own.number ≡ Some q = subst (λ x. carries x ≡ Some q) (sym is) carried in (k, m.conn, m.here, m.is, carries_old ∙ e)
         by (Old ne there) = (n, d, here, there, carried)
 
-    quiet_down : (q : ℕ) (t : Session A) → (a : Session A) × (v.sessions q ≡ Some a) × (f q a ≡ t) → t.counted ≡ true → (m.own.number ≡ q) ⊎ (m.own.number ≡ q → ⊥) →
-        IsQuiet t.down ⊎ IsCarried (record v { conns = with_at k this v.conns; own = Some new; sessions = alter f v.sessions }) q
-    quiet_down q t w yes_counted (inl same) = inr (k, this, m.here, at_same k this v.conns, ap Some same)
-    quiet_down q t w yes_counted (inr ne) =
+    idle_down : (q : ℕ) (t : Session A) → (a : Session A) × (v.sessions q ≡ Some a) × (f q a ≡ t) → t.counted ≡ true → (m.own.number ≡ q) ⊎ (m.own.number ≡ q → ⊥) →
+        IsIdle t.down ⊎ IsCarried (record v { conns = with_at k this v.conns; own = Some new; sessions = alter f v.sessions }) q
+    idle_down q t w yes_counted (inl same) = inr (k, this, m.here, at_same k this v.conns, ap Some same)
+    idle_down q t w yes_counted (inr ne) =
         let stays : w.0 ≡ t = sym (resent_other m.own.number (is_flowing m.conn.wires) q w.0 ne) ∙ w.2 in
         let before : w.0.counted ≡ true = ap (λ (x : Session A). x.counted) stays ∙ yes_counted in
-        elim (kept.quiet_down q w.0 w.1 before) [ inl still ↦ inl (subst (λ (x : Session A). IsQuiet x.down) stays still) | inr x ↦ absurd (ne (only q x)) ]
+        elim (kept.idle_down q w.0 w.1 before) [ inl still ↦ inl (subst (λ (x : Session A). IsIdle x.down) stays still) | inr x ↦ absurd (ne (only q x)) ]
       where
         only : (q : ℕ) → IsCarried v q → m.own.number ≡ q
         only q (n, d, here, found, carried) =

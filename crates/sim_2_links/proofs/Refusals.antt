@@ -129,8 +129,8 @@ forgotten_keeps {A = A} v next m kept = subst LinkKept (sym m.gives) (record {
   own = λ o e. no_entry o e;
   sessions = kept.sessions;
   goes_down = kept.goes_down;
-  quiet_up = kept.quiet_up;
-  quiet_down = kept.quiet_down;
+  idle_up = kept.idle_up;
+  idle_down = kept.idle_down;
   late = kept.late;
 })
 
@@ -168,8 +168,8 @@ footed_keeps {A = A} k v next m kept = subst LinkKept (sym m.gives) (record {
   own = kept.own;
   sessions = kept.sessions;
   goes_down = λ n d q here found carried. down n d q here carried (entry k this v.conns n d found);
-  quiet_up = kept.quiet_up;
-  quiet_down = λ q t found counted. elim (kept.quiet_down q t found counted) [ inl quiet ↦ inl quiet | inr x ↦ inr (x.0, x.1, x.2, at_other k this v.conns x.0 (apart x.0 x.2) ∙ x.3, x.4) ];
+  idle_up = kept.idle_up;
+  idle_down = λ q t found counted. elim (kept.idle_down q t found counted) [ inl quiet ↦ inl quiet | inr x ↦ inr (x.0, x.1, x.2, at_other k this v.conns x.0 (apart x.0 x.2) ∙ x.3, x.4) ];
   late = λ n d q found away on carried. late n d q away on (back q carried) (entry k this v.conns n d found);
 })
   where

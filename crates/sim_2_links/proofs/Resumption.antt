@@ -16,7 +16,7 @@ use Rattle.sim_2_links.specs.Wires.{Wires, Flow, Stop, is_flowing, up_words, dow
 use Rattle.sim_2_links.specs.Stages.{Stage, Greets, Greeted, Offered, Proves, Challenged, Answers, Succeeded, Regreets, Regreeted, Reoffered, AsksResume, Refused, Resumes, AsksBind, Binds, AsksEnable, Enables, Runs, client_of, up_of, down_of, Ending, Stands, Errs, Closes, tail_of, foot_of, Conn}
 use Rattle.sim_2_links.specs.Views.{Table, with_at, alter, has, Session, Row, View, on_phase, session_on, carried_by, carries, sends}
 use Rattle.sim_2_links.specs.SessionMoves.{resumed_if, IsResumedHere}
-use Rattle.sim_2_links.specs.Links.{UpCounts, DownCounts, IsAsked, FitsOwn, ConnKept, GoesUp, GoesDown, IsQuiet, IsPlaced, RowKept, SessionKept, IsCarried, LinkKept}
+use Rattle.sim_2_links.specs.Links.{UpCounts, DownCounts, IsAsked, FitsOwn, ConnKept, GoesUp, GoesDown, IsIdle, IsPlaced, RowKept, SessionKept, IsCarried, LinkKept}
 
 -- only one row of the table has the word that asks for it
 pub record Asks {A : Type 0} (s : Stage A) (p h : ℕ) (tail : List (UpWord A)) (rest : List (UpWord A)) : Type 0 where
@@ -72,15 +72,15 @@ sent_counts low stated [] = tt
 sent_counts low stated (z ∷ zs) = sent_counts low stated zs
 
 -- what is behind the word, on a way down that had nothing: all if it flows
-behind : {A : Type 0} (p n : ℕ) (zs : List A) (rest : List (UpWord A)) (x : Wires A) → down_words x ≡ [] →
+following : {A : Type 0} (p n : ℕ) (zs : List A) (rest : List (UpWord A)) (x : Wires A) → down_words x ≡ [] →
     down_stanzas (down_words (send_down (Resumed p n ∷ map Down (map St zs)) (left_up rest x))) ≡ cond (is_flowing x) zs []
-behind p n zs rest (Flow us ds) e = ap (λ l. down_stanzas (l ++ Resumed p n ∷ map Down (map St zs))) e ∙ sent_stanzas zs
-behind p n zs rest (Stop us ds lu ld) e = ap down_stanzas e
+following p n zs rest (Flow us ds) e = ap (λ l. down_stanzas (l ++ Resumed p n ∷ map Down (map St zs))) e ∙ sent_stanzas zs
+following p n zs rest (Stop us ds lu ld) e = ap down_stanzas e
 
-behind_counts : {A : Type 0} (low p n : ℕ) (stated : List ℕ) (zs : List A) (rest : List (UpWord A)) (x : Wires A) → down_words x ≡ [] → low ≤ n → Contains stated n →
+after_counts : {A : Type 0} (low p n : ℕ) (stated : List ℕ) (zs : List A) (rest : List (UpWord A)) (x : Wires A) → down_words x ≡ [] → low ≤ n → Contains stated n →
     DownCounts low stated (down_words (send_down (Resumed p n ∷ map Down (map St zs)) (left_up rest x)))
-behind_counts low p n stated zs rest (Flow us ds) e l c = subst (λ ws. DownCounts low stated (ws ++ Resumed p n ∷ map Down (map St zs))) (sym e) (l, c, sent_counts n stated zs)
-behind_counts low p n stated zs rest (Stop us ds lu ld) e l c = subst (λ ws. DownCounts low stated ws) (sym e) tt
+after_counts low p n stated zs rest (Flow us ds) e l c = subst (λ ws. DownCounts low stated (ws ++ Resumed p n ∷ map Down (map St zs))) (sym e) (l, c, sent_counts n stated zs)
+after_counts low p n stated zs rest (Stop us ds lu ld) e l c = subst (λ ws. DownCounts low stated ws) (sym e) tt
 
 resumed_kept : {A : Type 0} (b flows : Bool) (s : Session A) → (b ≡ true → s.counted ≡ true) → SessionKept s → SessionKept (resumed_if b flows s)
 resumed_kept {A = A} false flows s counted kept = kept
@@ -132,8 +132,8 @@ resumed_here_keeps {A = A} k v next m kept = subst LinkKept (sym m.gives) (recor
   };
   sessions = λ q s found. let w = was f v.sessions q s found in subst SessionKept w.2 (resumed_kept (has (Some m.row.number) q) (is_flowing m.conn.wires) w.0 (λ e. subst (λ (x : Session A). x.counted ≡ true) (mine q w.0 e w.1) counted) (kept.sessions q w.0 w.1));
   goes_down = λ n d q here found carried. down n d q here carried (entry k this v.conns n d found);
-  quiet_up = λ q s found yes_counted. quiet_up q s (was f v.sessions q s found) yes_counted;
-  quiet_down = λ q s found yes_counted. quiet_down q s (was f v.sessions q s found) yes_counted (cases_eq m.row.number q);
+  idle_up = λ q s found yes_counted. idle_up q s (was f v.sessions q s found) yes_counted;
+  idle_down = λ q s found yes_counted. idle_down q s (was f v.sessions q s found) yes_counted (cases_eq m.row.number q);
   late = λ n d q found away on carried. absurd (nowhere n d q away on (entry k this v.conns n d found));
 })
   where
@@ -195,7 +195,7 @@ resumed_here_keeps {A = A} k v next m kept = subst LinkKept (sym m.gives) (recor
     counted : row.session.counted ≡ true
     counted = sym row.counted ∙ m.counted
 
-    quiet : IsQuiet row.session.up
+    quiet : IsIdle row.session.up
     quiet = let placed : IsPlaced v.conns m.row row.session None = subst (λ o. IsPlaced v.conns m.row row.session o) m.off row.placed in placed.1
 
     fits : FitsOwn v.own v.epoch v.sessions (AsksResume m.row.number m.h)
@@ -313,10 +313,10 @@ resumed_here_keeps {A = A} k v next m kept = subst LinkKept (sym m.gives) (recor
     goes_down : GoesDown this (f m.row.number row.session)
     goes_down = record {
       counted = counted;
-      way = rw (same_number, ← got_all) (sym (behind m.row.number m.row.handled (drop (m.h - m.row.acked) m.row.queue) m.rest m.conn.wires empty_down));
+      way = rw (same_number, ← got_all) (sym (following m.row.number m.row.handled (drop (m.h - m.row.acked) m.row.queue) m.rest m.conn.wires empty_down));
       is_open = rw same_number (sym (flow_down puts m.rest m.conn.wires));
       counts = rw same_number (subst (λ (n : ℕ). DownCounts row.session.up.acked (row.session.up.stated ++ length row.session.up.got ∷ []) (down_words (send_down (Resumed m.row.number n ∷ map Down (map St (drop (m.h - m.row.acked) m.row.queue))) (left_up m.rest m.conn.wires)))) (sym row.handled)
-          (behind_counts row.session.up.acked m.row.number (length row.session.up.got) (row.session.up.stated ++ length row.session.up.got ∷ []) (drop (m.h - m.row.acked) m.row.queue) m.rest m.conn.wires empty_down
+          (after_counts row.session.up.acked m.row.number (length row.session.up.got) (row.session.up.stated ++ length row.session.up.got ∷ []) (drop (m.h - m.row.acked) m.row.queue) m.rest m.conn.wires empty_down
           (kept_reached row.session.up (kept.sessions m.row.number row.session row.is).up).acked (Contains-push row.session.up.stated (length row.session.up.got))));
     }
 
@@ -328,22 +328,22 @@ resumed_here_keeps {A = A} k v next m kept = subst LinkKept (sym m.gives) (recor
         subst (λ x. (t : Session A) × (alter f v.sessions x ≡ Some t) × GoesDown d t) one this_one
     down n d q here carried (Old ne there) = absurd (ne (let h = m.here in let same : k ≡ n = cc in same))
 
-    quiet_up : (q : ℕ) (t : Session A) → (a : Session A) × (v.sessions q ≡ Some a) × (f q a ≡ t) → t.counted ≡ true → IsQuiet t.up ⊎ ((r : Row A) × (Some new ≡ Some r) × (r.number ≡ q))
-    quiet_up q t w yes_counted =
+    idle_up : (q : ℕ) (t : Session A) → (a : Session A) × (v.sessions q ≡ Some a) × (f q a ≡ t) → t.counted ≡ true → IsIdle t.up ⊎ ((r : Row A) × (Some new ≡ Some r) × (r.number ≡ q))
+    idle_up q t w yes_counted =
         let before : w.0.counted ≡ true = ap (λ (x : Session A). x.counted) w.2 ∙ yes_counted in
-        elim (kept.quiet_up q w.0 w.1 before) [
-          | inl still ↦ inl (subst (λ (x : Session A). IsQuiet x.up) w.2 (record { way = still.way; is_open = still.is_open }))
+        elim (kept.idle_up q w.0 w.1 before) [
+          | inl still ↦ inl (subst (λ (x : Session A). IsIdle x.up) w.2 (record { way = still.way; is_open = still.is_open }))
           | inr x ↦ inr (new, refl, ap (λ (r : Row A). r.number) (some_one v.row m.row x.0 m.is_row x.1) ∙ x.2)
         ]
 
-    quiet_down : (q : ℕ) (t : Session A) → (a : Session A) × (v.sessions q ≡ Some a) × (f q a ≡ t) → t.counted ≡ true → (m.row.number ≡ q) ⊎ (m.row.number ≡ q → ⊥) →
-        IsQuiet t.down ⊎ IsCarried (record v { conns = with_at k this v.conns; row = Some new; sessions = alter f v.sessions }) q
-    quiet_down q t w yes_counted (inl same) = inr (k, this, m.here, at_same k this v.conns, carries_this ∙ ap Some same)
-    quiet_down q t w yes_counted (inr ne) =
+    idle_down : (q : ℕ) (t : Session A) → (a : Session A) × (v.sessions q ≡ Some a) × (f q a ≡ t) → t.counted ≡ true → (m.row.number ≡ q) ⊎ (m.row.number ≡ q → ⊥) →
+        IsIdle t.down ⊎ IsCarried (record v { conns = with_at k this v.conns; row = Some new; sessions = alter f v.sessions }) q
+    idle_down q t w yes_counted (inl same) = inr (k, this, m.here, at_same k this v.conns, carries_this ∙ ap Some same)
+    idle_down q t w yes_counted (inr ne) =
         let stays : w.0 ≡ t = sym (resumed_other m.row.number (is_flowing m.conn.wires) q w.0 ne) ∙ w.2 in
         let before : w.0.counted ≡ true = ap (λ (x : Session A). x.counted) stays ∙ yes_counted in
-        elim (kept.quiet_down q w.0 w.1 before) [
-          | inl still ↦ inl (subst (λ (x : Session A). IsQuiet x.down) stays still)
+        elim (kept.idle_down q w.0 w.1 before) [
+          | inl still ↦ inl (subst (λ (x : Session A). IsIdle x.down) stays still)
           | inr x ↦ absurd (none q x)
         ]
       where

@@ -31,7 +31,7 @@ use Rattle.sim_2_links.specs.PutMoves.{IsClientQueued, IsServerPut, IsServerQueu
 use Rattle.sim_2_links.specs.Links.{DownCounts, FitsOwn, IsAsked, GoesUp, IsPlaced, LinkKept}
 use Rattle.sim_2_links.specs.Machine.{LinkMove, Cuts, Dials, LetsGo, Foots, Forgets, Puts, Queues, Requests, ReadsHand, AsksToResume, AsksToBind, ReadsFailed, ReadsResumed, ReadsBound, ReadsEnabled, ReadsStanza, ReadsRequest, ReadsCount, TakesHand, TakesResume, TakesLateResume, TakesStrangeResume, TakesHighResume, TakesBind, TakesEnable, TakesStanza, TakesRequest, TakesCount, TakesFoot, Parks, Hears, HearsEarly, Detaches, Shuts, EndsRow, Serves, Keeps, Demands, LinkMoves, nothing_yet, LinkReaches, LinkReached}
 use Rattle.sim_2_links.specs.Numbers.{IsRising}
-use Rattle.sim_2_links.specs.Events.{SeenSession, seen_session, Seen, row_number, own_number, seen_as, seen, Event, Named, Counted, Known, Ended, Dropped, Said, Handled, Served, Heard, Learned, May, new_session, after, IsSeenAs, Follows}
+use Rattle.sim_2_links.specs.Events.{SeenSession, seen_session, Seen, row_number, own_number, seen_as, seen, LinkEvent, Named, Counted, Known, Ended, Dropped, Said, Handled, Served, Heard, Learned, May, new_session, after, IsSeenAs, Follows}
 use Rattle.sim_2_links.specs.Events as events
 use Rattle.sim_2_links.specs.Telling.{Tells}
 
@@ -53,14 +53,14 @@ seen_changed_at f g (Some s) same = ap Some (same s refl)
 
 -- a move of which nothing is seen
 -- an event that may be, of which this is so
-abbrev pub IsEvent : {A : Type 0} → (Option (Event A) → Type 0) → View A → View A → Type 0
-IsEvent {A = A} T v next = (e : Option (Event A)) × T e × IsSeenAs e (seen v) (seen next)
+abbrev pub IsEvent : {A : Type 0} → (Option (LinkEvent A) → Type 0) → View A → View A → Type 0
+IsEvent {A = A} T v next = (e : Option (LinkEvent A)) × T e × IsSeenAs e (seen v) (seen next)
 
 -- the one that the move tells
 abbrev pub Told : {A : Type 0} → LinkMove A → View A → View A → Type 0
 Told move v next = IsEvent (Tells move v) v next
 
-silent : {A : Type 0} (T : Option (Event A) → Type 0) (v next : View A) → T None → row_number next.row ≡ row_number v.row → own_number next.own ≡ own_number v.own → next.epoch ≡ v.epoch → ((q : ℕ) → seen_as (next.sessions q) ≡ seen_as (v.sessions q)) →
+silent : {A : Type 0} (T : Option (LinkEvent A) → Type 0) (v next : View A) → T None → row_number next.row ≡ row_number v.row → own_number next.own ≡ own_number v.own → next.epoch ≡ v.epoch → ((q : ℕ) → seen_as (next.sessions q) ≡ seen_as (v.sessions q)) →
     IsEvent T v next
 silent T v next told row own epoch sessions = (None, told, same_seen (seen next) (seen v) row own epoch sessions)
 
@@ -79,10 +79,10 @@ next_of d z ways reached is =
 -- the moves
 
 -- where rows, sessions and the client's session stay
-unseen : {A : Type 0} (T : Option (Event A) → Type 0) (v next w : View A) → T None → next ≡ w → row_number w.row ≡ row_number v.row → own_number w.own ≡ own_number v.own → w.epoch ≡ v.epoch → ((q : ℕ) → seen_as (w.sessions q) ≡ seen_as (v.sessions q)) → IsEvent T v next
+unseen : {A : Type 0} (T : Option (LinkEvent A) → Type 0) (v next w : View A) → T None → next ≡ w → row_number w.row ≡ row_number v.row → own_number w.own ≡ own_number v.own → w.epoch ≡ v.epoch → ((q : ℕ) → seen_as (w.sessions q) ≡ seen_as (v.sessions q)) → IsEvent T v next
 unseen T v next w told is row own epoch sessions = subst (IsEvent T v) (sym is) (silent T v w told row own epoch sessions)
 
-event_at : {A : Type 0} (T : Option (Event A) → Type 0) (v next w : View A) (e : Event A) → T (Some e) → next ≡ w → May e (seen v) → seen w ≡ after e (seen v) → IsEvent T v next
+event_at : {A : Type 0} (T : Option (LinkEvent A) → Type 0) (v next w : View A) (e : LinkEvent A) → T (Some e) → next ≡ w → May e (seen v) → seen w ≡ after e (seen v) → IsEvent T v next
 event_at T v next w e told is may same = subst (IsEvent T v) (sym is) (Some e, told, (may, same))
 
 -- what is seen is there
@@ -293,16 +293,16 @@ move_seen (Serves k z) v next m kept rising = server_put_seen k z v next m kept 
 move_seen (Keeps z) v next m kept rising = server_queued_seen z v next m kept rising
 move_seen (Demands k) v next m kept rising = unseen (Tells (Demands k) v) v next _ refl m.gives refl refl refl (λ q. refl)
 
-with_event : {A : Type 0} (e : Option (Event A)) (s t last : Seen A) (es : List (Event A)) → IsSeenAs e s t → Follows es t last → (all : List (Event A)) × Follows all s last
+with_event : {A : Type 0} (e : Option (LinkEvent A)) (s t last : Seen A) (es : List (LinkEvent A)) → IsSeenAs e s t → Follows es t last → (all : List (LinkEvent A)) × Follows all s last
 with_event None s t last es same follows = (es, subst (λ x. Follows es x last) same follows)
 with_event (Some e) s t last es (may, same) follows = (e ∷ es, (may, subst (λ x. Follows es x last) same follows))
 
-seen_along : {A : Type 0} (moves : List (LinkMove A)) (v last : View A) → LinkKept v → IsRising v → LinkReaches moves v last → (es : List (Event A)) × Follows es (seen v) (seen last)
+seen_along : {A : Type 0} (moves : List (LinkMove A)) (v last : View A) → LinkKept v → IsRising v → LinkReaches moves v last → (es : List (LinkEvent A)) × Follows es (seen v) (seen last)
 seen_along [] v last kept rising same = ([], ap seen same)
 seen_along (move ∷ moves) v last kept rising (next, by, along) =
     let one = move_seen move v next by kept rising in
     let more = seen_along moves next last (move_keeps move v next by kept) (move_rises move v next by kept rising) along in
     with_event one.0 (seen v) (seen next) (seen last) more.0 one.2 more.1
 
-pub run_seen : {A : Type 0} (v : View A) → LinkReached v → (es : List (Event A)) × Follows es (seen nothing_yet) (seen v)
+pub run_seen : {A : Type 0} (v : View A) → LinkReached v → (es : List (LinkEvent A)) × Follows es (seen nothing_yet) (seen v)
 run_seen v reached = seen_along reached.moves nothing_yet v beginning_keeps beginning_rises reached.reaches

@@ -14,7 +14,7 @@ use Rattle.sim_2_links.specs.Wires.{Wires, Flow, Stop, up_words, down_words, up_
 use Rattle.sim_2_links.specs.Stages.{Stage, Greets, Greeted, Offered, Proves, Challenged, Answers, Succeeded, Regreets, Regreeted, Reoffered, AsksResume, Refused, Resumes, AsksBind, Binds, AsksEnable, Enables, Runs, client_of, phase_of, up_of, down_of, Ending, Stands, Errs, Closes, tail_of, foot_of, Conn, IsAt}
 use Rattle.sim_2_links.specs.Views.{Table, with_at, alter, has, Session, Row, Own, View, on_phase, session_on, carried_by, carries, sends}
 use Rattle.sim_2_links.specs.LinkMoves.{handled_if, IsUpStanza}
-use Rattle.sim_2_links.specs.Links.{carried_of, UpCounts, DownCounts, IsAsked, FitsOwn, ConnKept, GoesUp, GoesDown, IsQuiet, IsPlaced, RowKept, OwnKept, SessionKept, IsCarried, IsBare, LinkKept}
+use Rattle.sim_2_links.specs.Links.{carried_of, UpCounts, DownCounts, IsAsked, FitsOwn, ConnKept, GoesUp, GoesDown, IsIdle, IsPlaced, RowKept, OwnKept, SessionKept, IsCarried, IsBare, LinkKept}
 
 -- a word of traffic is first on the way up in the last row alone
 
@@ -121,7 +121,7 @@ pub record IsServed {A : Type 0} (v : View A) (k : ℕ) (c : Conn A) (r new : Ro
   pub own : (o : Own A) → v.own ≡ Some o → OwnKept v.epoch (alter f v.sessions) o
   pub down_other : (q : ℕ) (s : Session A) (d : Conn A) → GoesDown d s → GoesDown d (f q s)
   pub down_this : (s : Session A) → v.sessions r.number ≡ Some s → GoesDown c s → GoesDown (served c rest puts) (f r.number s)
-  pub quiet_down : (q : ℕ) (s : Session A) → IsQuiet s.down → IsQuiet (f q s).down
+  pub idle_down : (q : ℕ) (s : Session A) → IsIdle s.down → IsIdle (f q s).down
 
 pub served_keeps : {A : Type 0} (v : View A) (k : ℕ) (c : Conn A) (r new : Row A) (t : Traffic A) (rest : List (UpWord A)) (puts : List (Traffic A)) (f : ℕ → Session A → Session A) →
     IsServed v k c r new t rest puts f → LinkKept v → LinkKept (record v { conns = with_at k (served c rest puts) v.conns; row = Some new; sessions = alter f v.sessions })
@@ -132,11 +132,11 @@ served_keeps {A = A} v k c r new t rest puts f m kept = record {
   own = m.own;
   sessions = λ q s found. let w = was f v.sessions q s found in subst SessionKept w.2 (m.sessions q w.0 w.1);
   goes_down = λ n d q here found carried. down n d q here carried (entry k this v.conns n d found);
-  quiet_up = λ q s found counted. quiet_up q s (was f v.sessions q s found) counted (cases_eq r.number q);
-  quiet_down = λ q s found counted.
+  idle_up = λ q s found counted. idle_up q s (was f v.sessions q s found) counted (cases_eq r.number q);
+  idle_down = λ q s found counted.
       let w = was f v.sessions q s found in
       let before : w.0.counted ≡ true = sym (m.gentle.counted q w.0) ∙ ap (λ x. x.counted) w.2 ∙ counted in
-      elim (kept.quiet_down q w.0 w.1 before) [ inl quiet ↦ inl (subst (λ x. IsQuiet x.down) w.2 (m.quiet_down q w.0 quiet)) | inr carried ↦ inr (carried_on q carried) ];
+      elim (kept.idle_down q w.0 w.1 before) [ inl quiet ↦ inl (subst (λ x. IsIdle x.down) w.2 (m.idle_down q w.0 quiet)) | inr carried ↦ inr (carried_on q carried) ];
   late = λ n d q found away on carried. late n d q away on (carried_back q carried) (entry k this v.conns n d found);
 }
   where
@@ -238,13 +238,13 @@ served_keeps {A = A} v k c r new t rest puts f m kept = record {
         let before = kept.goes_down n d q here there carried in
         (f q before.0, altered f v.sessions q before.0 before.1, m.down_other q before.0 d before.2)
 
-    quiet_up : (q : ℕ) (s : Session A) → (a : Session A) × (v.sessions q ≡ Some a) × (f q a ≡ s) → s.counted ≡ true → (r.number ≡ q) ⊎ (r.number ≡ q → ⊥) → IsQuiet s.up ⊎ ((x : Row A) × (Some new ≡ Some x) × (x.number ≡ q))
-    quiet_up q s w counted (inl same) = inr (new, refl, m.number ∙ same)
-    quiet_up q s w counted (inr ne) =
+    idle_up : (q : ℕ) (s : Session A) → (a : Session A) × (v.sessions q ≡ Some a) × (f q a ≡ s) → s.counted ≡ true → (r.number ≡ q) ⊎ (r.number ≡ q → ⊥) → IsIdle s.up ⊎ ((x : Row A) × (Some new ≡ Some x) × (x.number ≡ q))
+    idle_up q s w counted (inl same) = inr (new, refl, m.number ∙ same)
+    idle_up q s w counted (inr ne) =
         let stays : w.0 ≡ s = sym (m.gentle.others q w.0 ne) ∙ w.2 in
         let before : w.0.counted ≡ true = ap (λ x. x.counted) stays ∙ counted in
-        elim (kept.quiet_up q w.0 w.1 before) [
-          | inl quiet ↦ inl (subst (λ x. IsQuiet x.up) stays quiet)
+        elim (kept.idle_up q w.0 w.1 before) [
+          | inl quiet ↦ inl (subst (λ x. IsIdle x.up) stays quiet)
           | inr x ↦ absurd (ne (ap (λ (y : Row A). y.number) (some_one v.row r x.0 m.is_row x.1) ∙ x.2))
         ]
 
@@ -379,7 +379,7 @@ up_stanza_keeps {A = A} k z v next m kept = subst LinkKept (sym m.gives) (served
     is_open = g.is_open ∙ sym (flow_down [] m.rest m.conn.wires);
     counts = subst (λ ws. DownCounts s.up.acked s.up.stated ws) (sym (same_down m.conn.wires)) g.counts;
   };
-  quiet_down = λ q s quiet. quiet;
+  idle_down = λ q s quiet. quiet;
 }) kept)
   where
     f : ℕ → Session A → Session A

@@ -106,7 +106,7 @@ up_request_keeps {A = A} k v next m kept = subst LinkKept (sym m.gives) (subst (
         is_open = g.is_open ∙ sym (flow_down puts m.rest m.conn.wires);
         counts = rw same_number (count_down m.row.handled m.rest s m.conn.wires handled (kept.sessions m.row.number s found) g.counts);
       };
-  quiet_down = λ q s quiet. quiet;
+  idle_down = λ q s quiet. quiet;
 }) kept))
   where
     puts : List (DownWord A)
@@ -201,7 +201,7 @@ up_count_keeps {A = A} k h v next m kept = subst LinkKept (sym m.gives) (served_
     is_open = g.is_open ∙ sym (flow_down [] m.rest m.conn.wires);
     counts = subst (λ ws. DownCounts s.up.acked s.up.stated ws) (sym (same_down m.conn.wires)) g.counts;
   };
-  quiet_down = λ q s quiet. record { way = quiet.way; is_open = quiet.is_open };
+  idle_down = λ q s quiet. record { way = quiet.way; is_open = quiet.is_open };
 }) kept)
   where
     new : Row A

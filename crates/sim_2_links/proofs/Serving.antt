@@ -13,7 +13,7 @@ use Rattle.sim_2_links.specs.Words.{Traffic, up_stanzas, DownWord, Resumed, Enab
 use Rattle.sim_2_links.specs.Wires.{Wires, Flow, Stop, is_flowing, up_words, down_words, down_whole, send_down}
 use Rattle.sim_2_links.specs.Stages.{Stage, AsksResume, Refused, Resumes, Binds, AsksEnable, Enables, Runs, client_of, phase_of, up_of, down_of, Ending, Stands, tail_of, foot_of, Conn, IsAt}
 use Rattle.sim_2_links.specs.Views.{Table, with_at, alter, has, Session, Row, Own, View, on_phase, session_on, carries, sends}
-use Rattle.sim_2_links.specs.Links.{carried_of, UpCounts, ArePiped, IsAsked, FitsOwn, is_yet, ConnKept, GoesUp, GoesDown, IsQuiet, IsPlaced, RowKept, OwnKept, SessionKept, IsCarried, IsBare, LinkKept}
+use Rattle.sim_2_links.specs.Links.{carried_of, UpCounts, ArePiped, IsAsked, FitsOwn, is_yet, ConnKept, GoesUp, GoesDown, IsIdle, IsPlaced, RowKept, OwnKept, SessionKept, IsCarried, IsBare, LinkKept}
 
 -- a row of the table at which the server counts the session takes more traffic down
 
@@ -77,10 +77,10 @@ pub record IsSent {A : Type 0} (v : View A) (k : ℕ) (c : Conn A) (r new : Row 
   pub ends : (s : Session A) → v.sessions r.number ≡ Some s → r.acked ≡ s.down.acked → r.queue ≡ queue_of s.down → (new.acked ≡ (f r.number s).down.acked) × (new.queue ≡ queue_of (f r.number s).down)
   pub own : (o : Own A) → OwnKept v.epoch v.sessions o → OwnKept v.epoch (alter f v.sessions) o
   pub up : (q : ℕ) (s : Session A) (d : Conn A) → GoesUp d s → GoesUp d (f q s)
-  pub quiet_up : (q : ℕ) (s : Session A) → IsQuiet s.up → IsQuiet (f q s).up
+  pub idle_up : (q : ℕ) (s : Session A) → IsIdle s.up → IsIdle (f q s).up
   pub down_this : (s : Session A) → v.sessions r.number ≡ Some s → GoesDown c s → GoesDown (sent_down c t) (f r.number s)
   pub down_other : (q : ℕ) (s : Session A) (d : Conn A) → (s.down.is_open ≡ false) ⊎ (r.number ≢ q) → GoesDown d s → GoesDown d (f q s)
-  pub quiet_down : (q : ℕ) (s : Session A) → IsQuiet s.down → IsQuiet (f q s).down
+  pub idle_down : (q : ℕ) (s : Session A) → IsIdle s.down → IsIdle (f q s).down
 
 pub sent_keeps : {A : Type 0} (v : View A) (k : ℕ) (c : Conn A) (r new : Row A) (t : Traffic A) (f : ℕ → Session A → Session A) →
     IsSent v k c r new t f → LinkKept v → LinkKept (record v { conns = with_at k (sent_down c t) v.conns; row = Some new; sessions = alter f v.sessions })
@@ -91,17 +91,17 @@ sent_keeps {A = A} v k c r new t f m kept = record {
   own = λ o found. m.own o (kept.own o found);
   sessions = λ q s found. let w = was f v.sessions q s found in subst SessionKept w.2 (m.sessions q w.0 w.1);
   goes_down = λ n d q here found carried. down n d q here carried (entry k this v.conns n d found);
-  quiet_up = λ q s found counted.
+  idle_up = λ q s found counted.
       let w = was f v.sessions q s found in
       let before : w.0.counted ≡ true = sym (m.still.counted q w.0) ∙ ap (λ x. x.counted) w.2 ∙ counted in
-      elim (kept.quiet_up q w.0 w.1 before) [
-        | inl quiet ↦ inl (subst (λ x. IsQuiet x.up) w.2 (m.quiet_up q w.0 quiet))
+      elim (kept.idle_up q w.0 w.1 before) [
+        | inl quiet ↦ inl (subst (λ x. IsIdle x.up) w.2 (m.idle_up q w.0 quiet))
         | inr x ↦ inr (new, refl, m.number ∙ ap (λ (y : Row A). y.number) (some_one v.row r x.0 m.is_row x.1) ∙ x.2)
       ];
-  quiet_down = λ q s found counted.
+  idle_down = λ q s found counted.
       let w = was f v.sessions q s found in
       let before : w.0.counted ≡ true = sym (m.still.counted q w.0) ∙ ap (λ x. x.counted) w.2 ∙ counted in
-      elim (kept.quiet_down q w.0 w.1 before) [ inl quiet ↦ inl (subst (λ x. IsQuiet x.down) w.2 (m.quiet_down q w.0 quiet)) | inr carried ↦ inr (carried_on q carried) ];
+      elim (kept.idle_down q w.0 w.1 before) [ inl quiet ↦ inl (subst (λ x. IsIdle x.down) w.2 (m.idle_down q w.0 quiet)) | inr carried ↦ inr (carried_on q carried) ];
   late = λ n d q found away on carried. late n d q away on (carried_back q carried) (entry k this v.conns n d found);
 }
   where

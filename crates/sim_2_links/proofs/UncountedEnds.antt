@@ -53,8 +53,8 @@ uncounted_keeps {A = A} v k old new r is is_row on yet kept at' off piped = reco
   own = kept.own;
   sessions = kept.sessions;
   goes_down = λ n c p here found carried. down n c p here carried (entry k new v.conns n c found);
-  quiet_up = λ p t found counted. elim (kept.quiet_up p t found counted) [ inl q ↦ inl q | inr x ↦ absurd (not_counted p t found counted x) ];
-  quiet_down = λ p t found counted. elim (kept.quiet_down p t found counted) [ inl q ↦ inl q | inr c ↦ inr (carried_on p c) ];
+  idle_up = λ p t found counted. elim (kept.idle_up p t found counted) [ inl q ↦ inl q | inr x ↦ absurd (not_counted p t found counted x) ];
+  idle_down = λ p t found counted. elim (kept.idle_down p t found counted) [ inl q ↦ inl q | inr c ↦ inr (carried_on p c) ];
   late = λ n c p found gone here carried. absurd (nowhere n c p here (entry k new v.conns n c found));
 }
   where

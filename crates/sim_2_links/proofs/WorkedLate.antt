@@ -373,8 +373,8 @@ olds-39-is = record { conn = record { client = (InOnline 1); phase = (AtSession 
 olds-39-reached : LinkReached olds-39
 olds-39-reached = link_more (ReadsStanza 3 22) olds-38 olds-39 olds-38-reached olds-39-is
 
-pub handled_behind_the_count : LinkReached olds-39 × (olds-39.sessions 1 ≡ Some (record { epoch = Some 1; counted = true; read = true; up = record beginning { is_open = false; stated = 0 ∷ 0 ∷ [] }; down = record { put = 20 ∷ 21 ∷ 22 ∷ []; acked = 1; got = 20 ∷ 21 ∷ 22 ∷ []; way = []; is_open = false; stated = 1 ∷ 1 ∷ 2 ∷ [] } }))
-handled_behind_the_count = (olds-39-reached, refl)
+pub handled_after_the_count : LinkReached olds-39 × (olds-39.sessions 1 ≡ Some (record { epoch = Some 1; counted = true; read = true; up = record beginning { is_open = false; stated = 0 ∷ 0 ∷ [] }; down = record { put = 20 ∷ 21 ∷ 22 ∷ []; acked = 1; got = 20 ∷ 21 ∷ 22 ∷ []; way = []; is_open = false; stated = 1 ∷ 1 ∷ 2 ∷ [] } }))
+handled_after_the_count = (olds-39-reached, refl)
 
 -- The client is told the end of connection 2, on which it asked to resume. Its word is taken behind that, with a count
 -- that is the present one, and the session is parked there.
@@ -564,5 +564,5 @@ idle-20-is = record { conn = record { client = (InResume 1); phase = (AtSession 
 idle-20-reached : LinkReached idle-20
 idle-20-reached = link_more (Parks 2) idle-19 idle-20 idle-19-reached idle-20-is
 
-pub resumed_behind_the_end : LinkReached idle-20 × (idle-20.sessions 1 ≡ Some (record { epoch = Some 1; counted = true; read = true; up = record beginning { is_open = false; stated = 0 ∷ [] }; down = record { put = 20 ∷ []; acked = 1; got = 20 ∷ []; way = []; is_open = false; stated = 1 ∷ [] } }))
-resumed_behind_the_end = (idle-20-reached, refl)
+pub resumed_after_the_end : LinkReached idle-20 × (idle-20.sessions 1 ≡ Some (record { epoch = Some 1; counted = true; read = true; up = record beginning { is_open = false; stated = 0 ∷ [] }; down = record { put = 20 ∷ []; acked = 1; got = 20 ∷ []; way = []; is_open = false; stated = 1 ∷ [] } }))
+resumed_after_the_end = (idle-20-reached, refl)

@@ -48,26 +48,26 @@ seen_as (Some s) = Some (seen_session s)
 abbrev pub seen : {A : Type 0} → View A → Seen A
 seen v = record { live = row_number v.row; own = own_number v.own; epoch = v.epoch; sessions = λ q. seen_as (v.sessions q) }
 
-pub data Event (A : Type 0) : Type 0 where
+pub data LinkEvent (A : Type 0) : Type 0 where
   -- the server binds a session; the client reads so; the server counts it; the client knows that
-  Bound : ℕ → Event A
-  Named : ℕ → Event A
-  Counted : ℕ → Event A
-  Known : ℕ → Event A
+  Bound : ℕ → LinkEvent A
+  Named : ℕ → LinkEvent A
+  Counted : ℕ → LinkEvent A
+  Known : ℕ → LinkEvent A
   -- the server's session ends; the client gives its own up
-  Ended : ℕ → Event A
-  Dropped : ℕ → Event A
+  Ended : ℕ → LinkEvent A
+  Dropped : ℕ → LinkEvent A
   -- the client puts a stanza; the server handles one; the server puts one; the client handles one
-  Said : ℕ → A → Event A
-  Handled : ℕ → A → Event A
-  Served : ℕ → A → Event A
-  Heard : ℕ → A → Event A
+  Said : ℕ → A → LinkEvent A
+  Handled : ℕ → A → LinkEvent A
+  Served : ℕ → A → LinkEvent A
+  Heard : ℕ → A → LinkEvent A
   -- the client learns how many of its stanzas were handled
-  Learned : ℕ → ℕ → Event A
+  Learned : ℕ → ℕ → LinkEvent A
 
 -- When an event comes. A session that is bound is newer than all others; one of which the client reads so is newer than
 -- all that have an epoch; one that the server counts, or whose stanzas it handles or puts, is of the present epoch.
-abbrev pub May : {A : Type 0} → Event A → Seen A → Type 0
+abbrev pub May : {A : Type 0} → LinkEvent A → Seen A → Type 0
 May {A = A} (Bound m) s = (s.live ≡ None) × ((q : ℕ) (t : SeenSession A) → s.sessions q ≡ Some t → q + 1 ≤ m)
 May {A = A} (Named m) s = (s.own ≡ None) × ((t : SeenSession A) × (s.sessions m ≡ Some t) × (t.epoch ≡ None) × (t.counted ≡ false)) × ((q e : ℕ) (t : SeenSession A) → s.sessions q ≡ Some t → t.epoch ≡ Some e → q + 1 ≤ m)
 May {A = A} (Counted p) s = (s.live ≡ Some p) × ((t : SeenSession A) × (s.sessions p ≡ Some t) × (t.counted ≡ false) × (t.epoch ≡ Some s.epoch))
@@ -84,7 +84,7 @@ abbrev pub new_session : {A : Type 0} → SeenSession A
 new_session = record { epoch = None; counted = false; known = false; up_put = []; up_got = []; acked = 0; down_put = []; down_got = [] }
 
 -- what it changes
-abbrev pub after : {A : Type 0} → Event A → Seen A → Seen A
+abbrev pub after : {A : Type 0} → LinkEvent A → Seen A → Seen A
 after (Bound m) s = record s { live = Some m; sessions = with_at m new_session s.sessions }
 after (Named m) s = record s { epoch = s.epoch + 1; sessions = alter (λ q t. record t { epoch = if has (Some m) q then Some (s.epoch + 1) else t.epoch }) s.sessions }
 after (Counted p) s = record s { sessions = alter (λ q t. record t { counted = if has (Some p) q then true else t.counted }) s.sessions }
@@ -98,11 +98,11 @@ after (Heard p z) s = record s { sessions = alter (λ q t. record t { down_got =
 after (Learned p n) s = record s { sessions = alter (λ q t. record t { acked = if has (Some p) q then n else t.acked }) s.sessions }
 
 -- nothing is to be seen, or one event
-abbrev pub IsSeenAs : {A : Type 0} → Option (Event A) → Seen A → Seen A → Type 0
+abbrev pub IsSeenAs : {A : Type 0} → Option (LinkEvent A) → Seen A → Seen A → Type 0
 IsSeenAs None s t = t ≡ s
 IsSeenAs (Some e) s t = May e s × (t ≡ after e s)
 
 -- the events come, one after the other, and lead from the one to the other
-abbrev pub Follows : {A : Type 0} → List (Event A) → Seen A → Seen A → Type 0
+abbrev pub Follows : {A : Type 0} → List (LinkEvent A) → Seen A → Seen A → Type 0
 Follows [] s last = last ≡ s
 Follows (e ∷ es) s last = May e s × Follows es (after e s) last

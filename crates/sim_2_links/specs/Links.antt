@@ -96,13 +96,13 @@ pub record GoesDown {A : Type 0} (c : Conn A) (s : Session A) : Type 0 where
   pub counts : DownCounts s.up.acked s.up.stated (down_words c.wires)
 
 -- nothing is under way, and nothing can be
-pub record IsQuiet {A : Type 0} (d : Direction A) : Type 0 where
+pub record IsIdle {A : Type 0} (d : Direction A) : Type 0 where
   pub way : d.way ≡ []
   pub is_open : d.is_open ≡ false
 
 -- where the server's row is: parked, or on a connection that has it
 abbrev pub IsPlaced : {A : Type 0} → Table (Conn A) → Row A → Session A → Option ℕ → Type 0
-IsPlaced conns r s None = (r.counted ≡ true) × IsQuiet s.up
+IsPlaced conns r s None = (r.counted ≡ true) × IsIdle s.up
 IsPlaced {A = A} conns r s (Some k) = (c : Conn A) × (conns k ≡ Some c) × (session_on c ≡ Some r.number) × (s.counted ≡ true → GoesUp c s)
 
 -- the server's row and its session: its counts and its queue are its ends of both directions
@@ -154,6 +154,6 @@ pub record LinkKept {A : Type 0} (v : View A) : Type 0 where
   pub sessions : (p : ℕ) (s : Session A) → v.sessions p ≡ Some s → SessionKept s
   pub goes_down : (k : ℕ) (c : Conn A) (p : ℕ) → v.here ≡ Some k → v.conns k ≡ Some c → carries c ≡ Some p →
       (s : Session A) × (v.sessions p ≡ Some s) × GoesDown c s
-  pub quiet_up : (p : ℕ) (s : Session A) → v.sessions p ≡ Some s → s.counted ≡ true → IsQuiet s.up ⊎ ((r : Row A) × (v.row ≡ Some r) × (r.number ≡ p))
-  pub quiet_down : (p : ℕ) (s : Session A) → v.sessions p ≡ Some s → s.counted ≡ true → IsQuiet s.down ⊎ IsCarried v p
+  pub idle_up : (p : ℕ) (s : Session A) → v.sessions p ≡ Some s → s.counted ≡ true → IsIdle s.up ⊎ ((r : Row A) × (v.row ≡ Some r) × (r.number ≡ p))
+  pub idle_down : (p : ℕ) (s : Session A) → v.sessions p ≡ Some s → s.counted ≡ true → IsIdle s.down ⊎ IsCarried v p
   pub late : (k : ℕ) (c : Conn A) (p : ℕ) → v.conns k ≡ Some c → has v.here k ≡ false → session_on c ≡ Some p → IsCarried v p → IsBare (up_words c.wires)

@@ -13,7 +13,7 @@ pub use delivery::{
 };
 pub use epoch_bounds::epochs_are_within_numbers;
 pub use links::{
-    counts_are_at_most_the_puts, counts_are_too_high_only_behind_a_newer_connection,
+    counts_are_at_most_the_puts, counts_are_too_high_only_after_a_newer_connection,
     counts_are_too_high_only_where_the_client_left, empty_pipes_leave_nothing_outstanding,
     moves_are_events_of_sessions, numbers_rise_with_epochs, runs_with_premises_are_runs,
     sessions_are_acknowledged_delivery, the_clients_queue_stays_short,

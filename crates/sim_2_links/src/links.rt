@@ -6,7 +6,7 @@ ghost use Rattle.sim_2_links.specs.Wires.{down_words, is_flowing, up_words};
 ghost use Rattle.sim_2_links.specs.Stages.{Conn};
 ghost use Rattle.sim_2_links.specs.Views.{carries, has, Own, Row, Session, View};
 ghost use Rattle.sim_2_links.specs.EndMoves.{IsTooHigh};
-ghost use Rattle.sim_2_links.specs.Events.{Event, Follows, IsSeenAs, seen};
+ghost use Rattle.sim_2_links.specs.Events.{Follows, IsSeenAs, LinkEvent, seen};
 ghost use Rattle.sim_2_links.specs.Machine.{LinkMove, LinkMoves, LinkReached, LinkReaches, nothing_yet};
 ghost use Rattle.sim_2_links.specs.Newest.{newest};
 ghost use Rattle.sim_2_links.specs.Numbers.{IsRising};
@@ -55,7 +55,7 @@ pub fn counts_are_too_high_only_where_the_client_left<A>()
 
 /// On the connection that the client dialled last, a resumption states exactly what the client has handled: also where it
 /// was told the connection's end, or left it and dialled no other. So a count is too high only behind a newer connection.
-pub fn counts_are_too_high_only_behind_a_newer_connection<A>()
+pub fn counts_are_too_high_only_after_a_newer_connection<A>()
     ensures stated { (moves : List (LinkMove A)) (v : View A) (k h : ℕ) (c : Conn A) (r : Row A) (rest : List (UpWord A)) → LinkReaches moves nothing_yet v → newest moves None ≡ Some k → v.conns k ≡ Some c → v.row ≡ Some r →
         up_words c.wires ≡ ResumeAt r.number h ∷ rest → (s : Session A) × (v.sessions r.number ≡ Some s) × (h ≡ length s.down.got) × IsWithin r.acked r.queue h }
     ensures too_high { (moves : List (LinkMove A)) (v next : View A) (k : ℕ) → LinkReaches moves nothing_yet v → newest moves None ≡ Some k → IsTooHigh k v next → ⊥ }
@@ -107,9 +107,9 @@ pub fn runs_with_premises_are_runs<A>()
 /// rest on, as that a stanza which is handled is the next one that was put. `Tells` says which event each move is. So what
 /// is seen of a session is what the events of its run make of it.
 pub fn moves_are_events_of_sessions<A>()
-    ensures moves { (move : LinkMove A) (v next : View A) → LinkReached v → LinkMoves move v next → (e : Option (Event A)) × IsSeenAs e (seen v) (seen next) }
-    ensures tells { (move : LinkMove A) (v next : View A) → LinkReached v → LinkMoves move v next → (e : Option (Event A)) × Tells move v e × IsSeenAs e (seen v) (seen next) }
-    ensures runs { (v : View A) → LinkReached v → (es : List (Event A)) × Follows es (seen nothing_yet) (seen v) }
+    ensures moves { (move : LinkMove A) (v next : View A) → LinkReached v → LinkMoves move v next → (e : Option (LinkEvent A)) × IsSeenAs e (seen v) (seen next) }
+    ensures tells { (move : LinkMove A) (v next : View A) → LinkReached v → LinkMoves move v next → (e : Option (LinkEvent A)) × Tells move v e × IsSeenAs e (seen v) (seen next) }
+    ensures runs { (v : View A) → LinkReached v → (es : List (LinkEvent A)) × Follows es (seen nothing_yet) (seen v) }
 {}
 
 /// The numbers of sessions rise with their epochs: the session that the server has is the newest, whichever connection

@@ -22,10 +22,10 @@ use Rattle.sim_3_images.specs.ReportTakes.{Taken, concerns}
 
 -- the name at a place, or none
 abbrev pub name_at : List (List ℕ) → ℕ → List ℕ
-name_at names place = unwrap_or (slice_get names place) []
+name_at names position = unwrap_or (slice_get names position) []
 
-pub name_there : (names : List (List ℕ)) (place : ℕ) → name_of (slice_get (accounts_at_start names) place) ≡ name_at names place
-name_there names place = ap name_of (slice_get-map account_at_start names place) ∙ same (slice_get names place)
+pub name_there : (names : List (List ℕ)) (position : ℕ) → name_of (slice_get (accounts_at_start names) position) ≡ name_at names position
+name_there names position = ap name_of (slice_get-map account_at_start names position) ∙ same (slice_get names position)
   where
     same : (o : Option (List ℕ)) → name_of (option_map account_at_start o) ≡ unwrap_or o []
     same None = refl
@@ -57,25 +57,25 @@ plain_name (c ∷ cs) is =
     let b = and_parts (is_lower c) _ a.0 in
     all_plain (c ∷ cs) (and_from (is_lower c || is_digit c) (list_all (λ d. is_lower d || is_digit d) cs) (or_left (is_lower c) (is_digit c) b.0) a.1)
 
-pub named : (names : List (List ℕ)) (place : ℕ) (name : List ℕ) → AreNames names → slice_get names place ≡ Some name → is_name name ≡ true
-named [] place name are is = absurd (none-some name is)
+pub named : (names : List (List ℕ)) (position : ℕ) (name : List ℕ) → AreNames names → slice_get names position ≡ Some name → is_name name ≡ true
+named [] position name are is = absurd (none-some name is)
 named (n ∷ names) zero name are is = subst (λ x. is_name x ≡ true) (same_Some n name is) are.0
-named (n ∷ names) (suc place) name are is = named names place name are.1 is
+named (n ∷ names) (suc position) name are is = named names position name are.1 is
 
 plain_where : (o : Option (List ℕ)) → ((name : List ℕ) → o ≡ Some name → is_name name ≡ true) → IsPlainName (unwrap_or o [])
 plain_where None each = record { slash = refl; at = refl }
 plain_where (Some name) each = plain_name name (each name refl)
 
-pub plain_at : (names : List (List ℕ)) (place : ℕ) → AreNames names → IsPlainName (name_at names place)
-plain_at names place are = plain_where (slice_get names place) (λ name is. named names place name are is)
+pub plain_at : (names : List (List ℕ)) (position : ℕ) → AreNames names → IsPlainName (name_at names position)
+plain_at names position are = plain_where (slice_get names position) (λ name is. named names position name are is)
 
 -- ---- no two accounts have one name
 
-before_new : (name : List ℕ) (before names : List (List ℕ)) (place : ℕ) → AreAccounts before names → slice_get names place ≡ Some name → is_among name before ≡ false
-before_new name before [] place are is = absurd (none-some name is)
+before_new : (name : List ℕ) (before names : List (List ℕ)) (position : ℕ) → AreAccounts before names → slice_get names position ≡ Some name → is_among name before ≡ false
+before_new name before [] position are is = absurd (none-some name is)
 before_new name before (n ∷ names) zero are is = subst (λ x. is_among x before ≡ false) (same_Some n name is) are.2
-before_new name before (n ∷ names) (suc place) are is =
-    let more : is_among name (before ++ n ∷ []) ≡ false = before_new name (before ++ n ∷ []) names place are.3 is in
+before_new name before (n ∷ names) (suc position) are is =
+    let more : is_among name (before ++ n ∷ []) ≡ false = before_new name (before ++ n ∷ []) names position are.3 is in
     let split : (is_among name before || is_among name (n ∷ [])) ≡ false = sym (list_any-append (λ other. bytes_eq name other) before (n ∷ [])) ∙ more in
     neither (is_among name before) (is_among name (n ∷ [])) split
   where
@@ -91,18 +91,18 @@ among_last name (n ∷ before) = or_there (bytes_eq name n) (is_among name (befo
     or_there true y h = refl
     or_there false y h = h
 
-one_place : (before names : List (List ℕ)) (p q : ℕ) (name : List ℕ) → AreAccounts before names → slice_get names p ≡ Some name → slice_get names q ≡ Some name → p ≡ q
-one_place before [] p q name are at_p at_q = absurd (none-some name at_p)
-one_place before (n ∷ names) zero zero name are at_p at_q = refl
-one_place before (n ∷ names) zero (suc q) name are at_p at_q =
+one_position : (before names : List (List ℕ)) (p q : ℕ) (name : List ℕ) → AreAccounts before names → slice_get names p ≡ Some name → slice_get names q ≡ Some name → p ≡ q
+one_position before [] p q name are at_p at_q = absurd (none-some name at_p)
+one_position before (n ∷ names) zero zero name are at_p at_q = refl
+one_position before (n ∷ names) zero (suc q) name are at_p at_q =
     absurd (false≢true (sym (before_new name (before ++ n ∷ []) names q are.3 at_q) ∙ subst (λ x. is_among x (before ++ n ∷ []) ≡ true) (same_Some n name at_p) (among_last n before)))
-one_place before (n ∷ names) (suc p) zero name are at_p at_q =
+one_position before (n ∷ names) (suc p) zero name are at_p at_q =
     absurd (false≢true (sym (before_new name (before ++ n ∷ []) names p are.3 at_p) ∙ subst (λ x. is_among x (before ++ n ∷ []) ≡ true) (same_Some n name at_q) (among_last n before)))
-one_place before (n ∷ names) (suc p) (suc q) name are at_p at_q = ap suc (one_place (before ++ n ∷ []) names p q name are.3 at_p at_q)
+one_position before (n ∷ names) (suc p) (suc q) name are at_p at_q = ap suc (one_position (before ++ n ∷ []) names p q name are.3 at_p at_q)
 
 other_name : (names : List (List ℕ)) (o : Option (List ℕ)) (p q : ℕ) (name : List ℕ) → AreAccounts [] names → is_name name ≡ true → slice_get names p ≡ Some name → slice_get names q ≡ o → q ≢ p → name ≢ unwrap_or o []
 other_name names None p q name are is at_p at_q apart same = false≢true (subst (λ x. is_name x ≡ true) same is)
-other_name names (Some other) p q name are is at_p at_q apart same = apart (one_place [] names q p name are (at_q ∙ ap Some (sym same)) at_p)
+other_name names (Some other) p q name are is at_p at_q apart same = apart (one_position [] names q p name are (at_q ∙ ap Some (sym same)) at_p)
 
 pub same_account : (names : List (List ℕ)) (p q : ℕ) (name : List ℕ) → AreAccounts [] names → is_name name ≡ true → slice_get names p ≡ Some name → (q == p) ≡ bytes_eq name (name_at names q)
 same_account names p q name are is at_p =

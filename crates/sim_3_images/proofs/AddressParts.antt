@@ -10,9 +10,9 @@ abbrev before : (ℕ → Bool) → List ℕ → List ℕ
 before p [] = []
 before p (b ∷ bs) = cond (p b) [] (b ∷ before p bs)
 
-abbrev behind : (ℕ → Bool) → List ℕ → List ℕ
-behind p [] = []
-behind p (b ∷ bs) = cond (p b) bs (behind p bs)
+abbrev following : (ℕ → Bool) → List ℕ → List ℕ
+following p [] = []
+following p (b ∷ bs) = cond (p b) bs (following p bs)
 
 before_is : (p : ℕ → Bool) (bs : List ℕ) → before_first p bs ≡ before p bs
 before_is p [] = refl
@@ -24,14 +24,14 @@ before_is p (b ∷ bs) =
           rw (later, next) (ap (λ l. b ∷ l) (before_is p bs))
     ]
 
-behind_is : (p : ℕ → Bool) (bs : List ℕ) → after_first p bs ≡ behind p bs
-behind_is p [] = refl
-behind_is p (b ∷ bs) =
+after_is : (p : ℕ → Bool) (bs : List ℕ) → after_first p bs ≡ following p bs
+after_is p [] = refl
+after_is p (b ∷ bs) =
     elim (cases_Bool (p b)) [
       | inl here ↦ rw here refl
       | inr later ↦
           let next : 1 + position_or_len p bs + 1 ≡ suc (position_or_len p bs + 1) = omega arith in
-          rw (later, next) (behind_is p bs)
+          rw (later, next) (after_is p bs)
     ]
 
 before_joined : (p : ℕ → Bool) (bs : List ℕ) (b : ℕ) (more : List ℕ) → list_all (λ x. not (p x)) bs ≡ true → p b ≡ true → before p (bs ++ b ∷ more) ≡ bs
@@ -44,11 +44,11 @@ before_joined p (x ∷ bs) b more none is =
     not_true true h = absurd (cc h)
     not_true false h = refl
 
-behind_joined : (p : ℕ → Bool) (bs : List ℕ) (b : ℕ) (more : List ℕ) → list_all (λ x. not (p x)) bs ≡ true → p b ≡ true → behind p (bs ++ b ∷ more) ≡ more
-behind_joined p [] b more none is = rw is refl
-behind_joined p (x ∷ bs) b more none is =
+after_joined : (p : ℕ → Bool) (bs : List ℕ) (b : ℕ) (more : List ℕ) → list_all (λ x. not (p x)) bs ≡ true → p b ≡ true → following p (bs ++ b ∷ more) ≡ more
+after_joined p [] b more none is = rw is refl
+after_joined p (x ∷ bs) b more none is =
     let parts = and_parts (not (p x)) (list_all (λ y. not (p y)) bs) none in
-    rw (not_true (p x) parts.0) (behind_joined p bs b more parts.1 is)
+    rw (not_true (p x) parts.0) (after_joined p bs b more parts.1 is)
   where
     not_true : (c : Bool) → not c ≡ true → c ≡ false
     not_true true h = absurd (cc h)
@@ -58,7 +58,7 @@ pub before_first-joined : (p : ℕ → Bool) (bs : List ℕ) (b : ℕ) (more : L
 before_first-joined p bs b more none is = before_is p (bs ++ b ∷ more) ∙ before_joined p bs b more none is
 
 pub after_first-joined : (p : ℕ → Bool) (bs : List ℕ) (b : ℕ) (more : List ℕ) → list_all (λ x. not (p x)) bs ≡ true → p b ≡ true → after_first p (bs ++ b ∷ more) ≡ more
-after_first-joined p bs b more none is = behind_is p (bs ++ b ∷ more) ∙ behind_joined p bs b more none is
+after_first-joined p bs b more none is = after_is p (bs ++ b ∷ more) ∙ after_joined p bs b more none is
 
 -- ---- the local part of an address stands before its first `@`
 

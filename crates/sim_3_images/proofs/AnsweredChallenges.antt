@@ -6,9 +6,9 @@ use Rattle.base64.specs.GeneralPurpose.{encode_of}
 use Rattle.sim_3_images.proofs.AnsweredItems.{no_enabled, no_message, no_request}
 use Rattle.sim_3_images.proofs.AnsweredRows.{any_answers, ending_answers, failing_answers}
 use Rattle.sim_3_images.proofs.AnsweredSteps.{ActsAnswer}
-use Rattle.sim_3_images.specs.Mild.{IsAnswered}
+use Rattle.sim_3_images.specs.Relayable.{IsAnswered}
 use Rattle.srv_state.specs.Logins.{at_login, at_login_other, beginning}
-use Rattle.srv_state.specs.State.{Hall}
+use Rattle.srv_state.specs.State.{ServerState}
 use Rattle.srv_state.specs.declared.connection.Standing.{Standing}
 use Rattle.srv_state.specs.declared.connection.Tries.{Tries}
 use Rattle.srv_state.specs.declared.word.Word.{Word}
@@ -30,7 +30,7 @@ use Rattle.auth_scram.proofs.Base64.{length_of}
 use Rattle.auth_scram.specs.Exchange.{added_nonce}
 use Rattle.law_limits.proofs.ServerLoginsKept.{IsSmall, IsSmallAnswer, auth_small, encoded_small, first_bytes, payload_short}
 use Rattle.law_limits.proofs.Readings.{this_is}
-use Rattle.law_limits.specs.Keeps.{AccountKeeps, HallKeeps, IsDrawn}
+use Rattle.law_limits.specs.Keeps.{AccountKeeps, IsDrawn, ServerKeeps}
 use Rattle.xml_trees.proofs.TidyReads.{text_of-text_node}
 use Rattle.xml_trees.specs.Readers.{text_of}
 use Rattle.xml_trees.specs.Tidied.{text_node}
@@ -43,8 +43,8 @@ taken_few (suc n) [] = omega arith
 taken_few (suc n) (x ∷ xs) = let ih = taken_few n xs in omega (arith, ih)
 
 -- an `auth` has a short text
-abbrev pub IsAuthMild : Elem → Type 0
-IsAuthMild e = is_sasl (codes "auth") e ≡ true → length (text_of (nodes_of e)) ≤ 400
+abbrev pub IsAuthRelayable : Elem → Type 0
+IsAuthRelayable e = is_sasl (codes "auth") e ≡ true → length (text_of (nodes_of e)) ≤ 400
 
 -- ---- the challenge
 
@@ -82,5 +82,5 @@ answer_answers (auth.Fails why) small = tt
 tail_small : (entropy : List ℕ) → IsDrawn entropy → IsSmall 40 (added_nonce entropy)
 tail_small entropy h = encoded_small 18 40 (take 18 entropy) (first_bytes 18 entropy h.bytes) (taken_few 18 entropy) (omega arith)
 
-pub auth_answers : (e : Elem) (entropy : List ℕ) (accounts : List Account) → IsPlain e → IsAuthMild e → IsDrawn entropy → AllByRecursion AccountKeeps accounts → AnswerAnswers (auth_answer e entropy accounts)
-auth_answers e entropy accounts plain mild drawn h = answer_answers (auth_answer e entropy accounts) (auth_small 400 40 e entropy accounts plain mild (tail_small entropy drawn) h)
+pub auth_answers : (e : Elem) (entropy : List ℕ) (accounts : List Account) → IsPlain e → IsAuthRelayable e → IsDrawn entropy → AllByRecursion AccountKeeps accounts → AnswerAnswers (auth_answer e entropy accounts)
+auth_answers e entropy accounts plain relayable drawn h = answer_answers (auth_answer e entropy accounts) (auth_small 400 40 e entropy accounts plain relayable (tail_small entropy drawn) h)

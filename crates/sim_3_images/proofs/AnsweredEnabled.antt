@@ -5,14 +5,14 @@ use Rattle.base_lemmas.specs.Hexadecimal.{hex16_of}
 use Rattle.sim_3_images.proofs.AnsweredItems.{no_challenge, no_message, no_request}
 use Rattle.sim_3_images.proofs.AnsweredRows.{either_acts, refusing_answers}
 use Rattle.sim_3_images.proofs.AnsweredSteps.{ActsAnswer}
-use Rattle.sim_3_images.specs.Mild.{IsAnswered}
+use Rattle.sim_3_images.specs.Relayable.{IsAnswered}
 use Rattle.law_limits.specs.Answerable.{IsAnswerable}
 use Rattle.sm_resumption.specs.declared.answers.TheConstants.{RESUMABLE_SECONDS}
 use Rattle.im_extensions.specs.Readings.{enabled_read, enabled_with}
 use Rattle.im_extensions.specs.StreamManagement.{enabled_elem}
 use Rattle.im_extensions.specs.declared.stream_management.Enabled.{Enabled}
 use Rattle.sim_3_items.specs.ItemWorlds.{itself}
-use Rattle.sm_live.specs.declared.told.Told.{Told}
+use Rattle.sm_live.specs.declared.told.SessionInfo.{SessionInfo}
 use Rattle.im_payload.specs.Shapes.{attr_or_empty}
 use Rattle.law_limits.specs.Bounds.{IsTextWithin, most_id}
 use Rattle.law_limits.proofs.Readings.{this_is}
@@ -48,5 +48,5 @@ pub enabled_answers : (n : ℕ) (b : Bool) → IsAnswered (enabled_as n b)
 enabled_answers n true = named_answers (record { id = hex16_of n; resume = true; max = Some RESUMABLE_SECONDS }) (subst (IsTextWithin most_id) (sym (resumable_id (hex16_of n) RESUMABLE_SECONDS)) (hex_within n))
 enabled_answers n false = named_answers (record { id = []; resume = false; max = None }) (record { characters = printable_characters [] refl; short = omega arith })
 
-pub enable_acts : (k : ℕ) (resume : Bool) (t : Told) → ActsAnswer (at_enable itself k resume t)
+pub enable_acts : (k : ℕ) (resume : Bool) (t : SessionInfo) → ActsAnswer (at_enable itself k resume t)
 enable_acts k resume t = either_acts t.counted _ _ (refusing_answers k UnexpectedRequest) (tt, (enabled_answers t.number resume, tt))

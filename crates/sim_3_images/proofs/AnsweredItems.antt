@@ -5,7 +5,7 @@ use Rattle.std.proofs.lemmas.Slice.Eq.{bytes_eq-Decides}
 use Rattle.std.proofs.lemmas.Option.{none-some, same_Some}
 use Rattle.mam_archive.specs.Ids.{id_of}
 use Rattle.law_limits.specs.Answerable.{IsAnswerable}
-use Rattle.sim_3_images.proofs.MildItems.{not_named, other_first, unlike}
+use Rattle.sim_3_images.proofs.RelayableItems.{not_named, other_first, unlike}
 use Rattle.im_extensions.specs.Ids.{stanza_id_elem}
 use Rattle.im_extensions.specs.Readings.{enabled_read}
 use Rattle.im_extensions.specs.StreamManagement.{is_management}

@@ -2,7 +2,7 @@
 use Rattle.std.proofs.Common.{◌≡◌, ℕ, Bool, true, false, List, codes, bytes_eq, Option, Some, None, refl}
 use Rattle.law_limits.specs.Answerable.{IsAnswerable}
 use Rattle.sim_3_images.proofs.AnsweredItems.{iq_answers_by, no_challenge, no_enabled, no_message, other_answers, plain_message}
-use Rattle.sim_3_images.proofs.MildItems.{other_first}
+use Rattle.sim_3_images.proofs.RelayableItems.{other_first}
 use Rattle.im_forwarding.specs.Copies.{CopyView, copied_elem, copy_elem}
 use Rattle.im_payload.specs.Names.{archive}
 use Rattle.im_replies.specs.Requests.{EnvelopeView}

@@ -9,8 +9,8 @@ use Rattle.law_limits.specs.Answerable.{IsAnswerable}
 use Rattle.sim_3_images.proofs.AnsweredItems.{message_answers}
 use Rattle.sim_3_images.proofs.AnsweredReplies.{refusal_answers, result_answers}
 use Rattle.sim_3_images.proofs.AnsweredSteps.{ActsAnswer}
-use Rattle.sim_3_images.specs.Mild.{IsAnswered}
-use Rattle.srv_state.specs.State.{Hall, Kept, archive_at}
+use Rattle.sim_3_images.specs.Relayable.{IsAnswered}
+use Rattle.srv_state.specs.State.{Kept, ServerState, archive_at}
 use Rattle.srv_state.specs.Steps.{Act}
 use Rattle.im_extensions.specs.ForwardReadings.{forward_read}
 use Rattle.im_extensions.specs.Forwarding.{the_forwarded}
@@ -18,7 +18,7 @@ use Rattle.im_extensions.specs.declared.forwarding.Forwarded.{Forwarded}
 use Rattle.im_forwarding.specs.Queries.{no_such_place}
 use Rattle.im_forwarding.specs.Results.{AskerView, archived_result, entry_elem, fin_item}
 use Rattle.sim_3_items.specs.ItemWorlds.{itself}
-use Rattle.sm_live.specs.declared.told.Told.{Told}
+use Rattle.sm_live.specs.declared.told.SessionInfo.{SessionInfo}
 use Rattle.im_mam.specs.Readings.{result_read, result_with}
 use Rattle.im_mam.specs.declared.archive_answers.MamResult.{MamResult}
 use Rattle.im_mam.specs.declared.archive_query.MamQuery.{MamQuery}
@@ -70,19 +70,19 @@ sending_answers : (i : ℕ) (asker : AskerView) (entries : List EntryView) (numb
 sending_answers i asker entries [] more q = q
 sending_answers i asker entries (number ∷ numbers) more q = sending_entry_answers i asker (entry_numbered number entries) (sending_entries itself i asker entries numbers more) (sending_answers i asker entries numbers more q)
 
-paging_answers : (q : IqView) (t : Told) (queryid : List ℕ) (kept : Kept) (o : Option CutView) (h : Hall ItemOut) → ActsAnswer (paging itself q t queryid kept o h)
+paging_answers : (q : IqView) (t : SessionInfo) (queryid : List ℕ) (kept : Kept) (o : Option CutView) (h : ServerState ItemOut) → ActsAnswer (paging itself q t queryid kept o h)
 paging_answers q t queryid kept None h = (refusal_answers (envelope_of q t h).from (envelope_of q t h).to (envelope_of q t h).id no_such_place, tt)
 paging_answers q t queryid kept (Some cut) h = sending_answers t.number (asker_of t queryid h) kept.entries cut.numbers (answering_iq itself t (fin_item (envelope_of q t h) cut)) (result_answers (envelope_of q t h) _, tt)
 
-querying_answers : (q : IqView) (t : Told) (query : MamQuery) (o : Option Kept) (h : Hall ItemOut) → ActsAnswer (querying_in itself q t query o h)
+querying_answers : (q : IqView) (t : SessionInfo) (query : MamQuery) (o : Option Kept) (h : ServerState ItemOut) → ActsAnswer (querying_in itself q t query o h)
 querying_answers q t query None h = tt
 querying_answers q t query (Some kept) h = paging_answers q t query.queryid kept (page_of (kept_by kept.owner kept.entries) query.query) h
 
-info_answers : (b : Bool) (q : IqView) (t : Told) (h : Hall ItemOut) → IsAnswered (info_item b (envelope_of q t h))
+info_answers : (b : Bool) (q : IqView) (t : SessionInfo) (h : ServerState ItemOut) → IsAnswered (info_item b (envelope_of q t h))
 info_answers true q t h = result_answers (envelope_of q t h) _
 info_answers false q t h = result_answers (envelope_of q t h) _
 
-pub serving_answers : (o : Option Request) (q : IqView) (t : Told) (h : Hall ItemOut) → ActsAnswer (serving itself o q t h)
+pub serving_answers : (o : Option Request) (q : IqView) (t : SessionInfo) (h : ServerState ItemOut) → ActsAnswer (serving itself o q t h)
 serving_answers None q t h = tt
 serving_answers (Some request.Ping) q t h = (result_answers (envelope_of q t h) _, tt)
 serving_answers (Some (request.Info at_domain)) q t h = (info_answers at_domain q t h, tt)

@@ -8,9 +8,9 @@ use Rattle.sm_acks.specs.declared.end.TooHigh.{TooHigh}
 use Rattle.sim_3_images.proofs.AnsweredItems.{other_answers}
 use Rattle.sim_3_images.proofs.AnsweredReplies.{refusal_answers, result_answers}
 use Rattle.sim_3_images.proofs.AnsweredSteps.{ActsAnswer, error_answers, request_answers}
-use Rattle.sim_3_images.specs.Mild.{IsAnswered, SessionAnswers}
+use Rattle.sim_3_images.specs.Relayable.{IsAnswered, SessionAnswers}
 use Rattle.srv_state.specs.Logins.{answering, failing, finishing}
-use Rattle.srv_state.specs.State.{Hall}
+use Rattle.srv_state.specs.State.{ServerState}
 use Rattle.srv_state.specs.Steps.{Act}
 use Rattle.srv_state.specs.Streams.{answering_header, at_any, at_header, awaits_header, closing, ending, ending_in, field_condition, header_condition, header_in, opening, parting, parting_where}
 use Rattle.srv_state.specs.declared.connection.Stage.{Stage}
@@ -23,7 +23,7 @@ use Rattle.srv_state.specs.declared.word.Word.{Word}
 use Rattle.srv_state.specs.declared.word.Word.TheVariants as word
 use Rattle.sim_3_items.specs.ItemWorlds.{itself}
 use Rattle.sm_live.specs.Sessions.{Session, ack_answer, ended_of, resume_answer, session_named, session_of, session_resumed}
-use Rattle.sm_live.specs.declared.told.Told.{Told}
+use Rattle.sm_live.specs.declared.told.SessionInfo.{SessionInfo}
 use Rattle.srv_login.specs.Headers.{header_answer}
 use Rattle.srv_login.specs.Negotiations.{LoginView, final_answer}
 use Rattle.srv_login.specs.declared.header_judgement.HeaderAnswer.{HeaderAnswer}
@@ -58,17 +58,17 @@ pub parting_where_answers : (o : Option ℕ) (i : ItemOut) (more : List (Act Ite
 parting_where_answers None i more r h = h
 parting_where_answers (Some k) i more r h = (r, (tt, (tt, h)))
 
-ending_at : (k : ℕ) (c : StreamCondition) (s : Stage) (entropy : List ℕ) (h : Hall ItemOut) → ActsAnswer (ending_in itself k c s entropy h)
+ending_at : (k : ℕ) (c : StreamCondition) (s : Stage) (entropy : List ℕ) (h : ServerState ItemOut) → ActsAnswer (ending_in itself k c s entropy h)
 ending_at k c stage.Start entropy h = (tt, parting_answers k (error_item c) (error_answers c))
 ending_at k c stage.Login entropy h = parting_answers k (error_item c) (error_answers c)
 ending_at k c stage.Challenge entropy h = parting_answers k (error_item c) (error_answers c)
 ending_at k c (stage.Restart account) entropy h = parting_answers k (error_item c) (error_answers c)
 ending_at k c (stage.Ready account) entropy h = parting_answers k (error_item c) (error_answers c)
 
-pub ending_answers : (k : ℕ) (c : StreamCondition) (st : Standing) (h : Hall ItemOut) → ActsAnswer (ending itself k c st h)
+pub ending_answers : (k : ℕ) (c : StreamCondition) (st : Standing) (h : ServerState ItemOut) → ActsAnswer (ending itself k c st h)
 ending_answers k c st h = ending_at k c st.stage st.entropy h
 
-pub any_answers : (k : ℕ) (w : Word) (st : Standing) (h : Hall ItemOut) → ActsAnswer (at_any itself k w st h)
+pub any_answers : (k : ℕ) (w : Word) (st : Standing) (h : ServerState ItemOut) → ActsAnswer (at_any itself k w st h)
 any_answers k (word.Stanza long read) st h = ending_answers k stream.UnsupportedStanzaType st h
 any_answers k (word.Enable resume) st h = ending_answers k stream.UnsupportedStanzaType st h
 any_answers k word.Request st h = ending_answers k stream.UnsupportedStanzaType st h
@@ -81,22 +81,22 @@ any_answers k word.BadField st h = ending_answers k stream.BadFormat st h
 any_answers k word.StreamError st h = closing_answers k
 any_answers k word.Other st h = ending_answers k stream.UnsupportedStanzaType st h
 
-opening_answers : (k : ℕ) (entropy : List ℕ) (s : Stage) (h : Hall ItemOut) → ActsAnswer (opening itself k entropy s h)
+opening_answers : (k : ℕ) (entropy : List ℕ) (s : Stage) (h : ServerState ItemOut) → ActsAnswer (opening itself k entropy s h)
 opening_answers k entropy (stage.Restart account) h = (tt, (other_answers _ refl refl refl refl, (tt, tt)))
 opening_answers k entropy stage.Start h = (tt, (other_answers _ refl refl refl refl, (tt, tt)))
 opening_answers k entropy stage.Login h = (tt, (other_answers _ refl refl refl refl, (tt, tt)))
 opening_answers k entropy stage.Challenge h = (tt, (other_answers _ refl refl refl refl, (tt, tt)))
 opening_answers k entropy (stage.Ready account) h = (tt, (other_answers _ refl refl refl refl, (tt, tt)))
 
-headed_answers : (k : ℕ) (st : Standing) (a : HeaderAnswer) (h : Hall ItemOut) → ActsAnswer (answering_header itself k st a h)
+headed_answers : (k : ℕ) (st : Standing) (a : HeaderAnswer) (h : ServerState ItemOut) → ActsAnswer (answering_header itself k st a h)
 headed_answers k st Opens h = opening_answers k st.entropy st.stage h
 headed_answers k st (Refused why) h = ending_answers k (header_condition why) st h
 
-header_by : (k : ℕ) (header : Header) (st : Standing) (b : Bool) (h : Hall ItemOut) → ActsAnswer (header_in itself k header st b h)
+header_by : (k : ℕ) (header : Header) (st : Standing) (b : Bool) (h : ServerState ItemOut) → ActsAnswer (header_in itself k header st b h)
 header_by k header st true h = headed_answers k st (header_answer h.domain header) h
 header_by k header st false h = ending_answers k stream.UnsupportedStanzaType st h
 
-pub header_answers : (k : ℕ) (header : Header) (st : Standing) (h : Hall ItemOut) → ActsAnswer (at_header itself k header st h)
+pub header_answers : (k : ℕ) (header : Header) (st : Standing) (h : ServerState ItemOut) → ActsAnswer (at_header itself k header st h)
 header_answers k header st h = header_by k header st (awaits_header st.stage) h
 
 -- ---- logins
@@ -116,12 +116,12 @@ response_answers k left e (Some n) = finishing_answers k left (final_answer e n)
 
 -- ---- a binding
 
-bound_as : (k account : ℕ) (id : List ℕ) (o : Option (List ℕ)) (h : Hall ItemOut) → ActsAnswer (binding_as itself k account id o h)
+bound_as : (k account : ℕ) (id : List ℕ) (o : Option (List ℕ)) (h : ServerState ItemOut) → ActsAnswer (binding_as itself k account id o h)
 bound_as k account id None h = (refusal_answers None None id bad_request, tt)
 bound_as k account id (Some resource) h =
     (tt, parting_where_answers (former_of (option_map ended_of (session_named account resource h.sessions))) (error_item stream.Conflict) _ (error_answers stream.Conflict) (result_answers (record { from = None; to = None; id = id }) _, tt))
 
-pub bind_answers : (k account : ℕ) (id : List ℕ) (bind : Elem) (h : Hall ItemOut) → ActsAnswer (at_bind itself k account id bind h)
+pub bind_answers : (k account : ℕ) (id : List ℕ) (bind : Elem) (h : ServerState ItemOut) → ActsAnswer (at_bind itself k account id bind h)
 bind_answers k account id bind h = bound_as k account id (result_ok (chosen h.next (asked_resource bind))) h
 
 -- ---- acknowledgements
@@ -133,7 +133,7 @@ pub either_acts : (b : Bool) (x y : List (Act ItemOut)) → ActsAnswer x → Act
 either_acts true x y h k = h
 either_acts false x y h k = k
 
-pub request_acts : (k : ℕ) (t : Told) → ActsAnswer (at_request itself k t)
+pub request_acts : (k : ℕ) (t : SessionInfo) → ActsAnswer (at_request itself k t)
 request_acts k t = either_acts t.counted _ _ (other_answers _ refl refl refl refl, tt) (refusing_answers k UnexpectedRequest)
 
 acknowledging_answers : (k n m : ℕ) (o : Option (Result ℕ TooHigh)) → ActsAnswer (acknowledging itself k n m o)
@@ -141,7 +141,7 @@ acknowledging_answers k n m None = tt
 acknowledging_answers k n m (Some (Ok more)) = (tt, (tt, tt))
 acknowledging_answers k n m (Some (Err why)) = parting_answers k (too_high_item why.h why.send_count) (other_answers _ refl refl refl refl)
 
-pub ack_answers : (k m : ℕ) (t : Told) (h : Hall ItemOut) → ActsAnswer (at_ack itself k m t h)
+pub ack_answers : (k m : ℕ) (t : SessionInfo) (h : ServerState ItemOut) → ActsAnswer (at_ack itself k m t h)
 ack_answers k m t h = either_acts t.counted _ _ (acknowledging_answers k t.number m (option_map (ack_answer m) (session_of t.number h.sessions))) (refusing_answers k UnexpectedRequest)
 
 -- ---- a resumption
@@ -171,7 +171,7 @@ resuming_answers k account previd m (Ok r) waiting w = (
   ),
 )
 
-pub resume_answers : (k account : ℕ) (previd : List ℕ) (m : ℕ) (h : Hall ItemOut) → AllByRecursion SessionAnswers h.sessions → ActsAnswer (at_resume itself k account previd m h)
+pub resume_answers : (k account : ℕ) (previd : List ℕ) (m : ℕ) (h : ServerState ItemOut) → AllByRecursion SessionAnswers h.sessions → ActsAnswer (at_resume itself k account previd m h)
 resume_answers k account previd m h keeps =
     let o = session_resumed previd account h.sessions in
     resuming_answers k account previd m (resume_answer m o) (resent_where m o) (resent_answers m o (each_found SessionAnswers _ h.sessions keeps))

@@ -4,15 +4,15 @@ use Rattle.std.specs.List.{AllByRecursion}
 use Rattle.sm_acks.specs.Counters.{ahead}
 use Rattle.sm_acks.specs.declared.end.TheConstants.{MOST_UNACKNOWLEDGED}
 use Rattle.mam_archive.specs.Entries.{EntryView}
-use Rattle.sim_3_images.specs.Mild.{HallAnswers, IsAnswered, SessionAnswers}
+use Rattle.sim_3_images.specs.Relayable.{IsAnswered, ServerStateAnswers, SessionAnswers}
 use Rattle.sim_3_images.proofs.AnsweredItems.{other_answers}
-use Rattle.srv_state.specs.State.{Hall, Kept, Put, Shut, Step, Took, archive_at}
+use Rattle.srv_state.specs.State.{Kept, Put, ServerState, Shut, Step, Took, archive_at}
 use Rattle.srv_state.specs.Steps as steps
-use Rattle.srv_state.specs.Steps.{Act, act, acted, archived_in, ask_where, binds, in_hall, in_sessions, is_due, overflow, part, part_where, put, put_where, queue, send_told, shut}
+use Rattle.srv_state.specs.Steps.{Act, act, acted, archived_in, ask_where, binds, in_server_state, in_sessions, is_due, overflow, part, part_where, put, put_where, queue, send_by_info, shut}
 use Rattle.sim_3_images.specs.Stands.{OutPuts}
 use Rattle.sim_3_items.specs.ItemWorlds.{itself}
-use Rattle.sm_live.specs.Sessions.{Session, acknowledged, after_resume, asks, bound, copies, enables, fresh, handles, is_too_high, less, presents, resumes, session_named, session_resumed, told_of, waits, with_session, without}
-use Rattle.sm_live.specs.declared.told.Told.{Told}
+use Rattle.sm_live.specs.Sessions.{Session, acknowledged, after_resume, asks, bound, copies, enables, fresh, handles, info_of, is_too_high, less, presents, resumes, session_named, session_resumed, waits, with_session, without}
+use Rattle.sm_live.specs.declared.told.SessionInfo.{SessionInfo}
 use Rattle.im_replies.specs.Management.{request_item}
 use Rattle.im_replies.specs.Streams.{error_item}
 use Rattle.im_replies.specs.declared.conditions.StreamCondition.{StreamCondition}
@@ -31,7 +31,7 @@ abbrev pub ActsAnswer : List (Act ItemOut) → Type 0
 ActsAnswer acts = AllByRecursion ActAnswers acts
 
 pub record StepAnswers (s : Step ItemOut) : Type 0 where
-  pub hall : HallAnswers s.hall
+  pub server_state : ServerStateAnswers s.server_state
   pub outs : AllByRecursion (OutPuts IsAnswered) s.outs
 
 pub error_answers : (c : StreamCondition) → IsAnswered (error_item c)
@@ -43,20 +43,20 @@ request_answers = other_answers _ refl refl refl refl
 -- ---- what is put out
 
 put_answers : (k : ℕ) (i : ItemOut) (s : Step ItemOut) → StepAnswers s → IsAnswered i → StepAnswers (put k i s)
-put_answers k i s h r = record { hall = h.hall; outs = each_append (OutPuts IsAnswered) s.outs (Put k i ∷ []) h.outs (r, tt) }
+put_answers k i s h r = record { server_state = h.server_state; outs = each_append (OutPuts IsAnswered) s.outs (Put k i ∷ []) h.outs (r, tt) }
 
 where_answers : (o : Option ℕ) (i : ItemOut) (s : Step ItemOut) → StepAnswers s → IsAnswered i → StepAnswers (put_where o i s)
 where_answers None i s h r = h
 where_answers (Some k) i s h r = put_answers k i s h r
 
-sessions_answer : (g : List (Session ItemOut) → List (Session ItemOut)) (s : Step ItemOut) → StepAnswers s → AllByRecursion SessionAnswers (g s.hall.sessions) → StepAnswers (in_sessions g s)
-sessions_answer g s h each = record { hall = each; outs = h.outs }
+sessions_answer : (g : List (Session ItemOut) → List (Session ItemOut)) (s : Step ItemOut) → StepAnswers s → AllByRecursion SessionAnswers (g s.server_state.sessions) → StepAnswers (in_sessions g s)
+sessions_answer g s h each = record { server_state = each; outs = h.outs }
 
 one_answers : (n : ℕ) (f : Session ItemOut → Session ItemOut) (s : Step ItemOut) → StepAnswers s → ((t : Session ItemOut) → SessionAnswers t → SessionAnswers (f t)) → StepAnswers (in_sessions (with_session n f) s)
-one_answers n f s h keeps = sessions_answer (with_session n f) s h (each_changed SessionAnswers (λ t. t.shown.number == n) f s.hall.sessions keeps h.hall)
+one_answers n f s h keeps = sessions_answer (with_session n f) s h (each_changed SessionAnswers (λ t. t.shown.number == n) f s.server_state.sessions keeps h.server_state)
 
 shut_answers : (k : ℕ) (s : Step ItemOut) → StepAnswers s → StepAnswers (shut k s)
-shut_answers k s h = record { hall = each_filter SessionAnswers _ s.hall.sessions h.hall; outs = each_append (OutPuts IsAnswered) s.outs (Shut k ∷ []) h.outs (tt, tt) }
+shut_answers k s h = record { server_state = each_filter SessionAnswers _ s.server_state.sessions h.server_state; outs = each_append (OutPuts IsAnswered) s.outs (Shut k ∷ []) h.outs (tt, tt) }
 
 part_answers : (k : ℕ) (i : ItemOut) (s : Step ItemOut) → StepAnswers s → IsAnswered i → StepAnswers (part itself k i s)
 part_answers k i s h r = shut_answers k (put k Closing (put k i s)) (put_answers k Closing (put k i s) (put_answers k i s h r) tt)
@@ -72,21 +72,21 @@ ask_answers n o false s h = h
 ask_answers n None true s h = h
 ask_answers n (Some k) true s h = put_answers k request_item (in_sessions (with_session n (asks true)) s) (one_answers n (asks true) s h (λ t keeps. keeps)) request_answers
 
-queue_answers : (n : ℕ) (i : ItemOut) (t : Told) (s : Step ItemOut) → StepAnswers s → IsAnswered i → StepAnswers (queue itself n i t s)
+queue_answers : (n : ℕ) (i : ItemOut) (t : SessionInfo) (s : Step ItemOut) → StepAnswers s → IsAnswered i → StepAnswers (queue itself n i t s)
 queue_answers n i t s h r =
     let waiting = in_sessions (with_session n (waits i)) s in
     ask_answers n t.conn (is_due t) (put_where t.conn i waiting)
     (where_answers t.conn i waiting (one_answers n (waits i) s h (λ u keeps. each_append IsAnswered u.waiting (i ∷ []) keeps (r, tt))) r)
 
-overflow_answers : (n : ℕ) (t : Told) (s : Step ItemOut) → StepAnswers s → StepAnswers (overflow itself n t s)
+overflow_answers : (n : ℕ) (t : SessionInfo) (s : Step ItemOut) → StepAnswers s → StepAnswers (overflow itself n t s)
 overflow_answers n t s h =
-    part_where_answers t.conn (error_item ResourceConstraint) (in_sessions (without n) s) (sessions_answer (without n) s h (each_filter SessionAnswers _ s.hall.sessions h.hall)) (error_answers ResourceConstraint)
+    part_where_answers t.conn (error_item ResourceConstraint) (in_sessions (without n) s) (sessions_answer (without n) s h (each_filter SessionAnswers _ s.server_state.sessions h.server_state)) (error_answers ResourceConstraint)
 
 chosen_answers : (b : Bool) (s t : Step ItemOut) → StepAnswers s → StepAnswers t → StepAnswers (cond b s t)
 chosen_answers true s t h k = h
 chosen_answers false s t h k = k
 
-send_answers : (n : ℕ) (i : ItemOut) (o : Option Told) (s : Step ItemOut) → StepAnswers s → IsAnswered i → StepAnswers (send_told itself n i o s)
+send_answers : (n : ℕ) (i : ItemOut) (o : Option SessionInfo) (s : Step ItemOut) → StepAnswers s → IsAnswered i → StepAnswers (send_by_info itself n i o s)
 send_answers n i None s h r = h
 send_answers n i (Some t) s h r =
     chosen_answers (not t.counted) (put_where t.conn i s) (cond (t.waiting == MOST_UNACKNOWLEDGED) (overflow itself n t s) (queue itself n i t s)) (where_answers t.conn i s h r)
@@ -112,7 +112,7 @@ resumed_answers n k (Some t) ss h =
     either_answers (is_too_high n t) (without t.shown.number ss) (with_session t.shown.number (resumes n k) ss) (each_filter SessionAnswers _ ss h)
     (each_changed SessionAnswers _ (resumes n k) ss (λ u keeps. each_drop IsAnswered (ahead n u.acked) u.waiting keeps) h)
 
-archived_answers : (e : EntryView) (account : ℕ) (o : Option Kept) (h : Hall ItemOut) → HallAnswers h → HallAnswers (archived_in e account o h)
+archived_answers : (e : EntryView) (account : ℕ) (o : Option Kept) (h : ServerState ItemOut) → ServerStateAnswers h → ServerStateAnswers (archived_in e account o h)
 archived_answers e account None h keeps = keeps
 archived_answers e account (Some a) h keeps = keeps
 
@@ -121,20 +121,20 @@ archived_answers e account (Some a) h keeps = keeps
 act_answers : (a : Act ItemOut) (s : Step ItemOut) → ActAnswers a → StepAnswers s → StepAnswers (act itself a s)
 act_answers (steps.Say k i) s r h = put_answers k i s h r
 act_answers (steps.Close k) s r h = shut_answers k s h
-act_answers (steps.Enter k phase) s r h = record { hall = h.hall; outs = h.outs }
-act_answers (steps.Fail k left) s r h = record { hall = h.hall; outs = h.outs }
-act_answers (steps.Bind account resource k) s r h = record { hall = bound_answers s.hall.next account k resource s.hall.sessions h.hall; outs = h.outs }
+act_answers (steps.Enter k phase) s r h = record { server_state = h.server_state; outs = h.outs }
+act_answers (steps.Fail k left) s r h = record { server_state = h.server_state; outs = h.outs }
+act_answers (steps.Bind account resource k) s r h = record { server_state = bound_answers s.server_state.next account k resource s.server_state.sessions h.server_state; outs = h.outs }
 act_answers (steps.Resume previd account n k) s r h =
-    sessions_answer (λ sessions. after_resume n k (session_resumed previd account sessions) sessions) s h (resumed_answers n k (session_resumed previd account s.hall.sessions) s.hall.sessions h.hall)
+    sessions_answer (λ sessions. after_resume n k (session_resumed previd account sessions) sessions) s h (resumed_answers n k (session_resumed previd account s.server_state.sessions) s.server_state.sessions h.server_state)
 act_answers (steps.Enable n resume) s r h = one_answers n (enables resume) s h (λ t keeps. keeps)
 act_answers (steps.Acknowledge n count) s r h = one_answers n (acknowledged count) s h (λ t keeps. each_drop IsAnswered (ahead count t.acked) t.waiting keeps)
 act_answers (steps.Ask n on) s r h = one_answers n (asks on) s h (λ t keeps. keeps)
 act_answers (steps.Handle n) s r h = one_answers n handles s h (λ t keeps. keeps)
 act_answers (steps.Present n available priority) s r h = one_answers n (presents available priority) s h (λ t keeps. keeps)
 act_answers (steps.Copy n on) s r h = one_answers n (copies on) s h (λ t keeps. keeps)
-act_answers (steps.Send n i) s r h = send_answers n i (told_of n s.hall.sessions) s h r
-act_answers (steps.Archive account e) s r h = record { hall = archived_answers e account (archive_at account s.hall) s.hall h.hall; outs = h.outs }
-act_answers (steps.Tell from to origin) s r h = record { hall = h.hall; outs = each_append (OutPuts IsAnswered) s.outs (Took from to origin ∷ []) h.outs (tt, tt) }
+act_answers (steps.Send n i) s r h = send_answers n i (info_of n s.server_state.sessions) s h r
+act_answers (steps.Archive account e) s r h = record { server_state = archived_answers e account (archive_at account s.server_state) s.server_state h.server_state; outs = h.outs }
+act_answers (steps.Tell from to origin) s r h = record { server_state = h.server_state; outs = each_append (OutPuts IsAnswered) s.outs (Took from to origin ∷ []) h.outs (tt, tt) }
 
 pub acts_answer : (acts : List (Act ItemOut)) (s : Step ItemOut) → ActsAnswer acts → StepAnswers s → StepAnswers (acted itself acts s)
 acts_answer [] s r h = h

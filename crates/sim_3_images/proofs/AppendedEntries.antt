@@ -9,8 +9,8 @@ use Rattle.srv_state.specs.Steps.{appended}
 use Rattle.law_server.specs.Taken.{all_appended}
 
 -- what is kept of what was kept before, and of more
-pub newest_behind : {A : Type 0} (keep : ℕ) (xs ys : List A) → newest keep (newest keep xs ++ ys) ≡ newest keep (xs ++ ys)
-newest_behind keep xs ys =
+pub newest_after : {A : Type 0} (keep : ℕ) (xs ys : List A) → newest keep (newest keep xs ++ ys) ≡ newest keep (xs ++ ys)
+newest_after keep xs ys =
     let over = length xs - keep in
     let kept = drop over xs in
     let size : length kept ≡ length xs - over = length-drop over xs in
@@ -34,6 +34,6 @@ all_kept (e ∷ es) kept few =
     let rest = numbered_from (kept.last + 1 + 1) es in
     let one = kept.entries ++ numbered (kept.last + 1) e ∷ [] in
     let number : kept.last + 1 + length es ≡ kept.last + suc (length es) = omega arith in
-    let behind : newest kept.keep (more.entries ++ rest) ≡ newest kept.keep (kept.entries ++ numbered (kept.last + 1) e ∷ rest) =
-    newest_behind kept.keep one rest ∙ ap (newest kept.keep) (append_assoc kept.entries (numbered (kept.last + 1) e ∷ []) rest) in
-    all_kept es more (few_kept kept.keep one) ∙ ap₂ (λ (n : ℕ) (l : List EntryView). record kept { last = n; entries = l }) number behind
+    let following : newest kept.keep (more.entries ++ rest) ≡ newest kept.keep (kept.entries ++ numbered (kept.last + 1) e ∷ rest) =
+    newest_after kept.keep one rest ∙ ap (newest kept.keep) (append_assoc kept.entries (numbered (kept.last + 1) e ∷ []) rest) in
+    all_kept es more (few_kept kept.keep one) ∙ ap₂ (λ (n : ℕ) (l : List EntryView). record kept { last = n; entries = l }) number following

@@ -4,15 +4,15 @@ use Rattle.std.proofs.lemmas.Bool.{cases_eq}
 use Rattle.std.proofs.lemmas.Option.{none-some, same_Some}
 use Rattle.std.specs.List.{slice_get}
 use Rattle.std.specs.Option.{option_map}
-use Rattle.srv_state.specs.State.{Hall, Out, Put, Shut, Took, is_number}
+use Rattle.srv_state.specs.State.{Out, Put, ServerState, Shut, Took, is_number}
 use Rattle.xml_framer.specs.declared.states.Phase.{Phase}
 use Rattle.xml_framer.specs.declared.states.Phase.TheVariants as phase
 use Rattle.sim_3_images.proofs.Lookups.{get_changed_other, get_changed_same}
-use Rattle.sim_3_images.specs.ImagesCores.{AreInOrder, IsInOrder, IsOpening, behind_put, behind_shut, writer_at}
-use Rattle.sim_3_images.specs.WorldImages.{Begins, IsBegun}
+use Rattle.sim_3_images.specs.EncodingsCores.{AreInOrder, IsInOrder, IsOpening, after_put, after_shut, writer_at}
+use Rattle.sim_3_images.specs.WorldEncodings.{Begins, IsBegun}
 use Rattle.sim_3_items.specs.ItemPipes.{ItemPipe, ItemWire, closed, cut_to, entered}
 use Rattle.xml_names.specs.declared.headers.Header.{Header}
-use Rattle.cmd_network.specs.Places.{changed_at, changed_where}
+use Rattle.cmd_network.specs.Positions.{changed_at, changed_where}
 use Rattle.cmd_world.specs.Worlds.{number_at}
 use Rattle.xml_writer.specs.Items.{Closing, ItemOut, Opening, Whole}
 use Rattle.law_xml.specs.Puts.{phase_behind}
@@ -66,16 +66,16 @@ mapped_is g None p e = absurd (none-some p e)
 mapped_is g (Some x) p e = (x, refl, same_Some (g x) p e)
 
 -- one of them changes, and the server awaits no other first headers
-pub begins_at : (ws : List ItemWire) (h h' : Hall ItemOut) (q : ℕ) (g : ItemWire → ItemWire) → ((x : ItemWire) → IsBegun x.up → IsBegun (g x).up)
+pub begins_at : (ws : List ItemWire) (h h' : ServerState ItemOut) (q : ℕ) (g : ItemWire → ItemWire) → ((x : ItemWire) → IsBegun x.up → IsBegun (g x).up)
     → ((j : ℕ) → writer_at (number_at j) h' ≡ Some phase.First → writer_at (number_at j) h ≡ Some phase.First) → Begins ws h → Begins (changed_at q g ws) h'
-begins_at ws h h' q g keeps same b place p found first = elim (cases_eq place q) [
+begins_at ws h h' q g keeps same b position p found first = elim (cases_eq position q) [
   | inl here ↦
       let x = mapped_is g (slice_get ws q) p (sym (get_changed_same g ws q) ∙ ap (slice_get (changed_at q g ws)) (sym here) ∙ found) in
       subst (λ (y : ItemWire). IsBegun y.up) x.2 (keeps x.0 (b q x.0 x.1 (same q (ap (λ j. writer_at (number_at j) h') (sym here) ∙ first))))
-  | inr other ↦ b place p (sym (get_changed_other g ws q place other) ∙ found) (same place first)
+  | inr other ↦ b position p (sym (get_changed_other g ws q position other) ∙ found) (same position first)
 ]
 
-pub begins_where : (ws : List ItemWire) (h : Hall ItemOut) (o : Option ℕ) (g : ItemWire → ItemWire) → ((x : ItemWire) → IsBegun x.up → IsBegun (g x).up) → Begins ws h → Begins (changed_where o g ws) h
+pub begins_where : (ws : List ItemWire) (h : ServerState ItemOut) (o : Option ℕ) (g : ItemWire → ItemWire) → ((x : ItemWire) → IsBegun x.up → IsBegun (g x).up) → Begins ws h → Begins (changed_where o g ws) h
 begins_where ws h None g keeps b = b
 begins_where ws h (Some q) g keeps b = begins_at ws h h q g keeps (λ j e. e) b
 
@@ -96,13 +96,13 @@ pub first_before : (Fits : ItemOut → Type 0) (j : ℕ) (outs : List (Out ItemO
 first_before Fits j [] now later order first = order ∙ first
 first_before Fits j (Put k i ∷ outs) now later order first = by (λ n o. first_before Fits j outs n later o first) (is_number j k) now order.0 order.1
   where
-    by : ((n : Option Phase) → AreInOrder Fits j n outs later → n ≡ Some phase.First) → (b : Bool) (now : Option Phase) → IsInOrder Fits b now i → AreInOrder Fits j (behind_put b now i) outs later → now ≡ Some phase.First
-    by more false now fine rest = more now rest
+    by : ((n : Option Phase) → AreInOrder Fits j n outs later → n ≡ Some phase.First) → (b : Bool) (now : Option Phase) → IsInOrder Fits b now i → AreInOrder Fits j (after_put b now i) outs later → now ≡ Some phase.First
+    by more false now bounded rest = more now rest
     by more true None bad rest = absurd bad
-    by more true (Some n) fine rest = absurd (not_first i (more (Some (phase_behind i)) rest))
+    by more true (Some n) bounded rest = absurd (not_first i (more (Some (phase_behind i)) rest))
 first_before Fits j (Shut k ∷ outs) now later order first = by (λ n o. first_before Fits j outs n later o first) (is_number j k) order
   where
-    by : ((n : Option Phase) → AreInOrder Fits j n outs later → n ≡ Some phase.First) → (b : Bool) → AreInOrder Fits j (behind_shut b now) outs later → now ≡ Some phase.First
+    by : ((n : Option Phase) → AreInOrder Fits j n outs later → n ≡ Some phase.First) → (b : Bool) → AreInOrder Fits j (after_shut b now) outs later → now ≡ Some phase.First
     by more false rest = more now rest
     by more true rest = absurd (none-some phase.First (more None rest))
 first_before Fits j (Took from to origin ∷ outs) now later order first = first_before Fits j outs now later order first

@@ -4,7 +4,7 @@ use Rattle.std.specs.Option.{option_map, unwrap_or}
 use Rattle.sm_acks.specs.declared.end.TooHigh.{TooHigh as TooHighCount}
 use Rattle.mam_archive.specs.Entries.{EntryView, entry_numbered}
 use Rattle.srv_state.specs.Logins.{answering, at_challenge, at_login, at_login_other, beginning, failing, negotiation_at}
-use Rattle.srv_state.specs.State.{Hall, Kept, archive_at, bare_address, session_address}
+use Rattle.srv_state.specs.State.{Kept, ServerState, archive_at, bare_address, session_address}
 use Rattle.srv_state.specs.Steps as steps
 use Rattle.srv_state.specs.Steps.{Act}
 use Rattle.srv_state.specs.Streams.{answering_header, at_any, at_header, awaits_header, ending, ending_in, field_condition, header_condition, header_in, opening}
@@ -17,8 +17,8 @@ use Rattle.srv_state.specs.declared.word.Word.{Word}
 use Rattle.srv_state.specs.declared.word.Word.TheVariants as word
 use Rattle.im_forwarding.specs.Passed.{addressed}
 use Rattle.im_forwarding.specs.Results.{AskerView, fin_item}
-use Rattle.sm_live.specs.Sessions.{ack_answer, number_of, session_of, told_of}
-use Rattle.sm_live.specs.declared.told.Told.{Told}
+use Rattle.sm_live.specs.Sessions.{ack_answer, info_of, number_of, session_of}
+use Rattle.sm_live.specs.declared.told.SessionInfo.{SessionInfo}
 use Rattle.srv_login.specs.Headers.{header_answer}
 use Rattle.srv_login.specs.Negotiations.{LoginView, auth_answer, final_answer}
 use Rattle.srv_login.specs.declared.header_judgement.HeaderAnswer.{HeaderAnswer}
@@ -72,17 +72,17 @@ module _ {A : Type 0} (say : ItemOut → A) where
 
   -- ---- ends
 
-  ending_calm : (k : ℕ) (c : StreamCondition) (s : Stage) (entropy : List ℕ) (h : Hall A) → Calm (ending_in say k c s entropy h)
+  ending_calm : (k : ℕ) (c : StreamCondition) (s : Stage) (entropy : List ℕ) (h : ServerState A) → Calm (ending_in say k c s entropy h)
   ending_calm k c stage.Start entropy h = tt
   ending_calm k c stage.Login entropy h = tt
   ending_calm k c stage.Challenge entropy h = tt
   ending_calm k c (stage.Restart account) entropy h = tt
   ending_calm k c (stage.Ready account) entropy h = tt
 
-  pub calm_ending : (k : ℕ) (c : StreamCondition) (st : Standing) (h : Hall A) → Calm (ending say k c st h)
+  pub calm_ending : (k : ℕ) (c : StreamCondition) (st : Standing) (h : ServerState A) → Calm (ending say k c st h)
   calm_ending k c st h = ending_calm k c st.stage st.entropy h
 
-  pub calm_any : (k : ℕ) (w : Word) (st : Standing) (h : Hall A) → Calm (at_any say k w st h)
+  pub calm_any : (k : ℕ) (w : Word) (st : Standing) (h : ServerState A) → Calm (at_any say k w st h)
   calm_any k word.BadField st h = calm_ending k stream.BadFormat st h
   calm_any k (word.Auth e bad) st h = calm_ending k (field_condition bad) st h
   calm_any k (word.Response e bad) st h = calm_ending k (field_condition bad) st h
@@ -91,22 +91,22 @@ module _ {A : Type 0} (say : ItemOut → A) where
 
   -- ---- headers
 
-  opening_calm : (k : ℕ) (entropy : List ℕ) (s : Stage) (h : Hall A) → Calm (opening say k entropy s h)
+  opening_calm : (k : ℕ) (entropy : List ℕ) (s : Stage) (h : ServerState A) → Calm (opening say k entropy s h)
   opening_calm k entropy stage.Start h = tt
   opening_calm k entropy stage.Login h = tt
   opening_calm k entropy stage.Challenge h = tt
   opening_calm k entropy (stage.Restart account) h = tt
   opening_calm k entropy (stage.Ready account) h = tt
 
-  answering_calm : (k : ℕ) (st : Standing) (a : HeaderAnswer) (h : Hall A) → Calm (answering_header say k st a h)
+  answering_calm : (k : ℕ) (st : Standing) (a : HeaderAnswer) (h : ServerState A) → Calm (answering_header say k st a h)
   answering_calm k st Opens h = opening_calm k st.entropy st.stage h
   answering_calm k st (Refused why) h = calm_ending k (header_condition why) st h
 
-  header_calm : (k : ℕ) (header : Header) (st : Standing) (b : Bool) (h : Hall A) → Calm (header_in say k header st b h)
+  header_calm : (k : ℕ) (header : Header) (st : Standing) (b : Bool) (h : ServerState A) → Calm (header_in say k header st b h)
   header_calm k header st true h = answering_calm k st (header_answer h.domain header) h
   header_calm k header st false h = calm_ending k stream.UnsupportedStanzaType st h
 
-  pub calm_header : (k : ℕ) (header : Header) (st : Standing) (h : Hall A) → Calm (at_header say k header st h)
+  pub calm_header : (k : ℕ) (header : Header) (st : Standing) (h : ServerState A) → Calm (at_header say k header st h)
   calm_header k header st h = header_calm k header st (awaits_header st.stage) h
 
   -- ---- logins
@@ -125,16 +125,16 @@ module _ {A : Type 0} (say : ItemOut → A) where
   finishing_calm k left (Some (Ok login)) = tt
   finishing_calm k left (Some (Err why)) = failing_calm k why left
 
-  other_calm : (k : ℕ) (w : Word) (st : Standing) (h : Hall A) → Calm (at_login_other say k w st h)
+  other_calm : (k : ℕ) (w : Word) (st : Standing) (h : ServerState A) → Calm (at_login_other say k w st h)
   other_calm k word.Abort st h = failing_calm k Aborted st.tries
   other_calm k (word.Stanza long read) st h = calm_ending k stream.NotAuthorized st h
   other_calm k w st h = calm_any k w st h
 
-  pub calm_login : (k : ℕ) (w : Word) (st : Standing) (h : Hall A) → Calm (at_login say k w st h)
+  pub calm_login : (k : ℕ) (w : Word) (st : Standing) (h : ServerState A) → Calm (at_login say k w st h)
   calm_login k (word.Auth e bad) st h = beginning_calm k st.tries (auth_answer e st.entropy h.accounts)
   calm_login k w st h = other_calm k w st h
 
-  pub calm_challenge : (k : ℕ) (w : Word) (st : Standing) (h : Hall A) → Calm (at_challenge say k w st h)
+  pub calm_challenge : (k : ℕ) (w : Word) (st : Standing) (h : ServerState A) → Calm (at_challenge say k w st h)
   calm_challenge k (word.Response e bad) st h = finishing_calm k st.tries (option_map (final_answer e) (negotiation_at k h))
   calm_challenge k w st h = other_calm k w st h
 
@@ -164,16 +164,16 @@ module _ {A : Type 0} (say : ItemOut → A) where
   entries_calm n asker entries (number ∷ numbers) more rest =
       entry_calm n asker (entry_numbered number entries) (sending_entries say n asker entries numbers more) (entries_calm n asker entries numbers more rest)
 
-  paging_calm : (q : IqView) (t : Told) (queryid : List ℕ) (kept : Kept) (o : Option CutView) (h : Hall A) → Calm (paging say q t queryid kept o h)
+  paging_calm : (q : IqView) (t : SessionInfo) (queryid : List ℕ) (kept : Kept) (o : Option CutView) (h : ServerState A) → Calm (paging say q t queryid kept o h)
   paging_calm q t queryid kept None h = tt
   paging_calm q t queryid kept (Some cut) h =
       entries_calm t.number (asker_of t queryid h) kept.entries cut.numbers (answering_iq say t (fin_item (envelope_of q t h) cut)) tt
 
-  querying_calm : (q : IqView) (t : Told) (query : MamQuery) (o : Option Kept) (h : Hall A) → Calm (querying_in say q t query o h)
+  querying_calm : (q : IqView) (t : SessionInfo) (query : MamQuery) (o : Option Kept) (h : ServerState A) → Calm (querying_in say q t query o h)
   querying_calm q t query None h = tt
   querying_calm q t query (Some kept) h = paging_calm q t query.queryid kept (page_of (kept_by kept.owner kept.entries) query.query) h
 
-  serving_calm : (o : Option Request) (q : IqView) (t : Told) (h : Hall A) → Calm (serving say o q t h)
+  serving_calm : (o : Option Request) (q : IqView) (t : SessionInfo) (h : ServerState A) → Calm (serving say o q t h)
   serving_calm None q t h = tt
   serving_calm (Some request.Ping) q t h = tt
   serving_calm (Some (request.Info at_domain)) q t h = tt
@@ -186,70 +186,70 @@ module _ {A : Type 0} (say : ItemOut → A) where
 
   -- ---- messages
 
-  archiving_calm : (e : EntryView) (places : List ℕ) (more : List (Act A)) → Calm more → Calm (archiving e places more)
+  archiving_calm : (e : EntryView) (positions : List ℕ) (more : List (Act A)) → Calm more → Calm (archiving e positions more)
   archiving_calm e [] more rest = rest
-  archiving_calm e (place ∷ places) more rest = archiving_calm e places more rest
+  archiving_calm e (position ∷ positions) more rest = archiving_calm e positions more rest
 
-  telling_calm : (m : MessageView) (places : List ℕ) (more : List (Act A)) → Calm more → Calm (telling m places more)
+  telling_calm : (m : MessageView) (positions : List ℕ) (more : List (Act A)) → Calm more → Calm (telling m positions more)
   telling_calm m [] more rest = rest
-  telling_calm m (place ∷ places) more rest = rest
+  telling_calm m (position ∷ positions) more rest = rest
 
-  delivery_calm : (m : MessageView) (places : List ℕ) (n : ℕ) (o : Option Told) (h : Hall A) (more : List (Act A)) → Calm more → Calm (delivering_to say m places n o h more)
-  delivery_calm m places n None h more rest = rest
-  delivery_calm m places n (Some t) h more rest = rest
+  delivery_calm : (m : MessageView) (positions : List ℕ) (n : ℕ) (o : Option SessionInfo) (h : ServerState A) (more : List (Act A)) → Calm more → Calm (delivering_to say m positions n o h more)
+  delivery_calm m positions n None h more rest = rest
+  delivery_calm m positions n (Some t) h more rest = rest
 
-  delivering_calm : (m : MessageView) (places numbers : List ℕ) (h : Hall A) (more : List (Act A)) → Calm more → Calm (delivering say m places numbers h more)
-  delivering_calm m places [] h more rest = rest
-  delivering_calm m places (n ∷ numbers) h more rest =
-      delivery_calm m places n (told_of n h.sessions) h (delivering say m places numbers h more) (delivering_calm m places numbers h more rest)
+  delivering_calm : (m : MessageView) (positions numbers : List ℕ) (h : ServerState A) (more : List (Act A)) → Calm more → Calm (delivering say m positions numbers h more)
+  delivering_calm m positions [] h more rest = rest
+  delivering_calm m positions (n ∷ numbers) h more rest =
+      delivery_calm m positions n (info_of n h.sessions) h (delivering say m positions numbers h more) (delivering_calm m positions numbers h more rest)
 
-  copy_calm : (sent : Bool) (m : MessageView) (places : List ℕ) (n : ℕ) (o : Option Told) (h : Hall A) (more : List (Act A)) → Calm more → Calm (copying_to say sent m places n o h more)
-  copy_calm sent m places n None h more rest = rest
-  copy_calm sent m places n (Some t) h more rest = rest
+  copy_calm : (sent : Bool) (m : MessageView) (positions : List ℕ) (n : ℕ) (o : Option SessionInfo) (h : ServerState A) (more : List (Act A)) → Calm more → Calm (copying_to say sent m positions n o h more)
+  copy_calm sent m positions n None h more rest = rest
+  copy_calm sent m positions n (Some t) h more rest = rest
 
-  copying_calm : (sent : Bool) (m : MessageView) (places numbers : List ℕ) (h : Hall A) (more : List (Act A)) → Calm more → Calm (copying say sent m places numbers h more)
-  copying_calm sent m places [] h more rest = rest
-  copying_calm sent m places (n ∷ numbers) h more rest =
-      copy_calm sent m places n (told_of n h.sessions) h (copying say sent m places numbers h more) (copying_calm sent m places numbers h more rest)
+  copying_calm : (sent : Bool) (m : MessageView) (positions numbers : List ℕ) (h : ServerState A) (more : List (Act A)) → Calm more → Calm (copying say sent m positions numbers h more)
+  copying_calm sent m positions [] h more rest = rest
+  copying_calm sent m positions (n ∷ numbers) h more rest =
+      copy_calm sent m positions n (info_of n h.sessions) h (copying say sent m positions numbers h more) (copying_calm sent m positions numbers h more rest)
 
-  carrying_calm : (m : MessageView) (places : List ℕ) (r : RouteOf ℕ) (h : Hall A) → Calm (carrying say m places r h)
-  carrying_calm m places r h =
-      let received = copying say false m places r.received h [] in
-      let copies = copying say true m places r.sent h received in
-      let sent = delivering say m places r.deliver h copies in
-      archiving_calm (entry_of 0 h.moment m) places (telling m places sent)
-      (telling_calm m places sent
-      (delivering_calm m places r.deliver h copies
-      (copying_calm true m places r.sent h received (copying_calm false m places r.received h [] tt))))
+  carrying_calm : (m : MessageView) (positions : List ℕ) (r : RouteOf ℕ) (h : ServerState A) → Calm (carrying say m positions r h)
+  carrying_calm m positions r h =
+      let received = copying say false m positions r.received h [] in
+      let copies = copying say true m positions r.sent h received in
+      let sent = delivering say m positions r.deliver h copies in
+      archiving_calm (entry_of 0 h.moment m) positions (telling m positions sent)
+      (telling_calm m positions sent
+      (delivering_calm m positions r.deliver h copies
+      (copying_calm true m positions r.sent h received (copying_calm false m positions r.received h [] tt))))
 
-  messaging_calm : (m : MessageView) (to : List ℕ) (t : Told) (p : PlanOf ℕ) (h : Hall A) → Calm (messaging say m to t p h)
+  messaging_calm : (m : MessageView) (to : List ℕ) (t : SessionInfo) (p : PlanOf ℕ) (h : ServerState A) → Calm (messaging say m to t p h)
   messaging_calm m to t (Bounced e) h = tt
   messaging_calm m to t (Routed r) h = either (is_full_in (archives_of r.archiving) h) _ _ tt (carrying_calm (addressed (session_address t.number h) to m) (archives_of r.archiving) r h)
 
   -- ---- stanzas
 
-  returning_calm : (kind : PresenceKind) (to : List ℕ) (p : Presence) (t : Told) → Calm (returning say kind to p t)
+  returning_calm : (kind : PresenceKind) (to : List ℕ) (p : Presence) (t : SessionInfo) → Calm (returning say kind to p t)
   returning_calm Available to p t = tt
   returning_calm Unavailable to p t = tt
   returning_calm Error to p t = tt
   returning_calm Other to p t = tt
 
-  directing_calm : (here : Bool) (kind : PresenceKind) (to : List ℕ) (p : Presence) (t : Told) → Calm (directing say here kind to p t)
+  directing_calm : (here : Bool) (kind : PresenceKind) (to : List ℕ) (p : Presence) (t : SessionInfo) → Calm (directing say here kind to p t)
   directing_calm true kind to p t = tt
   directing_calm false kind to p t = returning_calm kind to p t
 
-  presence_calm : (o : Option (List ℕ)) (kind : PresenceKind) (p : Presence) (t : Told) (h : Hall A) → Calm (presenting say o kind p t h)
+  presence_calm : (o : Option (List ℕ)) (kind : PresenceKind) (p : Presence) (t : SessionInfo) (h : ServerState A) → Calm (presenting say o kind p t h)
   presence_calm (Some to) kind p t h = directing_calm (is_local to h) kind to p t
   presence_calm None Available p t h = tt
   presence_calm None Unavailable p t h = tt
   presence_calm None Error p t h = tt
   presence_calm None Other p t h = tt
 
-  bad_to_calm : (message reply : Bool) (id to : List ℕ) (t : Told) (h : Hall A) → Calm (at_bad_to say message reply id to t h)
+  bad_to_calm : (message reply : Bool) (id to : List ℕ) (t : SessionInfo) (h : ServerState A) → Calm (at_bad_to say message reply id to t h)
   bad_to_calm message false id to t h = tt
   bad_to_calm message true id to t h = tt
 
-  handling_calm : (read : Result Stanza StanzaFault) (t : Told) (h : Hall A) → Calm (handling say read t h)
+  handling_calm : (read : Result Stanza StanzaFault) (t : SessionInfo) (h : ServerState A) → Calm (handling say read t h)
   handling_calm (Ok (stanza.Message m)) t h = messaging_calm m (unwrap_or m.to (bare_address t.account h)) t (plan_renamed number_of (plan_of h.domain h.accounts h.sessions m t)) h
   handling_calm (Ok (stanza.Presence p)) t h = presence_calm p.to p.kind p t h
   handling_calm (Ok (stanza.Iq q)) t h = serving_calm (request_of q t h) q t h
@@ -259,17 +259,17 @@ module _ {A : Type 0} (say : ItemOut → A) where
   handling_calm (Err fault.BadFormat) t h = tt
   handling_calm (Err fault.NoMemory) t h = tt
 
-  judging_calm : (k : ℕ) (read : Result Stanza StanzaFault) (t : Told) (st : Standing) (o : Option StreamCondition) (h : Hall A) → Calm (judging say k read t st o h)
+  judging_calm : (k : ℕ) (read : Result Stanza StanzaFault) (t : SessionInfo) (st : Standing) (o : Option StreamCondition) (h : ServerState A) → Calm (judging say k read t st o h)
   judging_calm k read t st None h = either t.counted _ _ (handling_calm read t h) (handling_calm read t h)
   judging_calm k read t st (Some condition) h = calm_ending k condition st h
 
-  stanza_calm : (k : ℕ) (long : Bool) (read : Result Stanza StanzaFault) (t : Told) (st : Standing) (h : Hall A) → Calm (at_stanza say k long read t st h)
+  stanza_calm : (k : ℕ) (long : Bool) (read : Result Stanza StanzaFault) (t : SessionInfo) (st : Standing) (h : ServerState A) → Calm (at_stanza say k long read t st h)
   stanza_calm k true read t st h = calm_ending k stream.PolicyViolation st h
   stanza_calm k false read t st h = judging_calm k read t st (stanza_condition read t h) h
 
   -- ---- where a session is on the connection
 
-  pub calm_bound : (k : ℕ) (w : Word) (t : Told) (st : Standing) (h : Hall A) → Calm (at_bound say k w t st h)
+  pub calm_bound : (k : ℕ) (w : Word) (t : SessionInfo) (st : Standing) (h : ServerState A) → Calm (at_bound say k w t st h)
   calm_bound k (word.Stanza long read) t st h = stanza_calm k long read t st h
   calm_bound k (word.Enable resume) t st h = either t.counted _ _ tt tt
   calm_bound k word.Request t st h = either t.counted _ _ tt tt

@@ -8,7 +8,7 @@ use Rattle.std.specs.declared.cmp.Ordering.{Ordering}
 use Rattle.std.specs.declared.cmp.Ordering.TheVariants.{Equal, Greater, Less}
 use Rattle.srv_state.specs.State.{is_number}
 use Rattle.srv_state.specs.declared.connection.Connection.{Connection}
-use Rattle.sim_3_images.proofs.Lookups.{found_behind_other_value, found_behind_removal, found_beside_inserted, number_is, other_number, self_is}
+use Rattle.sim_3_images.proofs.Lookups.{found_after_other_value, found_after_removal, found_beside_inserted, number_is, other_number, self_is}
 use Rattle.sim_3_images.specs.Stands.{Conns, Differ}
 
 pub not_itself : (k m : ℕ) → is_number k m ≡ false → m ≢ k
@@ -31,7 +31,7 @@ differ_removed k (e ∷ es) d = by (differ_removed k es d.1) (is_number k e.0) r
   where
     by : Differ (remove_entry (is_number k) es) → (b : Bool) → is_number k e.0 ≡ b → Differ (cond b es (e ∷ remove_entry (is_number k) es))
     by rest true here = d.1
-    by rest false there = (found_behind_removal e.0 k es (not_itself k e.0 there) ∙ d.0, rest)
+    by rest false there = (found_after_removal e.0 k es (not_itself k e.0 there) ∙ d.0, rest)
 
 pub differ_set : (k : ℕ) (c : Connection) (es : Conns) → Differ es → Differ (set_value (is_number k) es c)
 differ_set k c [] d = tt
@@ -39,7 +39,7 @@ differ_set k c (e ∷ es) d = by (differ_set k c es d.1) (is_number k e.0) refl
   where
     by : Differ (set_value (is_number k) es c) → (b : Bool) → is_number k e.0 ≡ b → Differ (cond b ((e.0, c) ∷ es) (e ∷ set_value (is_number k) es c))
     by rest true here = d
-    by rest false there = (found_behind_other_value e.0 k es c (not_itself k e.0 there) ∙ d.0, rest)
+    by rest false there = (found_after_other_value e.0 k es c (not_itself k e.0 there) ∙ d.0, rest)
 
 abbrev pub AtMost : ℕ → Conns → Type 0
 AtMost n es = AllByRecursion (λ (e : ℕ × Connection). e.0 ≤ n) es

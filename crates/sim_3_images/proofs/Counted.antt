@@ -130,7 +130,7 @@ module _ {X : Type 0} where
   removed_pass f p q (e ∷ es) sorted implies =
       elim (cases_Bool (is_number f e.0)) [
         | inl here ↦
-            let less = fewer_pass p q (keys_of es) (behind (keys_of es) (number_is f e.0 here) sorted.0) in
+            let less = fewer_pass p q (keys_of es) (following (keys_of es) (number_is f e.0 here) sorted.0) in
             let more = more_pass q e.0 (keys_of es) in
             rw here (omega (arith, less, more))
         | inr other ↦
@@ -141,9 +141,9 @@ module _ {X : Type 0} where
       itself : is_number f f ≡ true
       itself = let low = le-ltb f f (omega arith) in let same = eq-eqb f f refl in rw (low, same) refl
 
-      behind : (ks : List ℕ) → f ≡ e.0 → AllByRecursion (λ y. nat_cmp e.0 y ≡ Less) ks → AllByRecursion (λ k. p k ≡ true → q k ≡ true) ks
-      behind [] same all = tt
-      behind (k ∷ ks) same all = (let above = less_is e.0 k all.0 in implies k (λ e'. omega (arith, above, same, e')), behind ks same all.1)
+      following : (ks : List ℕ) → f ≡ e.0 → AllByRecursion (λ y. nat_cmp e.0 y ≡ Less) ks → AllByRecursion (λ k. p k ≡ true → q k ≡ true) ks
+      following [] same all = tt
+      following (k ∷ ks) same all = (let above = less_is e.0 k all.0 in implies k (λ e'. omega (arith, above, same, e')), following ks same all.1)
 
   -- one that passed, and does no more
   pub one_fewer : (k : ℕ) (p q : ℕ → Bool) (es : List (ℕ × X)) (c : X) → lookup (is_number k) es ≡ Some c → q k ≡ true → p k ≡ false → ((j : ℕ) → p j ≡ true → q j ≡ true) → passing p (keys_of es) + 1 ≤ passing q (keys_of es)

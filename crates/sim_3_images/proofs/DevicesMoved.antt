@@ -10,11 +10,11 @@ use Rattle.cmd_network.specs.Devices.{DeviceState, after_step, closes_here, forg
 use Rattle.net_pipes.specs.Pipes.{is_end_due}
 use Rattle.cmd_schedule.specs.declared.schedule.Count.{Count}
 use Rattle.srv_core.specs.Events.{after_gone}
-use Rattle.cmd_network.specs.Wires.{amount, down_end_told, up_end_told}
+use Rattle.cmd_network.specs.Wires.{amount, down_end_reported, up_end_reported}
 use Rattle.cmd_network.specs.declared.wire.Wire.{Wire}
 use Rattle.cmd_world.specs.Moves as moves
-use Rattle.cmd_world.specs.Moves.{Link, Move, closed_by, dialed_by, down_by, down_to, end_heard, forgot_by, heard, heard_by, heard_first, link_of, moved, served, served_by, told_up}
-use Rattle.cmd_world.specs.Worlds.{World, number_at}
+use Rattle.cmd_world.specs.Moves.{Link, Move, closed_by, dialed_by, down_by, down_to, end_heard, forgot_by, heard, heard_by, heard_first, link_of, moved, reported_up, served, served_by}
+use Rattle.cmd_world.specs.Worlds.{ByteWorld, number_at}
 
 -- what is there is put there again
 pub put_again : {A : Type 0} (l : List A) (i : ℕ) (a : A) → slice_get l i ≡ Some a → slice_set l i a ≡ l
@@ -28,15 +28,15 @@ SeesNoMore seen = (d e : DeviceState) → d.name ≡ e.name → d.account ≡ e.
 
 -- its user asks for nothing
 abbrev pub IsUnasked : Move → Type 0
-IsUnasked (moves.Say place line to text private) = ⊥
-IsUnasked (moves.CatchUp place line most) = ⊥
+IsUnasked (moves.Say position line to text private) = ⊥
+IsUnasked (moves.CatchUp position line most) = ⊥
 IsUnasked _ = Unit {0}
 
 module _ {X : Type 0} (seen : DeviceState → X) (no_more : SeesNoMore seen) where
-  pub same_seen : (devices : List DeviceState) (place : ℕ) (d new : DeviceState) → slice_get devices place ≡ Some d → seen new ≡ seen d → map seen (slice_set devices place new) ≡ map seen devices
-  same_seen devices place d new is same =
-      map-set seen devices place new
-      ∙ put_again (map seen devices) place (seen new) (slice_get-map seen devices place ∙ ap (option_map seen) is ∙ ap Some (sym same))
+  pub same_seen : (devices : List DeviceState) (position : ℕ) (d new : DeviceState) → slice_get devices position ≡ Some d → seen new ≡ seen d → map seen (slice_set devices position new) ≡ map seen devices
+  same_seen devices position d new is same =
+      map-set seen devices position new
+      ∙ put_again (map seen devices) position (seen new) (slice_get-map seen devices position ∙ ap (option_map seen) is ∙ ap Some (sym same))
 
   -- ---- devices
 
@@ -54,29 +54,29 @@ module _ {X : Type 0} (seen : DeviceState → X) (no_more : SeesNoMore seen) whe
 
   -- ---- moves
 
-  dialed : (place : ℕ) (o : Option DeviceState) (w : World) → slice_get w.devices place ≡ o → map seen (dialed_by place o w).devices ≡ map seen w.devices
-  dialed place None w is = refl
-  dialed place (Some d) w is = same_seen w.devices place d _ is (no_more _ d refl refl refl)
+  dialed : (position : ℕ) (o : Option DeviceState) (w : ByteWorld) → slice_get w.devices position ≡ o → map seen (dialed_by position o w).devices ≡ map seen w.devices
+  dialed position None w is = refl
+  dialed position (Some d) w is = same_seen w.devices position d _ is (no_more _ d refl refl refl)
 
-  forgot : (place : ℕ) (o : Option DeviceState) (w : World) → slice_get w.devices place ≡ o → map seen (forgot_by place o w).devices ≡ map seen w.devices
-  forgot place None w is = refl
-  forgot place (Some d) w is = same_seen w.devices place d (forgets_all d) is (no_more (forgets_all d) d refl refl refl)
+  forgot : (position : ℕ) (o : Option DeviceState) (w : ByteWorld) → slice_get w.devices position ≡ o → map seen (forgot_by position o w).devices ≡ map seen w.devices
+  forgot position None w is = refl
+  forgot position (Some d) w is = same_seen w.devices position d (forgets_all d) is (no_more (forgets_all d) d refl refl refl)
 
-  closed : (place : ℕ) (o : Option DeviceState) (w : World) → slice_get w.devices place ≡ o → map seen (closed_by place o w).devices ≡ map seen w.devices
-  closed place None w is = refl
-  closed place (Some d) w is = same_seen w.devices place d (closes_here d).device is (no_more (closes_here d).device d refl refl refl)
+  closed : (position : ℕ) (o : Option DeviceState) (w : ByteWorld) → slice_get w.devices position ≡ o → map seen (closed_by position o w).devices ≡ map seen w.devices
+  closed position None w is = refl
+  closed position (Some d) w is = same_seen w.devices position d (closes_here d).device is (no_more (closes_here d).device d refl refl refl)
 
-  worlds_either : (b : Bool) (v u w : World) → map seen v.devices ≡ map seen w.devices → map seen u.devices ≡ map seen w.devices → map seen (cond b v u).devices ≡ map seen w.devices
+  worlds_either : (b : Bool) (v u w : ByteWorld) → map seen v.devices ≡ map seen w.devices → map seen u.devices ≡ map seen w.devices → map seen (cond b v u).devices ≡ map seen w.devices
   worlds_either true v u w here there = here
   worlds_either false v u w here there = there
 
-  was_served : (place : ℕ) (count : Count) (o : Option Wire) (w : World) → map seen (served_by place count o w).devices ≡ map seen w.devices
-  was_served place count None w = refl
-  was_served place count (Some wire) w = worlds_either (amount count wire.up == 0) w (served place (amount count wire.up) wire w) w refl refl
+  was_served : (position : ℕ) (count : Count) (o : Option Wire) (w : ByteWorld) → map seen (served_by position count o w).devices ≡ map seen w.devices
+  was_served position count None w = refl
+  was_served position count (Some wire) w = worlds_either (amount count wire.up == 0) w (served position (amount count wire.up) wire w) w refl refl
 
-  end_told : (place : ℕ) (o : Option Wire) (w : World) → map seen (told_up place o w).devices ≡ map seen w.devices
-  end_told place None w = refl
-  end_told place (Some wire) w = worlds_either (is_end_due wire.up) (record w { server = after_gone (number_at place) w.moment w.server; wires = slice_set w.wires place (up_end_told wire) }) w w refl refl
+  end_told : (position : ℕ) (o : Option Wire) (w : ByteWorld) → map seen (reported_up position o w).devices ≡ map seen w.devices
+  end_told position None w = refl
+  end_told position (Some wire) w = worlds_either (is_end_due wire.up) (record w { server = after_gone (number_at position) w.moment w.server; wires = slice_set w.wires position (up_end_reported wire) }) w w refl refl
 
   links_either : (b : Bool) (x y l : Link) → seen x.device ≡ seen l.device → seen y.device ≡ seen l.device → seen (cond b x y).device ≡ seen l.device
   links_either true x y l here there = here
@@ -85,32 +85,32 @@ module _ {X : Type 0} (seen : DeviceState → X) (no_more : SeesNoMore seen) whe
   heard_seen : (n : ℕ) (l : Link) → seen (heard_first n l).device ≡ seen l.device
   heard_seen n l = links_either (n == 0) l (heard n (hears (take n l.wire.down.bytes) l.device) l) l refl (hears_seen (take n l.wire.down.bytes) l.device)
 
-  end_seen : (place : ℕ) (l : Link) → seen (end_heard place l).device ≡ seen l.device
-  end_seen place l =
-      links_either (has_wire place l.device.here && is_end_due l.wire.down) (link_of (down_end_told l.wire) (loses l.device)) l l (no_more (loses l.device) l.device refl refl refl) refl
+  end_seen : (position : ℕ) (l : Link) → seen (end_heard position l).device ≡ seen l.device
+  end_seen position l =
+      links_either (has_wire position l.device.here && is_end_due l.wire.down) (link_of (down_end_reported l.wire) (loses l.device)) l l (no_more (loses l.device) l.device refl refl refl) refl
 
-  all_heard_seen : (place : ℕ) (count : Count) (l : Link) → seen (heard_by place count l).device ≡ seen l.device
-  all_heard_seen place count l =
-      links_either (has_wire place l.device.here) (end_heard place (heard_first (amount count l.wire.down) l)) l l
-      (end_seen place (heard_first (amount count l.wire.down) l) ∙ heard_seen (amount count l.wire.down) l) refl
+  all_heard_seen : (position : ℕ) (count : Count) (l : Link) → seen (heard_by position count l).device ≡ seen l.device
+  all_heard_seen position count l =
+      links_either (has_wire position l.device.here) (end_heard position (heard_first (amount count l.wire.down) l)) l l
+      (end_seen position (heard_first (amount count l.wire.down) l) ∙ heard_seen (amount count l.wire.down) l) refl
 
-  heard_to : (place : ℕ) (count : Count) (wire : Wire) (o : Option DeviceState) (w : World) → slice_get w.devices wire.device ≡ o → map seen (down_to place count wire o w).devices ≡ map seen w.devices
-  heard_to place count wire None w is = refl
-  heard_to place count wire (Some d) w is = same_seen w.devices wire.device d (heard_by place count (link_of wire d)).device is (all_heard_seen place count (link_of wire d))
+  heard_to : (position : ℕ) (count : Count) (wire : Wire) (o : Option DeviceState) (w : ByteWorld) → slice_get w.devices wire.device ≡ o → map seen (down_to position count wire o w).devices ≡ map seen w.devices
+  heard_to position count wire None w is = refl
+  heard_to position count wire (Some d) w is = same_seen w.devices wire.device d (heard_by position count (link_of wire d)).device is (all_heard_seen position count (link_of wire d))
 
-  heard_on : (place : ℕ) (count : Count) (o : Option Wire) (w : World) → map seen (down_by place count o w).devices ≡ map seen w.devices
-  heard_on place count None w = refl
-  heard_on place count (Some wire) w = heard_to place count wire (slice_get w.devices wire.device) w refl
+  heard_on : (position : ℕ) (count : Count) (o : Option Wire) (w : ByteWorld) → map seen (down_by position count o w).devices ≡ map seen w.devices
+  heard_on position count None w = refl
+  heard_on position count (Some wire) w = heard_to position count wire (slice_get w.devices wire.device) w refl
 
-  pub seen_moved : (m : Move) (w : World) → IsUnasked m → map seen (moved m w).devices ≡ map seen w.devices
-  seen_moved (moves.Dial place) w unasked = dialed place (slice_get w.devices place) w refl
-  seen_moved (moves.Forget place) w unasked = forgot place (slice_get w.devices place) w refl
-  seen_moved (moves.Close place) w unasked = closed place (slice_get w.devices place) w refl
-  seen_moved (moves.Say place line to text private) w unasked = absurd unasked
-  seen_moved (moves.CatchUp place line most) w unasked = absurd unasked
+  pub seen_moved : (m : Move) (w : ByteWorld) → IsUnasked m → map seen (moved m w).devices ≡ map seen w.devices
+  seen_moved (moves.Dial position) w unasked = dialed position (slice_get w.devices position) w refl
+  seen_moved (moves.Forget position) w unasked = forgot position (slice_get w.devices position) w refl
+  seen_moved (moves.Close position) w unasked = closed position (slice_get w.devices position) w refl
+  seen_moved (moves.Say position line to text private) w unasked = absurd unasked
+  seen_moved (moves.CatchUp position line most) w unasked = absurd unasked
   seen_moved (moves.Tick milliseconds) w unasked = refl
-  seen_moved (moves.Up place count) w unasked =
-      let v = served_by place count (slice_get w.wires place) w in
-      end_told place (slice_get v.wires place) v ∙ was_served place count (slice_get w.wires place) w
-  seen_moved (moves.Down place count) w unasked = heard_on place count (slice_get w.wires place) w
-  seen_moved (moves.Cut place up down) w unasked = refl
+  seen_moved (moves.Up position count) w unasked =
+      let v = served_by position count (slice_get w.wires position) w in
+      end_told position (slice_get v.wires position) v ∙ was_served position count (slice_get w.wires position) w
+  seen_moved (moves.Down position count) w unasked = heard_on position count (slice_get w.wires position) w
+  seen_moved (moves.Cut position up down) w unasked = refl

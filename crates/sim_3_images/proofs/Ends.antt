@@ -9,7 +9,7 @@ use Rattle.srv_state.specs.State.{Out, Put, Shut, Took}
 use Rattle.cmd_report.specs.declared.report.ConnEnd.{ConnEnd}
 use Rattle.cmd_report.specs.declared.report.ConnEnd.TheVariants as end
 use Rattle.cmd_schedule.specs.declared.schedule.Version.{Version}
-use Rattle.cmd_network.specs.Places.{changed_at, changed_where, place_under}
+use Rattle.cmd_network.specs.Positions.{changed_at, changed_where, position_under}
 use Rattle.cmd_network.specs.Wires.{cut_at, first_end, left, put_down, put_up, shut}
 use Rattle.cmd_network.specs.declared.wire.Wire.{Wire}
 use Rattle.cmd_world.specs.Effects.{Effects, all_emitted, emitted}
@@ -124,8 +124,8 @@ more_on wires x = let size = length_more wires x in record { many = omega (arith
 -- ---- what the server puts out
 
 one_on : (version : Version) (moment : ℕ) (out : Out (List ℕ)) (e : Effects) → Onward e.wires (emitted version moment out e).wires
-one_on version moment (Put k bytes) e = where_on (put_down bytes) (λ b is. is) e.wires (place_under k)
-one_on version moment (Shut k) e = where_on shut shut_opens e.wires (place_under k)
+one_on version moment (Put k bytes) e = where_on (put_down bytes) (λ b is. is) e.wires (position_under k)
+one_on version moment (Shut k) e = where_on shut shut_opens e.wires (position_under k)
 one_on version moment (Took from to origin) e = same_on e.wires
 
 pub emitted_on : (version : Version) (moment : ℕ) (outs : List (Out (List ℕ))) (e : Effects) → Onward e.wires (all_emitted version moment outs e).wires
@@ -188,8 +188,8 @@ more_flows [] x all is = (is, tt)
 more_flows (b ∷ wires) x all is = (all.0, more_flows wires x all.1 is)
 
 one_flows : (version : Version) (moment : ℕ) (out : Out (List ℕ)) (e : Effects) → AllByRecursion IsFlowing e.wires → AllByRecursion IsFlowing (emitted version moment out e).wires
-one_flows version moment (Put k bytes) e all = where_flows (put_down bytes) (put_down_flows bytes) e.wires (place_under k) all
-one_flows version moment (Shut k) e all = where_flows shut shut_flows e.wires (place_under k) all
+one_flows version moment (Put k bytes) e all = where_flows (put_down bytes) (put_down_flows bytes) e.wires (position_under k) all
+one_flows version moment (Shut k) e all = where_flows shut shut_flows e.wires (position_under k) all
 one_flows version moment (Took from to origin) e all = all
 
 pub emitted_flows : (version : Version) (moment : ℕ) (outs : List (Out (List ℕ))) (e : Effects) → AllByRecursion IsFlowing e.wires → AllByRecursion IsFlowing (all_emitted version moment outs e).wires

@@ -7,7 +7,7 @@ use Rattle.std.specs.List.Sorted.{IsStrictlySortedBy}
 use Rattle.std.specs.Map.{keys_of}
 use Rattle.std.specs.Ordering.{nat_cmp}
 use Rattle.sm_acks.specs.declared.end.TheConstants.{MOST_UNACKNOWLEDGED}
-use Rattle.srv_state.specs.State.{Hall, changed, conn_at, is_number, with_conn, with_sessions, without_conn}
+use Rattle.srv_state.specs.State.{ServerState, changed, conn_at, is_number, with_conn, with_sessions, without_conn}
 use Rattle.srv_state.specs.declared.connection.Connection.{Connection}
 use Rattle.sm_live.specs.Rule.{IsRule}
 use Rattle.sm_live.specs.Sessions.{Session, is_at, is_numbered, session_at, session_of, with_session, without, without_at}
@@ -30,10 +30,10 @@ both x y j = x j && y j
 abbrev pub counts : {A : Type 0} → (ℕ → Bool) → List (Session A) → ℕ → Bool
 counts x ss j = x j && is_unbound ss j
 
-abbrev pub measure : {A : Type 0} → (ℕ → Bool) → Hall A → ℕ
+abbrev pub measure : {A : Type 0} → (ℕ → Bool) → ServerState A → ℕ
 measure x h = h.next + passing (counts x h.sessions) (keys_of h.conns)
 
-pub record Falls {A : Type 0} (x y : ℕ → Bool) (h g : Hall A) : Type 0 where
+pub record Falls {A : Type 0} (x y : ℕ → Bool) (h g : ServerState A) : Type 0 where
   pub keeps : IsOrdered g
   pub less : measure y g ≤ measure x h
 
@@ -54,10 +54,10 @@ found_in_map p g (x ∷ ss) s is fits =
     ]
 
 module _ {A : Type 0} where
-  pub no_fall : (x : ℕ → Bool) (h : Hall A) → IsOrdered h → Falls x x h h
+  pub no_fall : (x : ℕ → Bool) (h : ServerState A) → IsOrdered h → Falls x x h h
   no_fall x h is = record { keeps = is; less = omega arith }
 
-  pub then_falls : (x y z : ℕ → Bool) (h g i : Hall A) → Falls x y h g → (IsOrdered g → Falls y z g i) → Falls x z h i
+  pub then_falls : (x y z : ℕ → Bool) (h g i : ServerState A) → Falls x y h g → (IsOrdered g → Falls y z g i) → Falls x z h i
   then_falls x y z h g i first second =
       let next = second first.keeps in
       let a = first.less in
@@ -75,7 +75,7 @@ module _ {A : Type 0} where
 
   -- ---- the same connections
 
-  pub sessions_fall : (x y : ℕ → Bool) (ts : List (Session A)) (h : Hall A) → IsOrdered h → IsRule ts h.next → ((j : ℕ) → y j ≡ true → x j ≡ true) → Held y h.sessions ts → Falls x y h (with_sessions ts h)
+  pub sessions_fall : (x y : ℕ → Bool) (ts : List (Session A)) (h : ServerState A) → IsOrdered h → IsRule ts h.next → ((j : ℕ) → y j ≡ true → x j ≡ true) → Held y h.sessions ts → Falls x y h (with_sessions ts h)
   sessions_fall x y ts h is rule wider held =
       let less = fewer_pass (counts y ts) (counts x h.sessions) (keys_of h.conns)
       (every (λ j. counts y ts j ≡ true → counts x h.sessions j ≡ true) (keys_of h.conns) (λ j. implied x y h.sessions ts j (wider j) (λ s. held j s))) in
@@ -85,13 +85,13 @@ module _ {A : Type 0} where
   bound_is j ts s is = ap is_none is
 
   -- fewer connections are looked at
-  pub refocus : (x y : ℕ → Bool) (h : Hall A) → ((j : ℕ) → y j ≡ true → x j ≡ true) → IsOrdered h → Falls x y h h
+  pub refocus : (x y : ℕ → Bool) (h : ServerState A) → ((j : ℕ) → y j ≡ true → x j ≡ true) → IsOrdered h → Falls x y h h
   refocus x y h wider is =
       let fell = sessions_fall x y h.sessions h is is.sessions wider (λ j s yes' there. bound_is j h.sessions s there) in
       record { keeps = is; less = fell.less }
 
   -- one that stays on its connection is changed
-  pub changed_falls : (x : ℕ → Bool) (n : ℕ) (f : Session A → Session A) (h : Hall A) → Keeps f → ((s : Session A) → (f s).shown.conn ≡ s.shown.conn) → ((s : Session A) → session_of n h.sessions ≡ Some s → length (f s).waiting ≤ MOST_UNACKNOWLEDGED)
+  pub changed_falls : (x : ℕ → Bool) (n : ℕ) (f : Session A → Session A) (h : ServerState A) → Keeps f → ((s : Session A) → (f s).shown.conn ≡ s.shown.conn) → ((s : Session A) → session_of n h.sessions ≡ Some s → length (f s).waiting ≤ MOST_UNACKNOWLEDGED)
       → IsOrdered h → Falls x x h (with_sessions (with_session n f h.sessions) h)
   changed_falls x n f h kept conn few is =
       sessions_fall x x (with_session n f h.sessions) h is
@@ -104,7 +104,7 @@ module _ {A : Type 0} where
       same false s = refl
 
   -- one moves, or ends, of which the connection isn't looked at
-  pub moved_falls : (x y : ℕ → Bool) (n : ℕ) (Free : ℕ → Type 0) (f : Session A → Session A) (h : Hall A) (t : Session A) → session_of n h.sessions ≡ Some t → Keeps f → Sits Free h.sessions f
+  pub moved_falls : (x y : ℕ → Bool) (n : ℕ) (Free : ℕ → Type 0) (f : Session A → Session A) (h : ServerState A) (t : Session A) → session_of n h.sessions ≡ Some t → Keeps f → Sits Free h.sessions f
       → ((s : Session A) → session_of n h.sessions ≡ Some s → length (f s).waiting ≤ MOST_UNACKNOWLEDGED) → ((j : ℕ) → y j ≡ true → (x j ≡ true) × (off t.shown.conn j ≡ true)) → IsOrdered h
       → Falls x y h (with_sessions (with_session n f h.sessions) h)
   moved_falls x y n Free f h t it kept sits few wider is =
@@ -123,7 +123,7 @@ module _ {A : Type 0} where
                 found_in_map (is_at j) (changes_one n f) h.sessions s there (is_seat j (changes_one n f s) (ap (λ (u : Session A). u.shown.conn) unchanged ∙ on_seat j h.sessions s there))
           ]
 
-  pub ended_falls : (x y : ℕ → Bool) (n : ℕ) (h : Hall A) (t : Session A) → session_of n h.sessions ≡ Some t → ((j : ℕ) → y j ≡ true → (x j ≡ true) × (off t.shown.conn j ≡ true)) → IsOrdered h
+  pub ended_falls : (x y : ℕ → Bool) (n : ℕ) (h : ServerState A) (t : Session A) → session_of n h.sessions ≡ Some t → ((j : ℕ) → y j ≡ true → (x j ≡ true) × (off t.shown.conn j ≡ true)) → IsOrdered h
       → Falls x y h (with_sessions (without n h.sessions) h)
   ended_falls x y n h t it wider is =
       sessions_fall x y (without n h.sessions) h is (rule_left (λ s. not (s.shown.number == n)) h.next h.sessions is.sessions) (λ j yes'. (wider j yes').0) held
@@ -140,14 +140,14 @@ module _ {A : Type 0} where
           ]
 
   -- those go that are on no connection
-  pub parked_go_falls : (x : ℕ → Bool) (q : Session A → Bool) (h : Hall A) → ((s : Session A) (j : ℕ) → s.shown.conn ≡ Some j → q s ≡ true) → IsOrdered h → Falls x x h (with_sessions (filter q h.sessions) h)
+  pub parked_go_falls : (x : ℕ → Bool) (q : Session A → Bool) (h : ServerState A) → ((s : Session A) (j : ℕ) → s.shown.conn ≡ Some j → q s ≡ true) → IsOrdered h → Falls x x h (with_sessions (filter q h.sessions) h)
   parked_go_falls x q h stay is =
       sessions_fall x x (filter q h.sessions) h is (rule_left q h.next h.sessions is.sessions) (λ j yes'. yes')
       (λ j s yes' there. bound_is j (filter q h.sessions) s (left_found (is_at j) q h.sessions s there (stay s j (on_seat j h.sessions s there))))
 
   -- ---- other connections
 
-  pub conn_falls : (x : ℕ → Bool) (k : ℕ) (f : Connection → Connection) (h : Hall A) → IsOrdered h → Falls x x h (with_conn k f h)
+  pub conn_falls : (x : ℕ → Bool) (k : ℕ) (f : Connection → Connection) (h : ServerState A) → IsOrdered h → Falls x x h (with_conn k f h)
   conn_falls x k f h is = go (conn_at k h)
     where
       go : (o : Option Connection) → Falls x x h (record h { conns = changed k f o h.conns })
@@ -163,7 +163,7 @@ module _ {A : Type 0} where
           Ascends ks = IsStrictlySortedBy nat_cmp ks
 
   -- one is without its sessions, and is no more
-  pub shut_falls : (f : ℕ) (x y : ℕ → Bool) (h : Hall A) → ((j : ℕ) → j ≢ f → y j ≡ true → x j ≡ true) → IsOrdered h → Falls x y h (with_sessions (without_at f h.sessions) (without_conn f h))
+  pub shut_falls : (f : ℕ) (x y : ℕ → Bool) (h : ServerState A) → ((j : ℕ) → j ≢ f → y j ≡ true → x j ≡ true) → IsOrdered h → Falls x y h (with_sessions (without_at f h.sessions) (without_conn f h))
   shut_falls f x y h wider is =
       let ts = without_at f h.sessions in
       let less = removed_pass f (counts y ts) (counts x h.sessions) h.conns is.conns (λ j apart. implied x y h.sessions ts j (wider j apart) (λ s yes' there. held j s apart there)) in
@@ -179,7 +179,7 @@ module _ {A : Type 0} where
           bound_is j (without_at f h.sessions) s (left_found (is_at j) (λ u. not (is_at f u)) h.sessions s there (ap not other))
 
   -- one is no more
-  pub gone_conn_falls : (f : ℕ) (x y : ℕ → Bool) (h : Hall A) → ((j : ℕ) → j ≢ f → y j ≡ true → x j ≡ true) → IsOrdered h → Falls x y h (without_conn f h)
+  pub gone_conn_falls : (f : ℕ) (x y : ℕ → Bool) (h : ServerState A) → ((j : ℕ) → j ≢ f → y j ≡ true → x j ≡ true) → IsOrdered h → Falls x y h (without_conn f h)
   gone_conn_falls f x y h wider is =
       let less = removed_pass f (counts y h.sessions) (counts x h.sessions) h.conns is.conns (λ j apart. implied x y h.sessions h.sessions j (wider j apart) (λ s yes' there. bound_is j h.sessions s there)) in
       record { keeps = record { sessions = is.sessions; conns = removed_ascend (is_number f) h.conns is.conns }; less = omega (arith, less) }

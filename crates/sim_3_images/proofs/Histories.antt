@@ -16,21 +16,21 @@ use Rattle.cmd_world.specs.Declaring.{AreAccounts}
 use Rattle.cmd_world.specs.Histories.{common_steps, history_of, owned_at_start, world_at_start, world_of}
 use Rattle.cmd_world.specs.Moves.{Move, moved}
 use Rattle.cmd_world.specs.WorldReports.{report_of}
-use Rattle.cmd_world.specs.Worlds.{World}
+use Rattle.cmd_world.specs.Worlds.{ByteWorld}
 use Rattle.sim_3_images.proofs.Booked.{IsBooked}
 use Rattle.sim_3_images.proofs.BookedMoves.{by_move, each_world, last_world}
-use Rattle.sim_3_images.proofs.BookedReports.{first_hall, names_in, reported}
+use Rattle.sim_3_images.proofs.BookedReports.{first_server_state, names_in, reported}
 use Rattle.sim_3_images.proofs.OwnersKept.{owned_by, owners_kept, owners_of}
 use Rattle.sim_3_images.specs.ReportTakes.{HasArchivesOfTakes}
 
-abbrev IsSo : WireView → World → Type 0
-IsSo schedule w = IsBooked schedule.version (names_in schedule) (first_hall (names_in schedule) (keep_of schedule.version)) w × (owners_of w ≡ owned_in (common_steps schedule))
+abbrev IsSo : WireView → ByteWorld → Type 0
+IsSo schedule w = IsBooked schedule.version (names_in schedule) (first_server_state (names_in schedule) (keep_of schedule.version)) w × (owners_of w ≡ owned_in (common_steps schedule))
 
-booked_first : (schedule : WireView) → IsBooked schedule.version (names_in schedule) (first_hall (names_in schedule) (keep_of schedule.version)) (world_at_start schedule)
+booked_first : (schedule : WireView) → IsBooked schedule.version (names_in schedule) (first_server_state (names_in schedule) (keep_of schedule.version)) (world_at_start schedule)
 booked_first schedule = record {
   takes = [];
   lines_are = refl;
-  archives = λ place. sym (gets_nothing (archive_at place (first_hall (names_in schedule) (keep_of schedule.version))));
+  archives = λ position. sym (gets_nothing (archive_at position (first_server_state (names_in schedule) (keep_of schedule.version))));
   addressees = tt;
   senders = tt;
   sound = sound_at_start domain (accounts_at_start (names_in schedule)) (keep_of schedule.version);
@@ -50,10 +50,10 @@ owners_first (o ∷ owned) = ap (λ (os : List Owned). o ∷ os) (owners_first o
 at_first : (schedule : WireView) → IsSo schedule (world_at_start schedule)
 at_first schedule = (booked_first schedule, owners_first (owned_in (common_steps schedule)))
 
-moved_so : (schedule : WireView) (m : Move) (w : World) → IsSo schedule w → IsSo schedule (moved m w)
-moved_so schedule m w is = (by_move schedule.version (names_in schedule) (first_hall (names_in schedule) (keep_of schedule.version)) m w is.0, owners_kept m w ∙ is.1)
+moved_so : (schedule : WireView) (m : Move) (w : ByteWorld) → IsSo schedule w → IsSo schedule (moved m w)
+moved_so schedule m w is = (by_move schedule.version (names_in schedule) (first_server_state (names_in schedule) (keep_of schedule.version)) m w is.0, owners_kept m w ∙ is.1)
 
-told_so : (schedule : WireView) → IsWireSchedule schedule → (w : World) → IsSo schedule w → HasArchivesOfTakes schedule (report_of w)
+told_so : (schedule : WireView) → IsWireSchedule schedule → (w : ByteWorld) → IsSo schedule w → HasArchivesOfTakes schedule (report_of w)
 told_so schedule right w is =
     let accounts : AreAccounts [] (names_in schedule) = are_accounts schedule (may_run_all schedule right) in
     reported schedule w accounts (are_names (names_in schedule) accounts) is.0 is.1

@@ -37,53 +37,53 @@ use Rattle.xml_trees.specs.Trees.{Elem}
 use Rattle.xml_writer.specs.Items.{ItemOut}
 use Rattle.std.specs.Prelude.{codes}
 
-module _ {A : Type 0} (say : ItemOut → A) (k : ℕ) (s : Step A) (c : Connection) (is : IsOrdered s.hall) (below : s.hall.next + unbound s.hall < 2 ^ 64) (open_one : conn_at k s.hall ≡ Some c) where
+module _ {A : Type 0} (say : ItemOut → A) (k : ℕ) (s : Step A) (c : Connection) (is : IsOrdered s.server_state) (below : s.server_state.next + unbound s.server_state < 2 ^ 64) (open_one : conn_at k s.server_state ≡ Some c) where
   calm_goes : (acts : List (Act A)) → Calm acts → Goes say s acts
   calm_goes acts calm = acted_falls say every_one acts s calm is
 
   -- ---- where no session is on the connection
 
-  module _ (account : ℕ) (st : Standing) (seat : session_at k s.hall.sessions ≡ None) where
-    bind_goes : (id : List ℕ) (o : Option (List ℕ)) → Goes say s (binding_as say k account id o s.hall)
-    bind_goes id None = no_fall every_one s.hall is
+  module _ (account : ℕ) (st : Standing) (seat : session_at k s.server_state.sessions ≡ None) where
+    bind_goes : (id : List ℕ) (o : Option (List ℕ)) → Goes say s (binding_as say k account id o s.server_state)
+    bind_goes id None = no_fall every_one s.server_state is
     bind_goes id (Some resource) = binding_goes say k account id resource s c is below open_one seat
 
-    iq_goes : (kind : IqKind) (q : IqView) (bind : Option Elem) → Goes say s (ready_iq say k account kind q bind st s.hall)
-    iq_goes iq.Set q (Some bind) = bind_goes q.id (result_ok (chosen s.hall.next (asked_resource bind)))
-    iq_goes kind q bind = calm_goes (ending say k NotAuthorized st s.hall) (calm_ending say k NotAuthorized st s.hall)
+    iq_goes : (kind : IqKind) (q : IqView) (bind : Option Elem) → Goes say s (ready_iq say k account kind q bind st s.server_state)
+    iq_goes iq.Set q (Some bind) = bind_goes q.id (result_ok (chosen s.server_state.next (asked_resource bind)))
+    iq_goes kind q bind = calm_goes (ending say k NotAuthorized st s.server_state) (calm_ending say k NotAuthorized st s.server_state)
 
-    stanza_goes : (read : Result Stanza StanzaFault) → Goes say s (ready_stanza say k account read st s.hall)
+    stanza_goes : (read : Result Stanza StanzaFault) → Goes say s (ready_stanza say k account read st s.server_state)
     stanza_goes (Ok (stanza.Iq q)) = iq_goes q.kind q (first_named binding (codes "bind") q.payload)
-    stanza_goes read = calm_goes (ending say k NotAuthorized st s.hall) (calm_ending say k NotAuthorized st s.hall)
+    stanza_goes read = calm_goes (ending say k NotAuthorized st s.server_state) (calm_ending say k NotAuthorized st s.server_state)
 
-    ready_goes : (w : Word) → Goes say s (at_ready say k account w st s.hall)
+    ready_goes : (w : Word) → Goes say s (at_ready say k account w st s.server_state)
     ready_goes (word.Stanza long read) = stanza_goes read
-    ready_goes (word.Resume previd handled) = resuming_goes say k account previd handled s is seat (session_resumed previd account s.hall.sessions) refl
-    ready_goes (word.Enable resume) = no_fall every_one s.hall is
-    ready_goes word.Request = no_fall every_one s.hall is
-    ready_goes (word.Ack handled) = no_fall every_one s.hall is
-    ready_goes w = calm_goes (at_any say k w st s.hall) (calm_any say k w st s.hall)
+    ready_goes (word.Resume previd handled) = resuming_goes say k account previd handled s is seat (session_resumed previd account s.server_state.sessions) refl
+    ready_goes (word.Enable resume) = no_fall every_one s.server_state is
+    ready_goes word.Request = no_fall every_one s.server_state is
+    ready_goes (word.Ack handled) = no_fall every_one s.server_state is
+    ready_goes w = calm_goes (at_any say k w st s.server_state) (calm_any say k w st s.server_state)
 
   -- ---- an item
 
-  ready_or_bound_goes : (account : ℕ) (w : Word) (st : Standing) (o : Option (Session A)) → session_at k s.hall.sessions ≡ o → Goes say s (at_ready_or_bound say k account w (option_map told o) st s.hall)
+  ready_or_bound_goes : (account : ℕ) (w : Word) (st : Standing) (o : Option (Session A)) → session_at k s.server_state.sessions ≡ o → Goes say s (at_ready_or_bound say k account w (option_map told o) st s.server_state)
   ready_or_bound_goes account w st None seat = ready_goes account st seat w
-  ready_or_bound_goes account w st (Some t) seat = calm_goes (at_bound say k w (told t) st s.hall) (calm_bound say k w (told t) st s.hall)
+  ready_or_bound_goes account w st (Some t) seat = calm_goes (at_bound say k w (told t) st s.server_state) (calm_bound say k w (told t) st s.server_state)
 
-  word_goes : (w : Word) (g : Stage) (st : Standing) → Goes say s (at_word say k w g st s.hall)
-  word_goes w stage.Login st = calm_goes (at_login say k w st s.hall) (calm_login say k w st s.hall)
-  word_goes w stage.Challenge st = calm_goes (at_challenge say k w st s.hall) (calm_challenge say k w st s.hall)
-  word_goes w (stage.Ready account) st = ready_or_bound_goes account w st (session_at k s.hall.sessions) refl
-  word_goes w g st = calm_goes (at_any say k w st s.hall) (calm_any say k w st s.hall)
+  word_goes : (w : Word) (g : Stage) (st : Standing) → Goes say s (at_word say k w g st s.server_state)
+  word_goes w stage.Login st = calm_goes (at_login say k w st s.server_state) (calm_login say k w st s.server_state)
+  word_goes w stage.Challenge st = calm_goes (at_challenge say k w st s.server_state) (calm_challenge say k w st s.server_state)
+  word_goes w (stage.Ready account) st = ready_or_bound_goes account w st (session_at k s.server_state.sessions) refl
+  word_goes w g st = calm_goes (at_any say k w st s.server_state) (calm_any say k w st s.server_state)
 
-  item_goes : (i : Item) (st : Standing) → Goes say s (at_item say k i st s.hall)
-  item_goes (item.Header at header) st = calm_goes (at_header say k header st s.hall) (calm_header say k header st s.hall)
+  item_goes : (i : Item) (st : Standing) → Goes say s (at_item say k i st s.server_state)
+  item_goes (item.Header at header) st = calm_goes (at_header say k header st s.server_state) (calm_header say k header st s.server_state)
   item_goes (item.Element e) st = word_goes (word_of e) st.stage st
   item_goes item.Footer st = calm_goes (closing say k) tt
 
-pub item_falls : {A : Type 0} (say : ItemOut → A) (k : ℕ) (i : Item) (s : Step A) → IsOrdered s.hall → s.hall.next + unbound s.hall < 2 ^ 64 → Falls every_one every_one s.hall (after_item say k i s).hall
-item_falls say k i s is below = go (conn_at k s.hall) refl
+pub item_falls : {A : Type 0} (say : ItemOut → A) (k : ℕ) (i : Item) (s : Step A) → IsOrdered s.server_state → s.server_state.next + unbound s.server_state < 2 ^ 64 → Falls every_one every_one s.server_state (after_item say k i s).server_state
+item_falls say k i s is below = go (conn_at k s.server_state) refl
   where
-    go : (o : Option Connection) → conn_at k s.hall ≡ o → Goes say s (at_open say k i (option_map standing_of o) s.hall)
-    go None open_one = no_fall every_one s.hall is
+    go : (o : Option Connection) → conn_at k s.server_state ≡ o → Goes say s (at_open say k i (option_map standing_of o) s.server_state)
+    go None open_one = no_fall every_one s.server_state is
     go (Some c) open_one = item_goes say k s c is below open_one i (standing_of c)

@@ -4,23 +4,23 @@ use Rattle.std.proofs.lemmas.Bool.{cases_Bool, eq-eqb}
 use Rattle.std.specs.List.{AllByRecursion, slice_get, slice_set}
 use Rattle.std.specs.Option.{option_map}
 use Rattle.cl_core.specs.Steps.{connected_step, item_step, items_run}
-use Rattle.cl_handlers.specs.Clients.{ClientView, Turn}
+use Rattle.cl_handlers.specs.Clients.{ClientStep, ClientView}
 use Rattle.cl_handlers.specs.Speech.{in_items}
-use Rattle.cl_handlers.specs.Turns.{is_apart}
-use Rattle.srv_state.specs.State.{Hall}
+use Rattle.cl_handlers.specs.ClientSteps.{is_apart}
+use Rattle.srv_state.specs.State.{ServerState}
 use Rattle.xml_framer.specs.declared.items.Item.{Item}
 use Rattle.law_xml.proofs.PlainElements.{append_each}
 use Rattle.sim_3_images.proofs.ItemsServed.{changed_none, changed_twice, drop_more}
 use Rattle.sim_3_images.proofs.Lookups.{get_changed_same}
-use Rattle.sim_3_images.proofs.TurnsBehind.{step_adds}
+use Rattle.sim_3_images.proofs.TurnsAfter.{step_adds}
 use Rattle.sim_3_images.proofs.UserMoves.{get_set_same}
-use Rattle.sim_3_images.specs.PipeImages.{dropped}
-use Rattle.sim_3_images.specs.ImagesCores.{Adds, CoresFit, HeardFits, IsInTurn, IsNoFooter}
+use Rattle.sim_3_images.specs.PipeEncodings.{dropped}
+use Rattle.sim_3_images.specs.EncodingsCores.{Adds, CoresFit, HeardFits, IsInClientStep, IsNoFooter}
 use Rattle.sim_3_images.specs.ItemRuns.{downs}
-use Rattle.sim_3_items.specs.ItemMoves.{Down, all_moved, at_device, at_wire, has_wire, heard_first, here_behind, left_where, moved}
+use Rattle.sim_3_items.specs.ItemMoves.{Down, all_moved, at_device, at_wire, has_wire, heard_first, here_after, left_where, moved}
 use Rattle.sim_3_items.specs.ItemPipes.{ItemPipe, ItemWire, entered, handed_down, put_up}
-use Rattle.sim_3_items.specs.ItemWorlds.{ItemDevice, ItemWorld, read_of, silent_turn}
-use Rattle.cmd_network.specs.Places.{changed_at}
+use Rattle.sim_3_items.specs.ItemWorlds.{ItemDevice, ItemWorld, read_of, silent_client_step}
+use Rattle.cmd_network.specs.Positions.{changed_at}
 use Rattle.sim_3_images.proofs.DevicesMoved.{put_again}
 use Rattle.xml_writer.specs.Items.{Closing, ItemOut}
 
@@ -52,11 +52,11 @@ nothing_entered p = by p.ended
 -- ---- a turn behind another
 
 -- the turn of some items
-abbrev pub turn_of_items : ClientView ItemOut → List ItemOut → Turn ItemOut ItemOut
-turn_of_items c l = items_run in_items (silent_turn c) (map read_of l)
+abbrev pub client_step_of_items : ClientView ItemOut → List ItemOut → ClientStep ItemOut ItemOut
+client_step_of_items c l = items_run in_items (silent_client_step c) (map read_of l)
 
 -- an item that comes where no connection stands does nothing
-pub apart_run : (l : List Item) (t : Turn ItemOut ItemOut) → is_apart t.client.phase ≡ true → items_run in_items t l ≡ t
+pub apart_run : (l : List Item) (t : ClientStep ItemOut ItemOut) → is_apart t.client.phase ≡ true → items_run in_items t l ≡ t
 apart_run [] t e = refl
 apart_run (i ∷ l) t e = ap (λ (b : Bool). items_run in_items (cond b t (connected_step in_items t i)) l) e ∙ apart_run l t e
 
@@ -75,43 +75,43 @@ one_then_many apart a b n x =
     ap₂ (λ u l. left_where apart (record x { up = u; down = record x.down { items = l } })) (entered_twice a b x.up) (drop_more n x.down.items)
 
 -- what is in turn behind things that are no footers
-in_turn_behind : (apart : Bool) (before put : List ItemOut) → AllByRecursion IsNoFooter before → IsInTurn apart put → IsInTurn apart (before ++ put)
-in_turn_behind apart before put none (inl all) = inl (append_each IsNoFooter before put none all)
-in_turn_behind apart before put none (inr last) = inr (before ++ last.0, ap (λ l. before ++ l) last.1 ∙ sym (append_assoc before last.0 (Closing ∷ [])), append_each IsNoFooter before last.0 none last.2, last.3)
+in_client_step_after : (apart : Bool) (before put : List ItemOut) → AllByRecursion IsNoFooter before → IsInClientStep apart put → IsInClientStep apart (before ++ put)
+in_client_step_after apart before put none (inl all) = inl (append_each IsNoFooter before put none all)
+in_client_step_after apart before put none (inr last) = inr (before ++ last.0, ap (λ l. before ++ l) last.1 ∙ sym (append_assoc before last.0 (Closing ∷ [])), append_each IsNoFooter before last.0 none last.2, last.3)
 
-module _ (UpFits DownFits : ItemOut → Type 0) (HallFits : ℕ → Hall ItemOut → Type 0) (ClientFits : ClientView ItemOut → Type 0) (cores : CoresFit UpFits DownFits HallFits ClientFits) where
-  run_adds : (l : List Item) (t : Turn ItemOut ItemOut) → Adds t (items_run in_items (silent_turn t.client) l) (items_run in_items t l)
+module _ (UpFits DownFits : ItemOut → Type 0) (ServerFits : ℕ → ServerState ItemOut → Type 0) (ClientFits : ClientView ItemOut → Type 0) (cores : CoresFit UpFits DownFits ServerFits ClientFits) where
+  run_adds : (l : List Item) (t : ClientStep ItemOut ItemOut) → Adds t (items_run in_items (silent_client_step t.client) l) (items_run in_items t l)
   run_adds [] t = record { client_is = refl; put_is = sym (append-nil t.out.put) }
   run_adds (i ∷ l) t =
-      let one = item_step in_items (silent_turn t.client) i in
+      let one = item_step in_items (silent_client_step t.client) i in
       let a = step_adds i t in
       let whole = run_adds l (item_step in_items t i) in
       let alone = run_adds l one in
-      let same : items_run in_items (silent_turn (item_step in_items t i).client) l ≡ items_run in_items (silent_turn one.client) l = ap (λ c. items_run in_items (silent_turn c) l) a.client_is in
+      let same : items_run in_items (silent_client_step (item_step in_items t i).client) l ≡ items_run in_items (silent_client_step one.client) l = ap (λ c. items_run in_items (silent_client_step c) l) a.client_is in
       record {
-        client_is = whole.client_is ∙ ap (λ (u : Turn ItemOut ItemOut). u.client) same ∙ sym alone.client_is;
+        client_is = whole.client_is ∙ ap (λ (u : ClientStep ItemOut ItemOut). u.client) same ∙ sym alone.client_is;
         put_is =
-            whole.put_is ∙ ap (λ x. x ++ (items_run in_items (silent_turn (item_step in_items t i).client) l).out.put) a.put_is ∙ ap (λ (u : Turn ItemOut ItemOut). (t.out.put ++ one.out.put) ++ u.out.put) same
-            ∙ append_assoc t.out.put one.out.put (items_run in_items (silent_turn one.client) l).out.put ∙ ap (λ x. t.out.put ++ x) (sym alone.put_is);
+            whole.put_is ∙ ap (λ x. x ++ (items_run in_items (silent_client_step (item_step in_items t i).client) l).out.put) a.put_is ∙ ap (λ (u : ClientStep ItemOut ItemOut). (t.out.put ++ one.out.put) ++ u.out.put) same
+            ∙ append_assoc t.out.put one.out.put (items_run in_items (silent_client_step one.client) l).out.put ∙ ap (λ x. t.out.put ++ x) (sym alone.put_is);
       }
 
   -- what the turn of some items puts fits
-  pub turn_fits : (l : List ItemOut) (c : ClientView ItemOut) → ClientFits c → AllByRecursion DownFits l → HeardFits UpFits ClientFits (turn_of_items c l)
-  turn_fits [] c fits all = record { client = fits; puts = tt; in_turn = inl tt }
-  turn_fits (i ∷ l) c fits all = elim (cores.client.hears i c fits all.0).in_turn [
+  pub client_step_fits : (l : List ItemOut) (c : ClientView ItemOut) → ClientFits c → AllByRecursion DownFits l → HeardFits UpFits ClientFits (client_step_of_items c l)
+  client_step_fits [] c fits all = record { client = fits; puts = tt; in_client_step = inl tt }
+  client_step_fits (i ∷ l) c fits all = elim (cores.client.hears i c fits all.0).in_client_step [
     | inl none ↦
-        let one = item_step in_items (silent_turn c) (read_of i) in
+        let one = item_step in_items (silent_client_step c) (read_of i) in
         let f = cores.client.hears i c fits all.0 in
-        let g = turn_fits l one.client f.client all.1 in
+        let g = client_step_fits l one.client f.client all.1 in
         let a = run_adds (map read_of l) one in
         record {
           client = subst ClientFits (sym a.client_is) g.client;
-          puts = subst (AllByRecursion UpFits) (sym a.put_is) (append_each UpFits one.out.put (turn_of_items one.client l).out.put f.puts g.puts);
-          in_turn = subst (λ (c' : ClientView ItemOut). IsInTurn (is_apart c'.phase) (turn_of_items c (i ∷ l)).out.put) (sym a.client_is)
-              (subst (IsInTurn (is_apart (turn_of_items one.client l).client.phase)) (sym a.put_is) (in_turn_behind (is_apart (turn_of_items one.client l).client.phase) one.out.put (turn_of_items one.client l).out.put none g.in_turn));
+          puts = subst (AllByRecursion UpFits) (sym a.put_is) (append_each UpFits one.out.put (client_step_of_items one.client l).out.put f.puts g.puts);
+          in_client_step = subst (λ (c' : ClientView ItemOut). IsInClientStep (is_apart c'.phase) (client_step_of_items c (i ∷ l)).out.put) (sym a.client_is)
+              (subst (IsInClientStep (is_apart (client_step_of_items one.client l).client.phase)) (sym a.put_is) (in_client_step_after (is_apart (client_step_of_items one.client l).client.phase) one.out.put (client_step_of_items one.client l).out.put none g.in_client_step));
         }
     | inr last ↦
-        let one = item_step in_items (silent_turn c) (read_of i) in
+        let one = item_step in_items (silent_client_step c) (read_of i) in
         let f = cores.client.hears i c fits all.0 in
         subst (HeardFits UpFits ClientFits) (sym (apart_run (map read_of l) one last.3)) f
   ]
@@ -119,58 +119,58 @@ module _ (UpFits DownFits : ItemOut → Type 0) (HallFits : ℕ → Hall ItemOut
   -- ---- items one after another, and at once
 
   abbrev pub heard_at_once : ℕ → ℕ → ItemDevice → List ItemOut → ItemWorld → ItemWorld
-  heard_at_once place device e l v = record v {
-    devices = slice_set v.devices device (record { client = (turn_of_items e.client l).client; here = here_behind (is_apart (turn_of_items e.client l).client.phase) e.here });
-    wires = changed_at place (many_of (is_apart (turn_of_items e.client l).client.phase) (turn_of_items e.client l).out.put (length l)) v.wires;
+  heard_at_once position device e l v = record v {
+    devices = slice_set v.devices device (record { client = (client_step_of_items e.client l).client; here = here_after (is_apart (client_step_of_items e.client l).client.phase) e.here });
+    wires = changed_at position (many_of (is_apart (client_step_of_items e.client l).client.phase) (client_step_of_items e.client l).out.put (length l)) v.wires;
   }
 
-  down_is : (place : ℕ) (v : ItemWorld) (p : ItemWire) (e : ItemDevice) → slice_get v.wires place ≡ Some p → slice_get v.devices p.device ≡ Some e → moved (Down place) v ≡ cond (has_wire place e.here) (heard_first place p.device p.down.items e v) v
-  down_is place v p e found found_device =
-      ap (λ o. at_wire place (λ wire d. heard_first place wire.device wire.down.items d) o v) found ∙ ap (λ o. at_device place (λ wire d. heard_first place wire.device wire.down.items d) p o v) found_device
+  down_is : (position : ℕ) (v : ItemWorld) (p : ItemWire) (e : ItemDevice) → slice_get v.wires position ≡ Some p → slice_get v.devices p.device ≡ Some e → moved (Down position) v ≡ cond (has_wire position e.here) (heard_first position p.device p.down.items e v) v
+  down_is position v p e found found_device =
+      ap (λ o. at_wire position (λ wire d. heard_first position wire.device wire.down.items d) o v) found ∙ ap (λ o. at_device position (λ wire d. heard_first position wire.device wire.down.items d) p o v) found_device
 
   -- a device that has no connection hears nothing
-  downs_of_none : (place n device : ℕ) (v : ItemWorld) (p : ItemWire) (e : ItemDevice) → slice_get v.wires place ≡ Some p → p.device ≡ device → slice_get v.devices device ≡ Some e → e.here ≡ None → all_moved (downs place n) v ≡ v
-  downs_of_none place zero device v p e found dev found_device none = refl
-  downs_of_none place (suc n) device v p e found dev found_device none =
-      ap (all_moved (downs place n)) (down_is place v p e found (ap (slice_get v.devices) dev ∙ found_device) ∙ ap (λ (o : Option ℕ). cond (has_wire place o) (heard_first place p.device p.down.items e v) v) none)
-      ∙ downs_of_none place n device v p e found dev found_device none
+  downs_of_none : (position n device : ℕ) (v : ItemWorld) (p : ItemWire) (e : ItemDevice) → slice_get v.wires position ≡ Some p → p.device ≡ device → slice_get v.devices device ≡ Some e → e.here ≡ None → all_moved (downs position n) v ≡ v
+  downs_of_none position zero device v p e found dev found_device none = refl
+  downs_of_none position (suc n) device v p e found dev found_device none =
+      ap (all_moved (downs position n)) (down_is position v p e found (ap (slice_get v.devices) dev ∙ found_device) ∙ ap (λ (o : Option ℕ). cond (has_wire position o) (heard_first position p.device p.down.items e v) v) none)
+      ∙ downs_of_none position n device v p e found dev found_device none
 
-  pub downs_are : (place device : ℕ) (l others : List ItemOut) (v : ItemWorld) (p : ItemWire) (e : ItemDevice) → slice_get v.wires place ≡ Some p → p.device ≡ device → slice_get v.devices device ≡ Some e → e.here ≡ Some place
-      → is_apart e.client.phase ≡ false → p.down.items ≡ l ++ others → all_moved (downs place (length l)) v ≡ heard_at_once place device e l v
-  downs_are place device [] others v p e found dev found_device here stands items_are =
+  pub downs_are : (position device : ℕ) (l others : List ItemOut) (v : ItemWorld) (p : ItemWire) (e : ItemDevice) → slice_get v.wires position ≡ Some p → p.device ≡ device → slice_get v.devices device ≡ Some e → e.here ≡ Some position
+      → is_apart e.client.phase ≡ false → p.down.items ≡ l ++ others → all_moved (downs position (length l)) v ≡ heard_at_once position device e l v
+  downs_are position device [] others v p e found dev found_device here stands items_are =
       sym (ap₂ (λ x y. record v { devices = x; wires = y })
-      (ap (λ (b : Bool). slice_set v.devices device (record { client = e.client; here = here_behind b e.here })) stands ∙ put_again v.devices device e found_device)
-      (ap (λ (b : Bool). changed_at place (many_of b [] 0) v.wires) stands ∙ changed_none (many_of false [] 0) v.wires place (λ x. ap (λ u. record x { up = u }) (nothing_entered x.up))))
-  downs_are place device (i ∷ l) others v p e found dev found_device here stands items_are =
+      (ap (λ (b : Bool). slice_set v.devices device (record { client = e.client; here = here_after b e.here })) stands ∙ put_again v.devices device e found_device)
+      (ap (λ (b : Bool). changed_at position (many_of b [] 0) v.wires) stands ∙ changed_none (many_of false [] 0) v.wires position (λ x. ap (λ u. record x { up = u }) (nothing_entered x.up))))
+  downs_are position device (i ∷ l) others v p e found dev found_device here stands items_are =
       let n = length l in
-      let t = item_step in_items (silent_turn e.client) (read_of i) in
-      let behind : Bool → ItemWorld = λ b. record v {
-        devices = slice_set v.devices device (record { client = t.client; here = here_behind b e.here });
-        wires = changed_at place (one_of b t.out.put) v.wires;
+      let t = item_step in_items (silent_client_step e.client) (read_of i) in
+      let following : Bool → ItemWorld = λ b. record v {
+        devices = slice_set v.devices device (record { client = t.client; here = here_after b e.here });
+        wires = changed_at position (one_of b t.out.put) v.wires;
       } in
-      let itself_here : has_wire place e.here ≡ true = ap (has_wire place) here ∙ eq-eqb place place refl in
-      let one_is : moved (Down place) v ≡ behind (is_apart t.client.phase) =
-      down_is place v p e found (ap (slice_get v.devices) dev ∙ found_device) ∙ ap (λ (b : Bool). cond b (heard_first place p.device p.down.items e v) v) itself_here ∙ ap₂ (λ m k. heard_first place m k e v) dev items_are in
+      let itself_here : has_wire position e.here ≡ true = ap (has_wire position) here ∙ eq-eqb position position refl in
+      let one_is : moved (Down position) v ≡ following (is_apart t.client.phase) =
+      down_is position v p e found (ap (slice_get v.devices) dev ∙ found_device) ∙ ap (λ (b : Bool). cond b (heard_first position p.device p.down.items e v) v) itself_here ∙ ap₂ (λ m k. heard_first position m k e v) dev items_are in
       let whole = items_run in_items t (map read_of l) in
       let shape : ClientView ItemOut → List ItemOut → ItemWorld = λ c put. record v {
-        devices = slice_set v.devices device (record { client = c; here = here_behind (is_apart c.phase) e.here });
-        wires = changed_at place (many_of (is_apart c.phase) put (suc n)) v.wires;
+        devices = slice_set v.devices device (record { client = c; here = here_after (is_apart c.phase) e.here });
+        wires = changed_at position (many_of (is_apart c.phase) put (suc n)) v.wires;
       } in
-      ap (all_moved (downs place n)) one_is ∙ elim (cases_Bool (is_apart t.client.phase)) [
+      ap (all_moved (downs position n)) one_is ∙ elim (cases_Bool (is_apart t.client.phase)) [
         | inl apart ↦
             let e1 : ItemDevice = record { client = t.client; here = None } in
-            ap (λ b. all_moved (downs place n) (behind b)) apart
-            ∙ downs_of_none place n device (behind true) (one_of true t.out.put p) e1 (get_changed_same (one_of true t.out.put) v.wires place ∙ ap (option_map (one_of true t.out.put)) found) dev (get_set_same v.devices device e e1 found_device) refl
-            ∙ sym (ap (λ (u : Turn ItemOut ItemOut). shape u.client u.out.put) (apart_run (map read_of l) t apart)
-            ∙ ap (λ b. record v { devices = slice_set v.devices device (record { client = t.client; here = here_behind b e.here }); wires = changed_at place (many_of b t.out.put (suc n)) v.wires }) apart)
+            ap (λ b. all_moved (downs position n) (following b)) apart
+            ∙ downs_of_none position n device (following true) (one_of true t.out.put p) e1 (get_changed_same (one_of true t.out.put) v.wires position ∙ ap (option_map (one_of true t.out.put)) found) dev (get_set_same v.devices device e e1 found_device) refl
+            ∙ sym (ap (λ (u : ClientStep ItemOut ItemOut). shape u.client u.out.put) (apart_run (map read_of l) t apart)
+            ∙ ap (λ b. record v { devices = slice_set v.devices device (record { client = t.client; here = here_after b e.here }); wires = changed_at position (many_of b t.out.put (suc n)) v.wires }) apart)
         | inr stays ↦
             let e1 : ItemDevice = record { client = t.client; here = e.here } in
-            let t' = turn_of_items t.client l in
+            let t' = client_step_of_items t.client l in
             let a = is_apart t'.client.phase in
             let more = run_adds (map read_of l) t in
-            ap (λ b. all_moved (downs place n) (behind b)) stays
-            ∙ downs_are place device l others (behind false) (one_of false t.out.put p) e1 (get_changed_same (one_of false t.out.put) v.wires place ∙ ap (option_map (one_of false t.out.put)) found) dev (get_set_same v.devices device e e1 found_device) here stays (ap (drop 1) items_are)
-            ∙ ap₂ (λ x y. record v { devices = x; wires = y }) (set_twice v.devices device e1 (record { client = t'.client; here = here_behind a e.here }))
-            (changed_twice (many_of a t'.out.put n) (one_of false t.out.put) (many_of a (t.out.put ++ t'.out.put) (suc n)) v.wires place (one_then_many a t.out.put t'.out.put n))
+            ap (λ b. all_moved (downs position n) (following b)) stays
+            ∙ downs_are position device l others (following false) (one_of false t.out.put p) e1 (get_changed_same (one_of false t.out.put) v.wires position ∙ ap (option_map (one_of false t.out.put)) found) dev (get_set_same v.devices device e e1 found_device) here stays (ap (drop 1) items_are)
+            ∙ ap₂ (λ x y. record v { devices = x; wires = y }) (set_twice v.devices device e1 (record { client = t'.client; here = here_after a e.here }))
+            (changed_twice (many_of a t'.out.put n) (one_of false t.out.put) (many_of a (t.out.put ++ t'.out.put) (suc n)) v.wires position (one_then_many a t.out.put t'.out.put n))
             ∙ ap₂ shape (sym more.client_is) (sym more.put_is)
       ]

@@ -4,25 +4,25 @@ use Rattle.std.specs.List.{AllByRecursion}
 use Rattle.cl_core.specs.Steps.{item_step}
 use Rattle.cl_core.specs.UserCalls.{catches_up, catches_up_in, dials, says, submission_of, submits}
 use Rattle.law_limits.proofs.ClientStepsKept.{catches_up_within, dials_within, forgets_within, items_within, leaves_within, says_within}
-use Rattle.law_limits.specs.Within.{IsTurnWithin}
+use Rattle.law_limits.specs.Within.{IsClientStepWithin}
 use Rattle.law_client.proofs.StepsOrdered.{catches_up_ordered, dials_ordered, items_ordered, says_ordered}
 use Rattle.law_client.specs.Order.{HasNoEnd, PutsInOrder}
-use Rattle.cl_handlers.specs.Clients.{ClientView, Turn}
+use Rattle.cl_handlers.specs.Clients.{ClientStep, ClientView}
 use Rattle.cl_handlers.specs.Speech.{in_items}
-use Rattle.cl_handlers.specs.Turns.{is_apart}
+use Rattle.cl_handlers.specs.ClientSteps.{is_apart}
 use Rattle.sim_3_images.proofs.UpComes.{drawn, up_comes}
 use Rattle.sim_3_images.proofs.Waiting.{gone_answers, moment_answers}
-use Rattle.sim_3_images.specs.Mild.{ClientFits, DownFits, HallFits, IsAnswered, IsMild, UpFits}
-use Rattle.sim_3_images.specs.CoresOwed.{ClientIsMild, ServerAnswers, TurnIsMild}
-use Rattle.srv_state.specs.State.{Hall, Out, Put, Shut, Took}
+use Rattle.sim_3_images.specs.Relayable.{ClientFits, DownFits, IsAnswered, IsRelayable, ServerFits, UpFits}
+use Rattle.sim_3_images.specs.CoresOwed.{ClientIsRelayable, ClientStepIsRelayable, ServerAnswers}
+use Rattle.srv_state.specs.State.{Out, Put, ServerState, Shut, Took}
 use Rattle.xml_framer.specs.Limits.{server_limits}
 use Rattle.xml_framer.specs.declared.states.Phase.{Phase}
 use Rattle.xml_framer.specs.declared.states.Phase.TheVariants as stream
-use Rattle.sim_3_images.specs.ImagesCores.{HeardFits, IsInTurn, IsNoFooter, TurnFits}
-use Rattle.sim_3_images.specs.ImagesOwed.{CoresKeep}
+use Rattle.sim_3_images.specs.EncodingsCores.{ClientStepFits, HeardFits, IsInClientStep, IsNoFooter}
+use Rattle.sim_3_images.specs.EncodingsOwed.{CoresKeep}
 use Rattle.sim_3_images.specs.Stands.{OutPuts}
 use Rattle.sim_3_items.specs.ItemMoves.{fed_of, step_of}
-use Rattle.sim_3_items.specs.ItemWorlds.{itself, read_of, silent_turn}
+use Rattle.sim_3_items.specs.ItemWorlds.{itself, read_of, silent_client_step}
 use Rattle.sm_outbox.specs.Sessions.{SessionView}
 use Rattle.sm_outbox.specs.Submissions.{said_of}
 use Rattle.sm_outbox.specs.declared.said.Said.{Said}
@@ -32,7 +32,7 @@ use Rattle.law_limits.proofs.NamesWithin.{address_within, text_within}
 use Rattle.srv_core.specs.Table.{after_item}
 use Rattle.law_limits.proofs.MomentsKept.{fresh_kept, gone_kept, moment_kept}
 use Rattle.law_limits.proofs.TableKept.{after_kept}
-use Rattle.law_limits.specs.Keeps.{HallKeeps, OutIsRead, StepKeeps}
+use Rattle.law_limits.specs.Keeps.{OutIsRead, ServerKeeps, StepKeeps}
 use Rattle.cmd_world.specs.Worlds.{client_entropy, server_entropy}
 use Rattle.xml_writer.specs.Items.{Closing, ItemOut, Opening, Whole}
 use Rattle.law_xml.specs.Puts.{OutFits, phase_behind}
@@ -54,17 +54,17 @@ outs_both (o ∷ outs) h a = (out_both o h.0 a.0, outs_both outs h.1 a.1)
 
 -- ---- the server
 
-begun_keeps : (h : Hall ItemOut) → HallKeeps h → StepKeeps (step_of h)
-begun_keeps h keeps = record { hall = keeps; outs = tt }
+begun_keeps : (h : ServerState ItemOut) → ServerKeeps h → StepKeeps (step_of h)
+begun_keeps h keeps = record { server_state = keeps; outs = tt }
 
-item_keeps : (k : ℕ) (i : ItemOut) (h : Hall ItemOut) → HallFits h → UpFits i → StepKeeps (after_item itself k (read_of i) (step_of h))
+item_keeps : (k : ℕ) (i : ItemOut) (h : ServerState ItemOut) → ServerFits h → UpFits i → StepKeeps (after_item itself k (read_of i) (step_of h))
 item_keeps k i h keeps fits = after_kept k (read_of i) (step_of h) (up_comes i fits.0) (begun_keeps h keeps.0)
 
 -- ---- what a client puts in order has a footer at the end alone
 
-nothing_behind : (more : List ItemOut) → MayAll stream.Ended more → more ≡ []
-nothing_behind [] h = refl
-nothing_behind (i ∷ more) h = absurd h.0
+nothing_after : (more : List ItemOut) → MayAll stream.Ended more → more ≡ []
+nothing_after [] h = refl
+nothing_after (i ∷ more) h = absurd h.0
 
 record Ends (more : List ItemOut) : Type 0 where
   front : List ItemOut
@@ -82,7 +82,7 @@ ordered : (more : List ItemOut) → MayAll stream.Between more → Standing more
 ordered [] h = inl tt
 ordered (Opening x ∷ more) h = one_more (Opening x) more refl (ordered more h.1)
 ordered (Whole e ∷ more) h = one_more (Whole e) more refl (ordered more h.1)
-ordered (Closing ∷ more) h = inr (record { front = []; is = ap (λ l. Closing ∷ l) (nothing_behind more h.1); no_footer = tt })
+ordered (Closing ∷ more) h = inr (record { front = []; is = ap (λ l. Closing ∷ l) (nothing_after more h.1); no_footer = tt })
 
 ended_phase : (front : List ItemOut) (p : Phase) → phase_after p (front ++ Closing ∷ []) ≡ stream.Ended
 ended_phase [] p = refl
@@ -95,11 +95,11 @@ stands : (more : List ItemOut) → Standing more ⊎ Ends more → phase_after s
 stands more (inl h) is = h
 stands more (inr e) is = absurd (not_ended more e is)
 
-in_turn : (apart : Bool) (more : List ItemOut) → MayAll stream.Between more → (apart ≡ false → phase_after stream.Between more ≡ stream.Between) → IsInTurn apart more
-in_turn false more may between = inl (stands more (ordered more may) (between refl))
-in_turn true more may between = by (ordered more may)
+in_client_step : (apart : Bool) (more : List ItemOut) → MayAll stream.Between more → (apart ≡ false → phase_after stream.Between more ≡ stream.Between) → IsInClientStep apart more
+in_client_step false more may between = inl (stands more (ordered more may) (between refl))
+in_client_step true more may between = by (ordered more may)
   where
-    by : Standing more ⊎ Ends more → IsInTurn true more
+    by : Standing more ⊎ Ends more → IsInClientStep true more
     by (inl h) = inl h
     by (inr e) = inr (e.front, e.is, e.no_footer, refl)
 
@@ -110,44 +110,44 @@ no_footer false more silent between may = stands more (ordered more may) (betwee
 
 -- ---- turns of a client
 
-begun_within : (c : ClientView ItemOut) → ClientFits c → IsTurnWithin (silent_turn c)
+begun_within : (c : ClientView ItemOut) → ClientFits c → IsClientStepWithin (silent_client_step c)
 begun_within c h = record { client = h.within; put = tt }
 
-turn_puts : (t : Turn ItemOut ItemOut) → IsTurnWithin t → TurnIsMild t → AllByRecursion UpFits t.out.put
-turn_puts t h mild = both (OutFits server_limits) IsMild t.out.put h.put mild.put
+client_step_puts : (t : ClientStep ItemOut ItemOut) → IsClientStepWithin t → ClientStepIsRelayable t → AllByRecursion UpFits t.out.put
+client_step_puts t h relayable = both (OutFits server_limits) IsRelayable t.out.put h.put relayable.put
 
-turn_client : (t : Turn ItemOut ItemOut) → IsTurnWithin t → HasNoEnd t.client.session → TurnIsMild t → ClientFits t.client
-turn_client t h no_end mild = record { within = h.client; no_end = no_end; mild = mild.client }
+client_step_client : (t : ClientStep ItemOut ItemOut) → IsClientStepWithin t → HasNoEnd t.client.session → ClientStepIsRelayable t → ClientFits t.client
+client_step_client t h no_end relayable = record { within = h.client; no_end = no_end; relayable = relayable.client }
 
-submits_phase : (t : Turn ItemOut ItemOut) (o : Option (SessionView ItemOut)) (i : ItemOut) (said : Said) → (submits in_items t o i said).client.phase ≡ t.client.phase
+submits_phase : (t : ClientStep ItemOut ItemOut) (o : Option (SessionView ItemOut)) (i : ItemOut) (said : Said) → (submits in_items t o i said).client.phase ≡ t.client.phase
 submits_phase t None i said = refl
 submits_phase t (Some s) i said = refl
 
-says_phase : (t : Turn ItemOut ItemOut) (to text : List ℕ) (private : Bool) → (says in_items t to text private).client.phase ≡ t.client.phase
+says_phase : (t : ClientStep ItemOut ItemOut) (to text : List ℕ) (private : Bool) → (says in_items t to text private).client.phase ≡ t.client.phase
 says_phase t to text private = submits_phase t t.client.session (in_items.say (submission_of t.client to text private)) (said_of t.client.epoch t.client.n to text private)
 
-catches_phase_in : (t : Turn ItemOut ItemOut) (o : Option (SessionView ItemOut)) (most : ℕ) → (catches_up_in in_items t o most).client.phase ≡ t.client.phase
+catches_phase_in : (t : ClientStep ItemOut ItemOut) (o : Option (SessionView ItemOut)) (most : ℕ) → (catches_up_in in_items t o most).client.phase ≡ t.client.phase
 catches_phase_in t None most = refl
 catches_phase_in t (Some s) most = refl
 
 -- a turn that leaves the phase
-asked_fits : (c : ClientView ItemOut) (u : Turn ItemOut ItemOut) → IsTurnWithin u → PutsInOrder (silent_turn c) u → u.client.phase ≡ c.phase → TurnIsMild u → TurnFits UpFits ClientFits u
-asked_fits c u h order same mild = record {
-  client = turn_client u h order.queue mild;
-  puts = turn_puts u h mild;
+asked_fits : (c : ClientView ItemOut) (u : ClientStep ItemOut ItemOut) → IsClientStepWithin u → PutsInOrder (silent_client_step c) u → u.client.phase ≡ c.phase → ClientStepIsRelayable u → ClientStepFits UpFits ClientFits u
+asked_fits c u h order same relayable = record {
+  client = client_step_client u h order.queue relayable;
+  puts = client_step_puts u h relayable;
   no_footer = subst Standing (sym order.put) (no_footer (is_apart c.phase) order.more order.silent (λ e. order.stands (ap is_apart same ∙ e)) order.may);
 }
 
-heard_fits : (c : ClientView ItemOut) (u : Turn ItemOut ItemOut) → IsTurnWithin u → PutsInOrder (silent_turn c) u → TurnIsMild u → HeardFits UpFits ClientFits u
-heard_fits c u h order mild = record {
-  client = turn_client u h order.queue mild;
-  puts = turn_puts u h mild;
-  in_turn = subst (IsInTurn (is_apart u.client.phase)) (sym order.put) (in_turn (is_apart u.client.phase) order.more order.may order.stands);
+heard_fits : (c : ClientView ItemOut) (u : ClientStep ItemOut ItemOut) → IsClientStepWithin u → PutsInOrder (silent_client_step c) u → ClientStepIsRelayable u → HeardFits UpFits ClientFits u
+heard_fits c u h order relayable = record {
+  client = client_step_client u h order.queue relayable;
+  puts = client_step_puts u h relayable;
+  in_client_step = subst (IsInClientStep (is_apart u.client.phase)) (sym order.put) (in_client_step (is_apart u.client.phase) order.more order.may order.stands);
 }
 
 -- ---- both
 
-pub cores_keep : ServerAnswers → ClientIsMild → CoresKeep UpFits DownFits HallFits ClientFits
+pub cores_keep : ServerAnswers → ClientIsRelayable → CoresKeep UpFits DownFits ServerFits ClientFits
 cores_keep server client = record {
   up_limits = λ i h. h.0;
   down_limits = λ i h. h.0;
@@ -155,27 +155,27 @@ cores_keep server client = record {
   moment = λ now h keeps. (moment_kept now h keeps.0, moment_answers now h keeps.1);
   comes = λ k h keeps. (fresh_kept k (server_entropy k) h (drawn k) keeps.0, keeps.1);
   goes = λ k h keeps. (gone_kept k h keeps.0, gone_answers k h keeps.1);
-  handles = λ k i h keeps fits. ((item_keeps k i h keeps fits).hall, server.handles k i h keeps fits);
+  handles = λ k i h keeps fits. ((item_keeps k i h keeps fits).server_state, server.handles k i h keeps fits);
   puts = λ k i h keeps fits. outs_both (after_item itself k (read_of i) (step_of h)).outs (item_keeps k i h keeps fits).outs (server.answers k i h keeps fits);
   client = record {
     dials_so = λ k c h.
         let u = (dials in_items (client_entropy k) (fed_of c)).turn in
         let order = dials_ordered (fed_of c) (client_entropy k) h.no_end in
         let within = dials_within (fed_of c) (client_entropy k) (begun_within c h) in
-        let mild = client.dials_so k c h in
-        record { client = turn_client u within order.queue mild; puts = turn_puts u within mild; no_footer = subst Standing (sym order.put) (refl, tt) };
-    loses = λ c h. record { within = (leaves_within (fed_of c) (begun_within c h)).client; no_end = h.no_end; mild = record { name = h.mild.name; queue = h.mild.queue } };
+        let relayable = client.dials_so k c h in
+        record { client = client_step_client u within order.queue relayable; puts = client_step_puts u within relayable; no_footer = subst Standing (sym order.put) (refl, tt) };
+    loses = λ c h. record { within = (leaves_within (fed_of c) (begun_within c h)).client; no_end = h.no_end; relayable = record { name = h.relayable.name; queue = h.relayable.queue } };
     forgets_so = λ c h.
         let within = forgets_within (fed_of c) (begun_within c h) in
-        record { within = within.client; no_end = tt; mild = record { name = h.mild.name; queue = tt } };
+        record { within = within.client; no_end = tt; relayable = record { name = h.relayable.name; queue = tt } };
     hears = λ i c h fits.
-        heard_fits c (item_step in_items (silent_turn c) (read_of i)) (items_within (read_of i ∷ []) (silent_turn c) (fits.1, tt) (begun_within c h)) (items_ordered (read_of i ∷ []) (silent_turn c) h.no_end) (client.hears i c h fits);
+        heard_fits c (item_step in_items (silent_client_step c) (read_of i)) (items_within (read_of i ∷ []) (silent_client_step c) (fits.1, tt) (begun_within c h)) (items_ordered (read_of i ∷ []) (silent_client_step c) h.no_end) (client.hears i c h fits);
     says_so = λ name text private n c h named plain ok.
-        asked_fits c (says in_items (silent_turn c) (bare_address name) text private)
-        (says_within (silent_turn c) (bare_address name) text private (address_within name named) (text_within text plain) (begun_within c h))
-        (says_ordered (silent_turn c) (bare_address name) text private h.no_end) (says_phase (silent_turn c) (bare_address name) text private) (client.says_so (bare_address name) text private c h);
+        asked_fits c (says in_items (silent_client_step c) (bare_address name) text private)
+        (says_within (silent_client_step c) (bare_address name) text private (address_within name named) (text_within text plain) (begun_within c h))
+        (says_ordered (silent_client_step c) (bare_address name) text private h.no_end) (says_phase (silent_client_step c) (bare_address name) text private) (client.says_so (bare_address name) text private c h);
     catches_up_so = λ most c h some few ok.
-        asked_fits c (catches_up in_items (silent_turn c) most) (catches_up_within (silent_turn c) most (omega (arith, few)) (begun_within c h)) (catches_up_ordered (silent_turn c) most h.no_end)
-        (catches_phase_in (silent_turn c) c.session most) (client.catches_up_so most c h);
+        asked_fits c (catches_up in_items (silent_client_step c) most) (catches_up_within (silent_client_step c) most (omega (arith, few)) (begun_within c h)) (catches_up_ordered (silent_client_step c) most h.no_end)
+        (catches_phase_in (silent_client_step c) c.session most) (client.catches_up_so most c h);
   };
 }

@@ -5,10 +5,10 @@ pub mod WireSteps
 -- lists and numbers
 pub mod Lookups
 -- the client
-pub mod TurnsBehind
+pub mod TurnsAfter
 -- the server
-pub mod BehindOuts
-pub mod HallsTurned
+pub mod AfterOuts
+pub mod ServerStatesRendered
 pub mod Beginnings
 pub mod Emissions
 pub mod ItemsServed
@@ -34,8 +34,8 @@ pub mod Waiting
 pub mod Starts
 pub mod Keeping
 -- the client
-pub mod MildItems
-pub mod MildSteps
+pub mod RelayableItems
+pub mod RelayableSteps
 -- the server
 pub mod AnsweredItems
 pub mod AnsweredSteps
@@ -51,9 +51,9 @@ pub mod AnsweredTable
 pub mod ChangedLists
 -- moves of items, and the moves of bytes that they are
 pub mod MoveSteps
-pub mod MoveRuns
+pub mod MoveSimulates
 -- worlds that are images, and the start
-pub mod FittingImages
+pub mod FittingEncodings
 -- numbers
 pub mod Counted
 pub mod RuleKept
@@ -94,5 +94,5 @@ pub mod BookedReports
 pub mod Histories
 -- ---- submissions
 pub mod SubmittedArchives
-pub mod Turns
+pub mod ClientSteps
 pub mod Trails

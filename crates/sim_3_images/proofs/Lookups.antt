@@ -12,7 +12,7 @@ use Rattle.std.specs.Ordering.{is_eq, match_ordering, nat_cmp}
 use Rattle.std.specs.declared.cmp.Ordering.{Ordering}
 use Rattle.std.specs.declared.cmp.Ordering.TheVariants.{Equal, Greater, Less}
 use Rattle.srv_state.specs.State.{is_number}
-use Rattle.cmd_network.specs.Places.{changed_at}
+use Rattle.cmd_network.specs.Positions.{changed_at}
 
 -- ---- places
 
@@ -75,17 +75,17 @@ other_number j k other = by (is_number j k) refl
     by true e = absurd (other (number_is j k e))
     by false e = e
 
-pub found_behind_removal : {X : Type 0} (j k : ℕ) (es : List (ℕ × X)) → j ≢ k → lookup (is_number j) (remove_entry (is_number k) es) ≡ lookup (is_number j) es
-found_behind_removal j k [] other = refl
-found_behind_removal j k (e ∷ es) other = by (found_behind_removal j k es other) (is_number k e.0) refl
+pub found_after_removal : {X : Type 0} (j k : ℕ) (es : List (ℕ × X)) → j ≢ k → lookup (is_number j) (remove_entry (is_number k) es) ≡ lookup (is_number j) es
+found_after_removal j k [] other = refl
+found_after_removal j k (e ∷ es) other = by (found_after_removal j k es other) (is_number k e.0) refl
   where
     by : lookup (is_number j) (remove_entry (is_number k) es) ≡ lookup (is_number j) es → (b : Bool) → is_number k e.0 ≡ b → lookup (is_number j) (cond b es (e ∷ remove_entry (is_number k) es)) ≡ cond (is_number j e.0) (Some e.1) (lookup (is_number j) es)
     by rest true here = sym (ap (λ c. cond c (Some e.1) (lookup (is_number j) es)) (subst (λ n. is_number j n ≡ false) (number_is k e.0 here) (other_number j k other)))
     by rest false there = ap (cond (is_number j e.0) (Some e.1)) rest
 
-pub found_behind_other_value : {X : Type 0} (j k : ℕ) (es : List (ℕ × X)) (x : X) → j ≢ k → lookup (is_number j) (set_value (is_number k) es x) ≡ lookup (is_number j) es
-found_behind_other_value j k [] x other = refl
-found_behind_other_value j k (e ∷ es) x other = by (found_behind_other_value j k es x other) (is_number k e.0) refl
+pub found_after_other_value : {X : Type 0} (j k : ℕ) (es : List (ℕ × X)) (x : X) → j ≢ k → lookup (is_number j) (set_value (is_number k) es x) ≡ lookup (is_number j) es
+found_after_other_value j k [] x other = refl
+found_after_other_value j k (e ∷ es) x other = by (found_after_other_value j k es x other) (is_number k e.0) refl
   where
     by : lookup (is_number j) (set_value (is_number k) es x) ≡ lookup (is_number j) es → (b : Bool) → is_number k e.0 ≡ b → lookup (is_number j) (cond b ((e.0, x) ∷ es) (e ∷ set_value (is_number k) es x)) ≡ cond (is_number j e.0) (Some e.1) (lookup (is_number j) es)
     by rest true here =
@@ -93,9 +93,9 @@ found_behind_other_value j k (e ∷ es) x other = by (found_behind_other_value j
         ap (λ c. cond c (Some x) (lookup (is_number j) es)) no ∙ sym (ap (λ c. cond c (Some e.1) (lookup (is_number j) es)) no)
     by rest false there = ap (cond (is_number j e.0) (Some e.1)) rest
 
-pub found_behind_value : {X : Type 0} (k : ℕ) (es : List (ℕ × X)) (old x : X) → lookup (is_number k) es ≡ Some old → lookup (is_number k) (set_value (is_number k) es x) ≡ Some x
-found_behind_value k [] old x found = absurd (none-some old found)
-found_behind_value k (e ∷ es) old x found = by (found_behind_value k es old x) (is_number k e.0) refl
+pub found_after_value : {X : Type 0} (k : ℕ) (es : List (ℕ × X)) (old x : X) → lookup (is_number k) es ≡ Some old → lookup (is_number k) (set_value (is_number k) es x) ≡ Some x
+found_after_value k [] old x found = absurd (none-some old found)
+found_after_value k (e ∷ es) old x found = by (found_after_value k es old x) (is_number k e.0) refl
   where
     by : (lookup (is_number k) es ≡ Some old → lookup (is_number k) (set_value (is_number k) es x) ≡ Some x) → (b : Bool) → is_number k e.0 ≡ b → lookup (is_number k) (cond b ((e.0, x) ∷ es) (e ∷ set_value (is_number k) es x)) ≡ Some x
     by rest true here = ap (λ c. cond c (Some x) (lookup (is_number k) es)) here

@@ -2,7 +2,7 @@
 use Rattle.std.proofs.Common.{◌≡◌, ◌≢◌, ℕ, ◌+◌, ◌≤◌, ◌==◌, Bool, true, false, not, cond, max, List, Option, Some, None, is_none, refl, sym, ap, subst, arith}
 use Rattle.std.proofs.lemmas.Bool.{ne_eqb}
 use Rattle.srv_state.specs.Moments.{at_moment, fresh_conn, gone_at, with_fresh}
-use Rattle.srv_state.specs.State.{Hall, with_sessions, without_conn}
+use Rattle.srv_state.specs.State.{ServerState, with_sessions, without_conn}
 use Rattle.sm_live.specs.Sessions.{Session, is_at, is_expired, lost, parked, session_at, session_of, with_session, without}
 use Rattle.sim_3_images.proofs.Counted.{inserted_ascend, inserted_pass}
 use Rattle.sim_3_images.proofs.Falls.{Falls, bound_is, counts, ended_falls, every_one, gone_conn_falls, moved_falls, off, parked_go_falls, sessions_fall, then_falls}
@@ -16,7 +16,7 @@ module _ {A : Type 0} where
   attached_stays : (now : ℕ) (s : Session A) (j : ℕ) → s.shown.conn ≡ Some j → not (is_expired now s) ≡ true
   attached_stays now s j on = (let some : is_none s.shown.conn ≡ false = ap is_none on in rw some refl)
 
-  pub moment_falls : (now : ℕ) (h : Hall A) → IsOrdered h → Falls every_one every_one h (at_moment now h)
+  pub moment_falls : (now : ℕ) (h : ServerState A) → IsOrdered h → Falls every_one every_one h (at_moment now h)
   moment_falls now h is =
       let fell = parked_go_falls every_one (λ s. not (is_expired (max h.moment now) s)) h (attached_stays (max h.moment now)) is in
       record { keeps = record { sessions = fell.keeps.sessions; conns = fell.keeps.conns }; less = fell.less }
@@ -28,7 +28,7 @@ module _ {A : Type 0} where
   Off k s = (j : ℕ) → off (Some k) j ≡ true → (every_one j ≡ true) × (off s.shown.conn j ≡ true)
 
   -- the session is parked, or ends
-  lost_falls : (k : ℕ) (h : Hall A) → IsOrdered h → (o : Option (Session A)) → session_at k h.sessions ≡ o → Falls every_one (off (Some k)) h (with_sessions (lost h.moment o h.sessions) h)
+  lost_falls : (k : ℕ) (h : ServerState A) → IsOrdered h → (o : Option (Session A)) → session_at k h.sessions ≡ o → Falls every_one (off (Some k)) h (with_sessions (lost h.moment o h.sessions) h)
   lost_falls k h is None at_k = sessions_fall every_one (off (Some k)) h.sessions h is is.sessions (λ j yes'. refl) (λ j s yes' there. bound_is j h.sessions s there)
   lost_falls k h is (Some s) at_k = by s.shown.resumable
     where
@@ -44,15 +44,15 @@ module _ {A : Type 0} where
       by false = ended_falls every_one (off (Some k)) s.shown.number h s here apart is
 
   -- and its connection is no more
-  pub gone_falls : (k : ℕ) (h : Hall A) → IsOrdered h → Falls every_one every_one h (gone_at k h)
+  pub gone_falls : (k : ℕ) (h : ServerState A) → IsOrdered h → Falls every_one every_one h (gone_at k h)
   gone_falls k h is =
       let g = with_sessions (lost h.moment (session_at k h.sessions) h.sessions) h in
       then_falls every_one (off (Some k)) every_one h g (without_conn k g) (lost_falls k h is (session_at k h.sessions) refl)
       (λ ordered. gone_conn_falls k (off (Some k)) every_one g (λ j apart yes'. other_is k j apart) ordered)
 
   -- a connection comes
-  pub fresh_ordered : (k : ℕ) (entropy : List ℕ) (h : Hall A) → IsOrdered h → IsOrdered (with_fresh k entropy h)
+  pub fresh_ordered : (k : ℕ) (entropy : List ℕ) (h : ServerState A) → IsOrdered h → IsOrdered (with_fresh k entropy h)
   fresh_ordered k entropy h is = record { sessions = is.sessions; conns = inserted_ascend k (fresh_conn entropy) h.conns is.conns }
 
-  pub fresh_rises : (k : ℕ) (entropy : List ℕ) (h : Hall A) → (with_fresh k entropy h).next + unbound (with_fresh k entropy h) ≤ h.next + unbound h + 1
+  pub fresh_rises : (k : ℕ) (entropy : List ℕ) (h : ServerState A) → (with_fresh k entropy h).next + unbound (with_fresh k entropy h) ≤ h.next + unbound h + 1
   fresh_rises k entropy h = let more = inserted_pass (counts every_one h.sessions) k (fresh_conn entropy) h.conns in omega (arith, more)

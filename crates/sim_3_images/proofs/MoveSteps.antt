@@ -6,27 +6,27 @@ use Rattle.cl_core.specs.UserCalls.{catch_up_answer, catches_up, closes, dials, 
 use Rattle.cl_core.specs.declared.faults.CatchUpStart.{CatchUpStart}
 use Rattle.cl_core.specs.declared.faults.SayFault.{SayFault}
 use Rattle.law_limits.proofs.TurnsKept.{All-drop}
-use Rattle.cl_handlers.specs.Clients.{ClientView, Turn}
+use Rattle.cl_handlers.specs.Clients.{ClientStep, ClientView}
 use Rattle.cl_handlers.specs.Speech.{in_items, uttered}
-use Rattle.cl_handlers.specs.Turns.{drops, is_apart, puts}
-use Rattle.cl_handlers.specs.Turns as turns
+use Rattle.cl_handlers.specs.ClientSteps.{drops, is_apart, puts}
+use Rattle.cl_handlers.specs.ClientSteps as turns
 use Rattle.srv_state.specs.Moments.{at_moment, gone_at}
-use Rattle.srv_state.specs.State.{Hall, Out, Put, Shut, Took}
+use Rattle.srv_state.specs.State.{Out, Put, ServerState, Shut, Took}
 use Rattle.law_xml.proofs.PlainElements.{append_each}
 use Rattle.sim_3_images.proofs.DialMoves.{close_client}
 use Rattle.sim_3_images.proofs.WireSteps.{all_entered, all_taken}
-use Rattle.sim_3_images.specs.ImagesOwed.{CoresKeep}
+use Rattle.sim_3_images.specs.EncodingsOwed.{CoresKeep}
 use Rattle.sim_3_images.specs.Stands.{OutPuts}
 use Rattle.sim_3_images.proofs.ChangedLists.{all_at, all_changed, all_set, all_where}
 use Rattle.sim_3_images.specs.Fitting.{MayItem, TakesAny, WireFits, WorldFits}
 use Rattle.sim_3_items.specs.ItemMoves.{CatchUp, Close, Cut, Dial, Down, DownEnd, Forget, ItemMove, Say, Tick, Up, UpEnd}
-use Rattle.sim_3_items.specs.ItemMoves.{all_emitted, all_moved, at_device, at_wire, caught_up_by, closed_by, dialed_by, emitted, end_heard, fed_of, forgot_by, has_wire, heard_first, left_where, moved, said_by, said_in, served_by, served_first, spoke, step_of, told_up}
-use Rattle.sim_3_items.specs.ItemPipes.{ItemWire, cut_at, down_end_told, fresh_wire, handed_down, handed_up, is_end_due, left, put_down, put_up, shut, up_end_told}
-use Rattle.sim_3_items.specs.ItemWorlds.{ItemDevice, ItemWorld, itself, read_of, silent_turn}
+use Rattle.sim_3_items.specs.ItemMoves.{all_emitted, all_moved, at_device, at_wire, caught_up_by, closed_by, dialed_by, emitted, end_heard, fed_of, forgot_by, has_wire, heard_first, left_where, moved, reported_up, said_by, said_in, served_by, served_first, spoke, step_of}
+use Rattle.sim_3_items.specs.ItemPipes.{ItemWire, cut_at, down_end_reported, fresh_wire, handed_down, handed_up, is_end_due, left, put_down, put_up, shut, up_end_reported}
+use Rattle.sim_3_items.specs.ItemWorlds.{ItemDevice, ItemWorld, itself, read_of, silent_client_step}
 use Rattle.cmd_report.specs.Addresses.{bare_address}
 use Rattle.cmd_schedule.specs.Grammar.{is_name, is_text}
 use Rattle.srv_core.specs.Table.{after_item}
-use Rattle.cmd_network.specs.Places.{changed_at, changed_where, place_under}
+use Rattle.cmd_network.specs.Positions.{changed_at, changed_where, position_under}
 use Rattle.cmd_world.specs.Worlds.{client_entropy, server_entropy}
 use Rattle.xml_writer.specs.Items.{Closing, ItemOut}
 
@@ -36,7 +36,7 @@ use Rattle.xml_writer.specs.Items.{Closing, ItemOut}
 close_puts : (P : ItemOut → Type 0) (c : ClientView ItemOut) → P Closing → AllByRecursion P (closes in_items (fed_of c)).turn.out.put
 close_puts P c fits = by (is_apart c.phase)
   where
-    by : (b : Bool) → AllByRecursion P (drops in_items (turns.left (cond b (silent_turn c) (puts (silent_turn c) (uttered in_items Closing))))).out.put
+    by : (b : Bool) → AllByRecursion P (drops in_items (turns.left (cond b (silent_client_step c) (puts (silent_client_step c) (uttered in_items Closing))))).out.put
     by true = tt
     by false = (fits, tt)
 
@@ -70,10 +70,10 @@ module _ (UpFits DownFits : ItemOut → Type 0) where
   handed_down_fits : (wire : ItemWire) → Both wire → Both (handed_down wire)
   handed_down_fits wire fits = record { up = fits.up; down = All-drop DownFits 1 wire.down.items fits.down }
 
-  up_told_fits : (wire : ItemWire) → Both wire → Both (up_end_told wire)
+  up_told_fits : (wire : ItemWire) → Both wire → Both (up_end_reported wire)
   up_told_fits wire fits = record { up = fits.up; down = fits.down }
 
-  down_told_fits : (wire : ItemWire) → Both wire → Both (down_end_told wire)
+  down_told_fits : (wire : ItemWire) → Both wire → Both (down_end_reported wire)
   down_told_fits wire fits = record { up = fits.up; down = fits.down }
 
   left_where_fits : (is_left : Bool) (wire : ItemWire) → Both wire → Both (left_where is_left wire)
@@ -82,8 +82,8 @@ module _ (UpFits DownFits : ItemOut → Type 0) where
 
   -- what the server puts out
   emitted_fits : (out : Out ItemOut) (wires : List ItemWire) → OutPuts DownFits out → AllByRecursion Both wires → AllByRecursion Both (emitted out wires)
-  emitted_fits (Put k i) wires fits all = all_where Both (put_down (i ∷ [])) (put_down_fits (i ∷ []) (fits, tt)) (place_under k) wires all
-  emitted_fits (Shut k) wires fits all = all_where Both shut shut_fits (place_under k) wires all
+  emitted_fits (Put k i) wires fits all = all_where Both (put_down (i ∷ [])) (put_down_fits (i ∷ []) (fits, tt)) (position_under k) wires all
+  emitted_fits (Shut k) wires fits all = all_where Both shut shut_fits (position_under k) wires all
   emitted_fits (Took from to origin) wires fits all = all
 
   all_emitted_fits : (outs : List (Out ItemOut)) (wires : List ItemWire) → AllByRecursion (OutPuts DownFits) outs → AllByRecursion Both wires → AllByRecursion Both (all_emitted outs wires)
@@ -92,9 +92,9 @@ module _ (UpFits DownFits : ItemOut → Type 0) where
 
 -- ---- moves
 
-module _ (UpFits DownFits : ItemOut → Type 0) (HallKeeps : Hall ItemOut → Type 0) (ClientFits : ClientView ItemOut → Type 0) (keep : CoresKeep UpFits DownFits HallKeeps ClientFits) where
+module _ (UpFits DownFits : ItemOut → Type 0) (ServerKeeps : ServerState ItemOut → Type 0) (ClientFits : ClientView ItemOut → Type 0) (keep : CoresKeep UpFits DownFits ServerKeeps ClientFits) where
   abbrev Fits : ItemWorld → Type 0
-  Fits w = WorldFits UpFits DownFits HallKeeps ClientFits w
+  Fits w = WorldFits UpFits DownFits ServerKeeps ClientFits w
 
   abbrev OfWire : ItemWire → Type 0
   OfWire wire = WireFits UpFits DownFits wire
@@ -103,18 +103,18 @@ module _ (UpFits DownFits : ItemOut → Type 0) (HallKeeps : Hall ItemOut → Ty
   OfDevice d = ClientFits d.client
 
   -- of the device at a place
-  device_at : (w : ItemWorld) (place : ℕ) → Fits w → IfSome (slice_get w.devices place) OfDevice
-  device_at w place fits = all_at OfDevice w.devices place fits.clients
+  device_at : (w : ItemWorld) (position : ℕ) → Fits w → IfSome (slice_get w.devices position) OfDevice
+  device_at w position fits = all_at OfDevice w.devices position fits.clients
 
   -- ---- the user of a device
 
-  dial_fits : TakesAny HallKeeps → (device k : ℕ) (w : ItemWorld) (o : Option ItemDevice) → Fits w → IfSome o OfDevice → Fits (dialed_by device (client_entropy k) (server_entropy k) o w)
+  dial_fits : TakesAny ServerKeeps → (device k : ℕ) (w : ItemWorld) (o : Option ItemDevice) → Fits w → IfSome o OfDevice → Fits (dialed_by device (client_entropy k) (server_entropy k) o w)
   dial_fits any device k w None fits here = fits
   dial_fits any device k w (Some d) fits here =
       let t = (dials in_items (client_entropy k) (fed_of d.client)).turn in
       let done = keep.client.dials_so k d.client here in
       record {
-        hall = any (length w.wires + 1) k (at_moment w.moment w.server) (keep.moment w.moment w.server fits.hall);
+        server_state = any (length w.wires + 1) k (at_moment w.moment w.server) (keep.moment w.moment w.server fits.server_state);
         clients = all_set OfDevice w.devices device (record { client = t.client; here = Some (length w.wires) }) done.client fits.clients;
         wires = append_each OfWire (changed_where d.here left w.wires) (put_up t.out.put (fresh_wire device) ∷ [])
             (all_where OfWire left (left_fits UpFits DownFits) d.here w.wires fits.wires) (put_up_fits UpFits DownFits t.out.put done.puts (fresh_wire device) (fresh_fits UpFits DownFits device), tt);
@@ -123,7 +123,7 @@ module _ (UpFits DownFits : ItemOut → Type 0) (HallKeeps : Hall ItemOut → Ty
   forget_fits : (device : ℕ) (w : ItemWorld) (o : Option ItemDevice) → Fits w → IfSome o OfDevice → Fits (forgot_by device o w)
   forget_fits device w None fits here = fits
   forget_fits device w (Some d) fits here = record {
-    hall = fits.hall;
+    server_state = fits.server_state;
     clients = all_set OfDevice w.devices device (record { client = (forgets in_items (fed_of d.client)).turn.client; here = None }) (keep.client.forgets_so d.client here) fits.clients;
     wires = all_where OfWire left (left_fits UpFits DownFits) d.here w.wires fits.wires;
   }
@@ -133,15 +133,15 @@ module _ (UpFits DownFits : ItemOut → Type 0) (HallKeeps : Hall ItemOut → Ty
   close_fits device w (Some d) fits here =
       let t = (closes in_items (fed_of d.client)).turn in
       record {
-        hall = fits.hall;
+        server_state = fits.server_state;
         clients = all_set OfDevice w.devices device (record { client = t.client; here = None }) (subst ClientFits (sym (close_client d.client)) (keep.client.forgets_so d.client here)) fits.clients;
         wires = all_where OfWire left (left_fits UpFits DownFits) d.here (changed_where d.here (put_up t.out.put) w.wires)
             (all_where OfWire (put_up t.out.put) (put_up_fits UpFits DownFits t.out.put (close_puts UpFits d.client keep.footer)) d.here w.wires fits.wires);
       }
 
-  spoke_fits : (device : ℕ) (w : ItemWorld) (d : ItemDevice) (t : Turn ItemOut ItemOut) → Fits w → ClientFits t.client → AllByRecursion UpFits t.out.put → Fits (spoke device d t w)
+  spoke_fits : (device : ℕ) (w : ItemWorld) (d : ItemDevice) (t : ClientStep ItemOut ItemOut) → Fits w → ClientFits t.client → AllByRecursion UpFits t.out.put → Fits (spoke device d t w)
   spoke_fits device w d t fits client puts = record {
-    hall = fits.hall;
+    server_state = fits.server_state;
     clients = all_set OfDevice w.devices device (record d { client = t.client }) client fits.clients;
     wires = all_where OfWire (put_up t.out.put) (put_up_fits UpFits DownFits t.out.put puts) d.here w.wires fits.wires;
   }
@@ -150,92 +150,92 @@ module _ (UpFits DownFits : ItemOut → Type 0) (HallKeeps : Hall ItemOut → Ty
   say_fits device name text private w None named plain fits here = fits
   say_fits device name text private w (Some d) named plain fits here = by (say_answer d.client text) refl
     where
-      by : (a : Result ℕ SayFault) → say_answer d.client text ≡ a → Fits (said_in a device d (says in_items (silent_turn d.client) (bare_address name) text private) w)
+      by : (a : Result ℕ SayFault) → say_answer d.client text ≡ a → Fits (said_in a device d (says in_items (silent_client_step d.client) (bare_address name) text private) w)
       by (Ok n) ok =
           let done = keep.client.says_so name text private n d.client here named plain ok in
-          spoke_fits device w d (says in_items (silent_turn d.client) (bare_address name) text private) fits done.client done.puts
+          spoke_fits device w d (says in_items (silent_client_step d.client) (bare_address name) text private) fits done.client done.puts
       by (Err fault) refused = fits
 
   catch_up_fits : (device most : ℕ) (w : ItemWorld) (o : Option ItemDevice) → 1 ≤ most → most ≤ 100 → Fits w → IfSome o OfDevice → Fits (caught_up_by device most o w)
   catch_up_fits device most w None some few fits here = fits
   catch_up_fits device most w (Some d) some few fits here = by (catch_up_answer d.client) refl
     where
-      by : (a : Result (Unit {0}) CatchUpStart) → catch_up_answer d.client ≡ a → Fits (said_in a device d (catches_up in_items (silent_turn d.client) most) w)
+      by : (a : Result (Unit {0}) CatchUpStart) → catch_up_answer d.client ≡ a → Fits (said_in a device d (catches_up in_items (silent_client_step d.client) most) w)
       by (Ok tt) ok =
           let done = keep.client.catches_up_so most d.client here some few ok in
-          spoke_fits device w d (catches_up in_items (silent_turn d.client) most) fits done.client done.puts
+          spoke_fits device w d (catches_up in_items (silent_client_step d.client) most) fits done.client done.puts
       by (Err fault) refused = fits
 
   -- ---- to the server
 
-  first_fits : (place : ℕ) (items : List ItemOut) (w : ItemWorld) → AllByRecursion UpFits items → Fits w → Fits (served_first place items w)
-  first_fits place [] w come fits = fits
-  first_fits place (i ∷ items) w come fits =
-      let done = after_item itself (place + 1) (read_of i) (step_of w.server) in
+  first_fits : (position : ℕ) (items : List ItemOut) (w : ItemWorld) → AllByRecursion UpFits items → Fits w → Fits (served_first position items w)
+  first_fits position [] w come fits = fits
+  first_fits position (i ∷ items) w come fits =
+      let done = after_item itself (position + 1) (read_of i) (step_of w.server) in
       record {
-        hall = keep.handles (place + 1) i w.server fits.hall come.0;
+        server_state = keep.handles (position + 1) i w.server fits.server_state come.0;
         clients = fits.clients;
-        wires = all_emitted_fits UpFits DownFits done.outs _ (keep.puts (place + 1) i w.server fits.hall come.0) (all_changed OfWire handed_up (handed_up_fits UpFits DownFits) place w.wires fits.wires);
+        wires = all_emitted_fits UpFits DownFits done.outs _ (keep.puts (position + 1) i w.server fits.server_state come.0) (all_changed OfWire handed_up (handed_up_fits UpFits DownFits) position w.wires fits.wires);
       }
 
-  up_fits : (place : ℕ) (w : ItemWorld) (o : Option ItemWire) → Fits w → IfSome o OfWire → Fits (served_by place o w)
-  up_fits place w None fits here = fits
-  up_fits place w (Some wire) fits here = first_fits place wire.up.items w here.up fits
+  up_fits : (position : ℕ) (w : ItemWorld) (o : Option ItemWire) → Fits w → IfSome o OfWire → Fits (served_by position o w)
+  up_fits position w None fits here = fits
+  up_fits position w (Some wire) fits here = first_fits position wire.up.items w here.up fits
 
-  up_end_fits : (place : ℕ) (w : ItemWorld) (o : Option ItemWire) → Fits w → Fits (told_up place o w)
-  up_end_fits place w None fits = fits
-  up_end_fits place w (Some wire) fits = by (is_end_due wire.up)
+  up_end_fits : (position : ℕ) (w : ItemWorld) (o : Option ItemWire) → Fits w → Fits (reported_up position o w)
+  up_end_fits position w None fits = fits
+  up_end_fits position w (Some wire) fits = by (is_end_due wire.up)
     where
       told : ItemWorld
-      told = record w { server = gone_at (place + 1) (at_moment w.moment w.server); wires = changed_at place up_end_told w.wires }
+      told = record w { server = gone_at (position + 1) (at_moment w.moment w.server); wires = changed_at position up_end_reported w.wires }
 
       by : (due : Bool) → Fits (cond due told w)
       by true = record {
-        hall = keep.goes (place + 1) (at_moment w.moment w.server) (keep.moment w.moment w.server fits.hall);
+        server_state = keep.goes (position + 1) (at_moment w.moment w.server) (keep.moment w.moment w.server fits.server_state);
         clients = fits.clients;
-        wires = all_changed OfWire up_end_told (up_told_fits UpFits DownFits) place w.wires fits.wires;
+        wires = all_changed OfWire up_end_reported (up_told_fits UpFits DownFits) position w.wires fits.wires;
       }
       by false = fits
 
   -- ---- to the device
 
-  heard_fits : (place device : ℕ) (items : List ItemOut) (d : ItemDevice) (w : ItemWorld) → AllByRecursion DownFits items → ClientFits d.client → Fits w → Fits (heard_first place device items d w)
-  heard_fits place device [] d w come here fits = fits
-  heard_fits place device (i ∷ items) d w come here fits =
-      let t = item_step in_items (silent_turn d.client) (read_of i) in
+  heard_fits : (position device : ℕ) (items : List ItemOut) (d : ItemDevice) (w : ItemWorld) → AllByRecursion DownFits items → ClientFits d.client → Fits w → Fits (heard_first position device items d w)
+  heard_fits position device [] d w come here fits = fits
+  heard_fits position device (i ∷ items) d w come here fits =
+      let t = item_step in_items (silent_client_step d.client) (read_of i) in
       let done = keep.client.hears i d.client here come.0 in
       record {
-        hall = fits.hall;
+        server_state = fits.server_state;
         clients = all_set OfDevice w.devices device _ done.client fits.clients;
         wires = all_changed OfWire (λ wire. left_where (is_apart t.client.phase) (put_up t.out.put (handed_down wire)))
             (λ wire one. left_where_fits UpFits DownFits (is_apart t.client.phase) (put_up t.out.put (handed_down wire))
-            (put_up_fits UpFits DownFits t.out.put done.puts (handed_down wire) (handed_down_fits UpFits DownFits wire one))) place w.wires fits.wires;
+            (put_up_fits UpFits DownFits t.out.put done.puts (handed_down wire) (handed_down_fits UpFits DownFits wire one))) position w.wires fits.wires;
       }
 
-  down_end_fits : (place device : ℕ) (due : Bool) (d : ItemDevice) (w : ItemWorld) → ClientFits d.client → Fits w → Fits (end_heard place device due d w)
-  down_end_fits place device false d w here fits = fits
-  down_end_fits place device true d w here fits = record {
-    hall = fits.hall;
+  down_end_fits : (position device : ℕ) (due : Bool) (d : ItemDevice) (w : ItemWorld) → ClientFits d.client → Fits w → Fits (end_heard position device due d w)
+  down_end_fits position device false d w here fits = fits
+  down_end_fits position device true d w here fits = record {
+    server_state = fits.server_state;
     clients = all_set OfDevice w.devices device (record d { client = (leaves (fed_of d.client)).turn.client }) (keep.client.loses d.client here) fits.clients;
-    wires = all_changed OfWire down_end_told (down_told_fits UpFits DownFits) place w.wires fits.wires;
+    wires = all_changed OfWire down_end_reported (down_told_fits UpFits DownFits) position w.wires fits.wires;
   }
 
   -- what is handed to a device fits, where it fits for each connection and each device
-  at_device_fits : (place : ℕ) (f : ItemWire → ItemDevice → ItemWorld → ItemWorld) (w : ItemWorld) (wire : ItemWire) (o : Option ItemDevice) → ((d : ItemDevice) → OfDevice d → Fits (f wire d w)) → Fits w → IfSome o OfDevice → Fits (at_device place f wire o w)
-  at_device_fits place f w wire None does fits here = fits
-  at_device_fits place f w wire (Some d) does fits here = by (has_wire place d.here)
+  at_device_fits : (position : ℕ) (f : ItemWire → ItemDevice → ItemWorld → ItemWorld) (w : ItemWorld) (wire : ItemWire) (o : Option ItemDevice) → ((d : ItemDevice) → OfDevice d → Fits (f wire d w)) → Fits w → IfSome o OfDevice → Fits (at_device position f wire o w)
+  at_device_fits position f w wire None does fits here = fits
+  at_device_fits position f w wire (Some d) does fits here = by (has_wire position d.here)
     where
       by : (b : Bool) → Fits (cond b (f wire d w) w)
       by true = does d here
       by false = fits
 
-  at_wire_fits : (place : ℕ) (f : ItemWire → ItemDevice → ItemWorld → ItemWorld) (w : ItemWorld) (o : Option ItemWire) → ((wire : ItemWire) → OfWire wire → (d : ItemDevice) → OfDevice d → Fits (f wire d w)) → Fits w → IfSome o OfWire → Fits (at_wire place f o w)
-  at_wire_fits place f w None does fits here = fits
-  at_wire_fits place f w (Some wire) does fits here = at_device_fits place f w wire (slice_get w.devices wire.device) (does wire here) fits (device_at w wire.device fits)
+  at_wire_fits : (position : ℕ) (f : ItemWire → ItemDevice → ItemWorld → ItemWorld) (w : ItemWorld) (o : Option ItemWire) → ((wire : ItemWire) → OfWire wire → (d : ItemDevice) → OfDevice d → Fits (f wire d w)) → Fits w → IfSome o OfWire → Fits (at_wire position f o w)
+  at_wire_fits position f w None does fits here = fits
+  at_wire_fits position f w (Some wire) does fits here = at_device_fits position f w wire (slice_get w.devices wire.device) (does wire here) fits (device_at w wire.device fits)
 
   -- ---- a move
 
-  pub move_fits : TakesAny HallKeeps → (m : ItemMove) (w : ItemWorld) → Fits w → MayItem m → Fits (moved m w)
+  pub move_fits : TakesAny ServerKeeps → (m : ItemMove) (w : ItemWorld) → Fits w → MayItem m → Fits (moved m w)
   move_fits any (Dial device mine yours) w fits may =
       subst (λ l. Fits (dialed_by device l yours (slice_get w.devices device) w)) (sym may.1)
       (subst (λ l. Fits (dialed_by device (client_entropy may.0) l (slice_get w.devices device) w)) (sym may.2) (dial_fits any device may.0 w (slice_get w.devices device) fits (device_at w device fits)))
@@ -245,15 +245,15 @@ module _ (UpFits DownFits : ItemOut → Type 0) (HallKeeps : Hall ItemOut → Ty
       subst (λ a. Fits (said_by device a text private (slice_get w.devices device) w)) (sym may.1)
       (say_fits device may.0 text private w (slice_get w.devices device) may.2 may.3 fits (device_at w device fits))
   move_fits any (CatchUp device most) w fits may = catch_up_fits device most w (slice_get w.devices device) may.0 may.1 fits (device_at w device fits)
-  move_fits any (Tick milliseconds) w fits may = record { hall = keep.moment (w.moment + milliseconds) w.server fits.hall; clients = fits.clients; wires = fits.wires }
-  move_fits any (Up place) w fits may = up_fits place w (slice_get w.wires place) fits (all_at OfWire w.wires place fits.wires)
-  move_fits any (UpEnd place) w fits may = up_end_fits place w (slice_get w.wires place) fits
-  move_fits any (Down place) w fits may =
-      at_wire_fits place (λ wire d. heard_first place wire.device wire.down.items d) w (slice_get w.wires place) (λ wire one d here. heard_fits place wire.device wire.down.items d w one.down here fits) fits (all_at OfWire w.wires place fits.wires)
-  move_fits any (DownEnd place) w fits may =
-      at_wire_fits place (λ wire d. end_heard place wire.device (is_end_due wire.down) d) w (slice_get w.wires place) (λ wire one d here. down_end_fits place wire.device (is_end_due wire.down) d w here fits) fits (all_at OfWire w.wires place fits.wires)
-  move_fits any (Cut place up down) w fits may = record { hall = fits.hall; clients = fits.clients; wires = all_changed OfWire (cut_at up down) (cut_fits UpFits DownFits up down) place w.wires fits.wires }
+  move_fits any (Tick milliseconds) w fits may = record { server_state = keep.moment (w.moment + milliseconds) w.server fits.server_state; clients = fits.clients; wires = fits.wires }
+  move_fits any (Up position) w fits may = up_fits position w (slice_get w.wires position) fits (all_at OfWire w.wires position fits.wires)
+  move_fits any (UpEnd position) w fits may = up_end_fits position w (slice_get w.wires position) fits
+  move_fits any (Down position) w fits may =
+      at_wire_fits position (λ wire d. heard_first position wire.device wire.down.items d) w (slice_get w.wires position) (λ wire one d here. heard_fits position wire.device wire.down.items d w one.down here fits) fits (all_at OfWire w.wires position fits.wires)
+  move_fits any (DownEnd position) w fits may =
+      at_wire_fits position (λ wire d. end_heard position wire.device (is_end_due wire.down) d) w (slice_get w.wires position) (λ wire one d here. down_end_fits position wire.device (is_end_due wire.down) d w here fits) fits (all_at OfWire w.wires position fits.wires)
+  move_fits any (Cut position up down) w fits may = record { server_state = fits.server_state; clients = fits.clients; wires = all_changed OfWire (cut_at up down) (cut_fits UpFits DownFits up down) position w.wires fits.wires }
 
-  pub moves_fit : TakesAny HallKeeps → (ms : List ItemMove) (w : ItemWorld) → Fits w → AllByRecursion MayItem ms → Fits (all_moved ms w)
+  pub moves_fit : TakesAny ServerKeeps → (ms : List ItemMove) (w : ItemWorld) → Fits w → AllByRecursion MayItem ms → Fits (all_moved ms w)
   moves_fit any [] w fits may = fits
   moves_fit any (m ∷ ms) w fits may = moves_fit any ms (moved m w) (move_fits any m w fits may.0) may.1

@@ -11,12 +11,12 @@ use Rattle.std.specs.Str.{bytes_eq}
 use Rattle.base_lemmas.proofs.Lists.{list_all-weaker}
 use Rattle.cl_core.specs.Making.{account_of}
 use Rattle.sim_3_images.proofs.OwnedDevices.{IsDeclared}
-use Rattle.sim_3_images.specs.Devices.{account_place, identity_at}
+use Rattle.sim_3_images.specs.Devices.{account_position, identity_at}
 use Rattle.sim_3_items.specs.Identities.{IsNormal, own_account}
-use Rattle.sim_3_items.specs.Servers.{IsServed}
+use Rattle.sim_3_items.specs.Servers.{IsDeviceServed}
 use Rattle.cmd_network.proofs.Names.{domain_stays, local_stays, resource_stays}
 use Rattle.cmd_network.specs.Starting.{account_at_start, accounts_at_start, password_of}
-use Rattle.base_io.specs.Names.{is_among, place_of}
+use Rattle.base_io.specs.Names.{is_among, position_of}
 use Rattle.im_jid.proofs.NormalAgain.{are_joined}
 use Rattle.im_jid.specs.Cuts.{domain_of}
 use Rattle.im_jid.specs.Normal.{normal}
@@ -27,7 +27,7 @@ use Rattle.cmd_schedule.specs.Contents.{Owned, accounts_of}
 use Rattle.cmd_schedule.specs.Grammar.{is_digit, is_lower, is_name}
 use Rattle.cmd_schedule.specs.Schedules.{WireView}
 use Rattle.auth_scram.specs.Exchange.{is_plain, is_printable_ascii}
-use Rattle.srv_core.specs.Configs.{archives_of, empty_kept, hall_at_start}
+use Rattle.srv_core.specs.Configs.{archives_of, empty_kept, server_state_at_start}
 use Rattle.cmd_world.specs.Histories.{common_steps}
 
 -- ---- names
@@ -63,8 +63,8 @@ normal_full account device is named =
     let whole = are_joined (Some account) domain (Some device) (record { local_stays = local_stays account is; domain_stays = domain_stays; resource_stays = resource_stays device named }) in
     subst (λ t. normal t ≡ Ok t) (ap (λ t. t ++ 47 ∷ device) (append_assoc account (64 ∷ []) domain)) whole.normal_form
 
-pub is_normal : (schedule : WireView) (place : ℕ) (o : Owned) → IsDeclared (accounts_of (common_steps schedule)) o → IsNormal (identity_at schedule place o)
-is_normal schedule place o is = record {
+pub is_normal : (schedule : WireView) (position : ℕ) (o : Owned) → IsDeclared (accounts_of (common_steps schedule)) o → IsNormal (identity_at schedule position o)
+is_normal schedule position o is = record {
   domain = normal_domain;
   resource = resource_stays o.device is.device;
   chosen = not_empty o.device is.device;
@@ -73,18 +73,18 @@ is_normal schedule place o is = record {
 
 -- ---- the client
 
-pub is_own : (schedule : WireView) (place : ℕ) (o : Owned) → IsDeclared (accounts_of (common_steps schedule)) o
-    → account_of (bare_address o.account) o.account (password_of o.account) o.device ≡ own_account (identity_at schedule place o)
-is_own schedule place o is =
+pub is_own : (schedule : WireView) (position : ℕ) (o : Owned) → IsDeclared (accounts_of (common_steps schedule)) o
+    → account_of (bare_address o.account) o.account (password_of o.account) o.device ≡ own_account (identity_at schedule position o)
+is_own schedule position o is =
     ap (λ (d : List ℕ). record { bare = bare_address o.account; resource = o.device; login = record { name = o.account; domain = d; password = password_of o.account } }) (domain_is o.account is.account)
 
 -- ---- the server
 
 record IsPlaced (name : List ℕ) (names : List (List ℕ)) : Type 0 where
-  place : ℕ
-  is : place_of name names ≡ Some place
-  there : slice_get names place ≡ Some name
-  found : (at : ℕ) → account_from at name (accounts_at_start names) ≡ Some (record { place = at + place; credentials = (account_at_start name).credentials })
+  position : ℕ
+  is : position_of name names ≡ Some position
+  there : slice_get names position ≡ Some name
+  found : (at : ℕ) → account_from at name (accounts_at_start names) ≡ Some (record { position = at + position; credentials = (account_at_start name).credentials })
 
 placed : (name : List ℕ) (names : List (List ℕ)) → is_among name names ≡ true → IsPlaced name names
 placed name [] known = absurd (false≢true known)
@@ -93,36 +93,36 @@ placed name (other ∷ names) known =
       | inl here ↦
           let same : name ≡ other = (bytes_eq-Decides name other).0 here in
           record {
-            place = 0;
+            position = 0;
             is = rw here refl;
             there = ap Some (sym same);
-            found = λ at. rw here (ap₂ (λ p n. Some (record { place = p; credentials = (account_at_start n).credentials })) (omega arith) (sym same));
+            found = λ at. rw here (ap₂ (λ p n. Some (record { position = p; credentials = (account_at_start n).credentials })) (omega arith) (sym same));
           }
       | inr differs ↦
           let rest = placed name names (rw differs at known) in
           record {
-            place = suc rest.place;
+            position = suc rest.position;
             is = rw (differs, rest.is) refl;
             there = rest.there;
-            found = λ at. rw differs (rest.found (at + 1) ∙ ap (λ p. Some (record { place = p; credentials = (account_at_start name).credentials })) (omega arith));
+            found = λ at. rw differs (rest.found (at + 1) ∙ ap (λ p. Some (record { position = p; credentials = (account_at_start name).credentials })) (omega arith));
           }
     ]
 
-pub is_served : (schedule : WireView) (place : ℕ) (o : Owned) (keep : ℕ) → IsDeclared (accounts_of (common_steps schedule)) o
-    → IsServed (identity_at schedule place o) (hall_at_start domain (accounts_at_start (accounts_of (common_steps schedule))) keep)
-is_served schedule place o keep is =
+pub is_served : (schedule : WireView) (position : ℕ) (o : Owned) (keep : ℕ) → IsDeclared (accounts_of (common_steps schedule)) o
+    → IsDeviceServed (identity_at schedule position o) (server_state_at_start domain (accounts_at_start (accounts_of (common_steps schedule))) keep)
+is_served schedule position o keep is =
     let names = accounts_of (common_steps schedule) in
     let here = placed o.account names is.among in
-    let same : account_place o.account names ≡ here.place = ap (λ (p : Option ℕ). unwrap_or p 0) here.is in
-    let there : slice_get names (account_place o.account names) ≡ Some o.account = ap (slice_get names) same ∙ here.there in
-    let account : slice_get (accounts_at_start names) (account_place o.account names) ≡ Some (account_at_start o.account) =
-    slice_get-map account_at_start names (account_place o.account names) ∙ ap (option_map account_at_start) there in
-    let archive : slice_get (archives_of domain keep (accounts_at_start names)) (account_place o.account names) ≡ Some (empty_kept domain keep o.account) =
-    slice_get-map (λ (a : Account). empty_kept domain keep a.name) (accounts_at_start names) (account_place o.account names) ∙ ap (option_map (λ (a : Account). empty_kept domain keep a.name)) account in
+    let same : account_position o.account names ≡ here.position = ap (λ (p : Option ℕ). unwrap_or p 0) here.is in
+    let there : slice_get names (account_position o.account names) ≡ Some o.account = ap (slice_get names) same ∙ here.there in
+    let account : slice_get (accounts_at_start names) (account_position o.account names) ≡ Some (account_at_start o.account) =
+    slice_get-map account_at_start names (account_position o.account names) ∙ ap (option_map account_at_start) there in
+    let archive : slice_get (archives_of domain keep (accounts_at_start names)) (account_position o.account names) ≡ Some (empty_kept domain keep o.account) =
+    slice_get-map (λ (a : Account). empty_kept domain keep a.name) (accounts_at_start names) (account_position o.account names) ∙ ap (option_map (λ (a : Account). empty_kept domain keep a.name)) account in
     record {
       domain = refl;
       account = account;
-      found = here.found 0 ∙ ap (λ p. Some (record { place = p; credentials = (account_at_start o.account).credentials })) (zero_plus here.place ∙ sym same);
+      found = here.found 0 ∙ ap (λ p. Some (record { position = p; credentials = (account_at_start o.account).credentials })) (zero_plus here.position ∙ sym same);
       archive = subst IsSome (sym archive) refl;
     }
   where

@@ -77,19 +77,19 @@ of_schedule schedule is = all_owned schedule.lines nothing_above (may_run_all sc
 
 -- ---- one of them
 
-one_owned : (accounts before : List (List ℕ)) (os : List Owned) (place : ℕ) (o : Owned) → AreOwned accounts before os → slice_get os place ≡ Some o → (is_name o.device ≡ true) × (is_among o.account accounts ≡ true)
-one_owned accounts before [] place o are is = absurd (none-some o is)
+one_owned : (accounts before : List (List ℕ)) (os : List Owned) (position : ℕ) (o : Owned) → AreOwned accounts before os → slice_get os position ≡ Some o → (is_name o.device ≡ true) × (is_among o.account accounts ≡ true)
+one_owned accounts before [] position o are is = absurd (none-some o is)
 one_owned accounts before (x ∷ os) zero o are is = subst (λ y. (is_name y.device ≡ true) × (is_among y.account accounts ≡ true)) (same_Some x o is) (are.0.named, are.0.owned)
-one_owned accounts before (x ∷ os) (suc place) o are is = one_owned accounts (before ++ x.device ∷ []) os place o are.1 is
+one_owned accounts before (x ∷ os) (suc position) o are is = one_owned accounts (before ++ x.device ∷ []) os position o are.1 is
 
 pub record IsDeclared (accounts : List (List ℕ)) (o : Owned) : Type 0 where
   pub device : is_name o.device ≡ true
   pub account : is_name o.account ≡ true
   pub among : is_among o.account accounts ≡ true
 
-pub declared : (schedule : WireView) (place : ℕ) (o : Owned) → IsWireSchedule schedule → slice_get (owned_in (common_steps schedule)) place ≡ Some o → IsDeclared (accounts_of (common_steps schedule)) o
-declared schedule place o is there =
-    let one = one_owned (accounts_of (common_steps schedule)) [] (owned_in (common_steps schedule)) place o (of_schedule schedule is) there in
+pub declared : (schedule : WireView) (position : ℕ) (o : Owned) → IsWireSchedule schedule → slice_get (owned_in (common_steps schedule)) position ≡ Some o → IsDeclared (accounts_of (common_steps schedule)) o
+declared schedule position o is there =
+    let one = one_owned (accounts_of (common_steps schedule)) [] (owned_in (common_steps schedule)) position o (of_schedule schedule is) there in
     let names = are_names (accounts_of (common_steps schedule)) (are_accounts schedule (may_run_all schedule is)) in
     record { device = one.0; account = named_among o.account (accounts_of (common_steps schedule)) names one.1; among = one.1 }
 
@@ -99,26 +99,26 @@ neither : (x y : Bool) → (x || y) ≡ false → x ≡ false
 neither true y h = absurd (false≢true (sym h))
 neither false y h = refl
 
-behind_new : (accounts before : List (List ℕ)) (os : List Owned) (place : ℕ) (o : Owned) → AreOwned accounts before os → slice_get os place ≡ Some o → is_among o.device before ≡ false
-behind_new accounts before [] place o are is = absurd (none-some o is)
-behind_new accounts before (x ∷ os) zero o are is = subst (λ y. is_among y.device before ≡ false) (same_Some x o is) are.0.new
-behind_new accounts before (x ∷ os) (suc place) o are is =
-    let later : is_among o.device (before ++ x.device ∷ []) ≡ false = behind_new accounts (before ++ x.device ∷ []) os place o are.1 is in
+after_new : (accounts before : List (List ℕ)) (os : List Owned) (position : ℕ) (o : Owned) → AreOwned accounts before os → slice_get os position ≡ Some o → is_among o.device before ≡ false
+after_new accounts before [] position o are is = absurd (none-some o is)
+after_new accounts before (x ∷ os) zero o are is = subst (λ y. is_among y.device before ≡ false) (same_Some x o is) are.0.new
+after_new accounts before (x ∷ os) (suc position) o are is =
+    let later : is_among o.device (before ++ x.device ∷ []) ≡ false = after_new accounts (before ++ x.device ∷ []) os position o are.1 is in
     neither (is_among o.device before) (is_among o.device (x.device ∷ [])) (sym (list_any-append (λ other. bytes_eq o.device other) before (x.device ∷ [])) ∙ later)
 
 -- the first device, and a later one of the same name
-not_later : (accounts before : List (List ℕ)) (x : Owned) (os : List Owned) (place : ℕ) (o r : Owned) → AreOwned accounts (before ++ x.device ∷ []) os → Some x ≡ Some o → slice_get os place ≡ Some r → o.device ≡ r.device → ⊥
-not_later accounts before x os place o r are is there same =
-    false≢true (sym (behind_new accounts (before ++ x.device ∷ []) os place r are there)
+not_later : (accounts before : List (List ℕ)) (x : Owned) (os : List Owned) (position : ℕ) (o r : Owned) → AreOwned accounts (before ++ x.device ∷ []) os → Some x ≡ Some o → slice_get os position ≡ Some r → o.device ≡ r.device → ⊥
+not_later accounts before x os position o r are is there same =
+    false≢true (sym (after_new accounts (before ++ x.device ∷ []) os position r are there)
     ∙ subst (λ n. is_among n (before ++ x.device ∷ []) ≡ true) (ap (λ (y : Owned). y.device) (same_Some x o is) ∙ same) (among_last x.device before))
 
-one_place : (accounts before : List (List ℕ)) (os : List Owned) (p q : ℕ) (o r : Owned) → AreOwned accounts before os → slice_get os p ≡ Some o → slice_get os q ≡ Some r → o.device ≡ r.device → p ≡ q
-one_place accounts before [] p q o r are at_p at_q same = absurd (none-some o at_p)
-one_place accounts before (x ∷ os) zero zero o r are at_p at_q same = refl
-one_place accounts before (x ∷ os) zero (suc q) o r are at_p at_q same = absurd (not_later accounts before x os q o r are.1 at_p at_q same)
-one_place accounts before (x ∷ os) (suc p) zero o r are at_p at_q same = absurd (not_later accounts before x os p r o are.1 at_q at_p (sym same))
-one_place accounts before (x ∷ os) (suc p) (suc q) o r are at_p at_q same = ap suc (one_place accounts (before ++ x.device ∷ []) os p q o r are.1 at_p at_q same)
+one_position : (accounts before : List (List ℕ)) (os : List Owned) (p q : ℕ) (o r : Owned) → AreOwned accounts before os → slice_get os p ≡ Some o → slice_get os q ≡ Some r → o.device ≡ r.device → p ≡ q
+one_position accounts before [] p q o r are at_p at_q same = absurd (none-some o at_p)
+one_position accounts before (x ∷ os) zero zero o r are at_p at_q same = refl
+one_position accounts before (x ∷ os) zero (suc q) o r are at_p at_q same = absurd (not_later accounts before x os q o r are.1 at_p at_q same)
+one_position accounts before (x ∷ os) (suc p) zero o r are at_p at_q same = absurd (not_later accounts before x os p r o are.1 at_q at_p (sym same))
+one_position accounts before (x ∷ os) (suc p) (suc q) o r are at_p at_q same = ap suc (one_position accounts (before ++ x.device ∷ []) os p q o r are.1 at_p at_q same)
 
 pub one_name : (schedule : WireView) (p q : ℕ) (o r : Owned) → IsWireSchedule schedule → slice_get (owned_in (common_steps schedule)) p ≡ Some o → slice_get (owned_in (common_steps schedule)) q ≡ Some r
     → o.device ≡ r.device → p ≡ q
-one_name schedule p q o r is at_p at_q same = one_place (accounts_of (common_steps schedule)) [] (owned_in (common_steps schedule)) p q o r (of_schedule schedule is) at_p at_q same
+one_name schedule p q o r is at_p at_q same = one_position (accounts_of (common_steps schedule)) [] (owned_in (common_steps schedule)) p q o r (of_schedule schedule is) at_p at_q same

@@ -9,7 +9,7 @@ use Rattle.cmd_network.specs.Devices.{DeviceState, catches_up_by, catches_up_on,
 use Rattle.cmd_schedule.specs.Contents.{Owned}
 use Rattle.cmd_world.specs.Moves as moves
 use Rattle.cmd_world.specs.Moves.{Move, caught_up_by, moved, said_by}
-use Rattle.cmd_world.specs.Worlds.{World}
+use Rattle.cmd_world.specs.Worlds.{ByteWorld}
 use Rattle.sim_3_images.proofs.DevicesMoved.{SeesNoMore, same_seen, seen_moved}
 
 abbrev owner : List ℕ → List ℕ → Owned
@@ -18,7 +18,7 @@ owner name account = record { device = name; account = account }
 abbrev pub owned_by : DeviceState → Owned
 owned_by d = owner d.name d.account
 
-abbrev pub owners_of : World → List Owned
+abbrev pub owners_of : ByteWorld → List Owned
 owners_of w = map owned_by w.devices
 
 no_more : SeesNoMore owned_by
@@ -40,21 +40,21 @@ caught_up_owned line most (Err start.OutboxFull) d = refl
 caught_up_owned line most (Err start.Underway) d = refl
 caught_up_owned line most (Err start.NoMemory) d = refl
 
-said : (place line : ℕ) (to text : List ℕ) (private : Bool) (o : Option DeviceState) (w : World) → slice_get w.devices place ≡ o → owners_of (said_by place line to text private o w) ≡ owners_of w
-said place line to text private None w is = refl
-said place line to text private (Some d) w is = same_seen owned_by no_more w.devices place d _ is (said_owned line _ text private _ d)
+said : (position line : ℕ) (to text : List ℕ) (private : Bool) (o : Option DeviceState) (w : ByteWorld) → slice_get w.devices position ≡ o → owners_of (said_by position line to text private o w) ≡ owners_of w
+said position line to text private None w is = refl
+said position line to text private (Some d) w is = same_seen owned_by no_more w.devices position d _ is (said_owned line _ text private _ d)
 
-caught_up : (place line most : ℕ) (o : Option DeviceState) (w : World) → slice_get w.devices place ≡ o → owners_of (caught_up_by place line most o w) ≡ owners_of w
-caught_up place line most None w is = refl
-caught_up place line most (Some d) w is = same_seen owned_by no_more w.devices place d (catches_up_on line most d).device is (caught_up_owned line most _ d)
+caught_up : (position line most : ℕ) (o : Option DeviceState) (w : ByteWorld) → slice_get w.devices position ≡ o → owners_of (caught_up_by position line most o w) ≡ owners_of w
+caught_up position line most None w is = refl
+caught_up position line most (Some d) w is = same_seen owned_by no_more w.devices position d (catches_up_on line most d).device is (caught_up_owned line most _ d)
 
-pub owners_kept : (m : Move) (w : World) → owners_of (moved m w) ≡ owners_of w
-owners_kept (moves.Dial place) w = seen_moved owned_by no_more (moves.Dial place) w tt
-owners_kept (moves.Forget place) w = seen_moved owned_by no_more (moves.Forget place) w tt
-owners_kept (moves.Close place) w = seen_moved owned_by no_more (moves.Close place) w tt
-owners_kept (moves.Say place line to text private) w = said place line to text private (slice_get w.devices place) w refl
-owners_kept (moves.CatchUp place line most) w = caught_up place line most (slice_get w.devices place) w refl
+pub owners_kept : (m : Move) (w : ByteWorld) → owners_of (moved m w) ≡ owners_of w
+owners_kept (moves.Dial position) w = seen_moved owned_by no_more (moves.Dial position) w tt
+owners_kept (moves.Forget position) w = seen_moved owned_by no_more (moves.Forget position) w tt
+owners_kept (moves.Close position) w = seen_moved owned_by no_more (moves.Close position) w tt
+owners_kept (moves.Say position line to text private) w = said position line to text private (slice_get w.devices position) w refl
+owners_kept (moves.CatchUp position line most) w = caught_up position line most (slice_get w.devices position) w refl
 owners_kept (moves.Tick milliseconds) w = refl
-owners_kept (moves.Up place count) w = seen_moved owned_by no_more (moves.Up place count) w tt
-owners_kept (moves.Down place count) w = seen_moved owned_by no_more (moves.Down place count) w tt
-owners_kept (moves.Cut place up down) w = refl
+owners_kept (moves.Up position count) w = seen_moved owned_by no_more (moves.Up position count) w tt
+owners_kept (moves.Down position count) w = seen_moved owned_by no_more (moves.Down position count) w tt
+owners_kept (moves.Cut position up down) w = refl

@@ -17,9 +17,9 @@ use Rattle.law_xml.specs.Spells.{placed}
 use Rattle.sim_3_items.specs.ItemPipes as items
 use Rattle.sim_3_items.specs.ItemPipes.{ItemPipe}
 use Rattle.sim_3_items.specs.ItemWorlds.{read_of}
-use Rattle.net_pipes.specs.Pipes.{Pipe, closed, emptied, empty_pipe, is_end_due, with_end_told}
+use Rattle.net_pipes.specs.Pipes.{Pipe, closed, emptied, empty_pipe, is_end_due, with_end_reported}
 use Rattle.xml_writer.specs.Items.{ItemOut}
-use Rattle.sim_3_images.specs.PipeImages.{AreRead, Awaits, IsCarried, IsCut, IsHanded, PipeImage, Standing, over, standing}
+use Rattle.sim_3_images.specs.PipeEncodings.{AreRead, Awaits, IsCarried, IsCut, IsHanded, PipeEncodes, Standing, over, standing}
 
 -- ---- a pipe's counts are not looked at
 
@@ -37,29 +37,29 @@ carried_same limits writer reader b c p bytes ended (standing f is st) = standin
   start = st.start;
   part = st.part;
   items = st.items;
-  behind = st.behind;
+  following = st.following;
   held_is = st.held_is;
-  carries = carries_same st.start st.part b c st.items st.behind bytes ended st.carries;
+  carries = carries_same st.start st.part b c st.items st.following bytes ended st.carries;
   read = st.read;
   awaits = λ e. st.awaits (ended ∙ e);
 })
 
-pub image_same : (limits : Limits) (writer : Option Phase) (reader : Option State) (b c : Pipe) (p : ItemPipe) → b.bytes ≡ c.bytes → b.ended ≡ c.ended → b.told ≡ c.told
-    → PipeImage limits writer reader b p → PipeImage limits writer reader c p
-image_same limits writer reader b c p bytes ended told i =
+pub encodes_same : (limits : Limits) (writer : Option Phase) (reader : Option State) (b c : Pipe) (p : ItemPipe) → b.bytes ≡ c.bytes → b.ended ≡ c.ended → b.told ≡ c.told
+    → PipeEncodes limits writer reader b p → PipeEncodes limits writer reader c p
+encodes_same limits writer reader b c p bytes ended told i =
     record { ended = sym ended ∙ i.ended; told = sym told ∙ i.told; carried = carried_same limits writer reader b c p bytes ended i.carried }
 
 -- ---- a pipe that begins
 
-pub fresh_image : (limits : Limits) → PipeImage limits (Some phase.First) (Some (from_start limits)) empty_pipe items.empty_pipe
-fresh_image limits = record {
+pub fresh_encodes : (limits : Limits) → PipeEncodes limits (Some phase.First) (Some (from_start limits)) empty_pipe items.empty_pipe
+fresh_encodes limits = record {
   ended = refl;
   told = refl;
   carried = standing (from_start limits) refl (record {
     start = from_start limits;
     part = [];
     items = [];
-    behind = from_start limits;
+    following = from_start limits;
     held_is = refl;
     carries = fresh (from_start limits) refl;
     read = refl;
@@ -75,8 +75,8 @@ fresh_image limits = record {
 not_open : (b : Bool) (T : Type 0) → b ≡ true → b ≡ false → T
 not_open b T is not = absurd (true≢false (sym is ∙ not))
 
-pub over_image : (limits : Limits) (writer : Option Phase) (reader : Option State) (b : Pipe) (p : ItemPipe) → b.told ≡ p.told → PipeImage limits writer reader (emptied b) (items.emptied p)
-over_image limits writer reader b p told = record { ended = refl; told = told; carried = over (record { no_bytes = refl; no_items = refl; has_ended = refl }) }
+pub over_encodes : (limits : Limits) (writer : Option Phase) (reader : Option State) (b : Pipe) (p : ItemPipe) → b.told ≡ p.told → PipeEncodes limits writer reader (emptied b) (items.emptied p)
+over_encodes limits writer reader b p told = record { ended = refl; told = told; carried = over (record { no_bytes = refl; no_items = refl; has_ended = refl }) }
 
 closed_carried : (limits : Limits) (writer next : Option Phase) (reader : Option State) (b : Pipe) (p : ItemPipe) → IsCarried limits writer reader b p → IsCarried limits next reader (closed b) (items.closed p)
 closed_carried limits writer next reader b p (over o) = over (record { no_bytes = o.no_bytes; no_items = o.no_items; has_ended = refl })
@@ -84,17 +84,17 @@ closed_carried limits writer next reader b p (standing f is st) = standing f is 
   start = st.start;
   part = st.part;
   items = st.items;
-  behind = st.behind;
+  following = st.following;
   held_is = st.held_is;
-  carries = closes st.start st.part b st.items st.behind st.carries;
+  carries = closes st.start st.part b st.items st.following st.carries;
   read = st.read;
-  awaits = not_open true (Awaits limits next st.behind) refl;
+  awaits = not_open true (Awaits limits next st.following) refl;
 })
 
 -- behind the end mark its writer stands anywhere
-pub closed_image : (limits : Limits) (writer next : Option Phase) (reader : Option State) (b : Pipe) (p : ItemPipe) → PipeImage limits writer reader b p
-    → PipeImage limits next reader (closed b) (items.closed p)
-closed_image limits writer next reader b p i = record { ended = refl; told = i.told; carried = closed_carried limits writer next reader b p i.carried }
+pub closed_encodes : (limits : Limits) (writer next : Option Phase) (reader : Option State) (b : Pipe) (p : ItemPipe) → PipeEncodes limits writer reader b p
+    → PipeEncodes limits next reader (closed b) (items.closed p)
+closed_encodes limits writer next reader b p i = record { ended = refl; told = i.told; carried = closed_carried limits writer next reader b p i.carried }
 
 ended_carried : (limits : Limits) (writer next : Option Phase) (reader : Option State) (b : Pipe) (p : ItemPipe) → b.ended ≡ true → IsCarried limits writer reader b p → IsCarried limits next reader b p
 ended_carried limits writer next reader b p e (over o) = over o
@@ -102,32 +102,32 @@ ended_carried limits writer next reader b p e (standing f is st) = standing f is
   start = st.start;
   part = st.part;
   items = st.items;
-  behind = st.behind;
+  following = st.following;
   held_is = st.held_is;
   carries = st.carries;
   read = st.read;
-  awaits = not_open b.ended (Awaits limits next st.behind) e;
+  awaits = not_open b.ended (Awaits limits next st.following) e;
 })
 
-pub ended_image : (limits : Limits) (writer next : Option Phase) (reader : Option State) (b : Pipe) (p : ItemPipe) → b.ended ≡ true → PipeImage limits writer reader b p → PipeImage limits next reader b p
-ended_image limits writer next reader b p e i = record { ended = i.ended; told = i.told; carried = ended_carried limits writer next reader b p e i.carried }
+pub ended_encodes : (limits : Limits) (writer next : Option Phase) (reader : Option State) (b : Pipe) (p : ItemPipe) → b.ended ≡ true → PipeEncodes limits writer reader b p → PipeEncodes limits next reader b p
+ended_encodes limits writer next reader b p e i = record { ended = i.ended; told = i.told; carried = ended_carried limits writer next reader b p e i.carried }
 
-told_carried : (limits : Limits) (writer : Option Phase) (reader : Option State) (b : Pipe) (p : ItemPipe) → IsCarried limits writer reader b p → IsCarried limits writer reader (with_end_told b) (items.with_end_told p)
+told_carried : (limits : Limits) (writer : Option Phase) (reader : Option State) (b : Pipe) (p : ItemPipe) → IsCarried limits writer reader b p → IsCarried limits writer reader (with_end_reported b) (items.with_end_reported p)
 told_carried limits writer reader b p (over o) = over (record { no_bytes = o.no_bytes; no_items = o.no_items; has_ended = o.has_ended })
 told_carried limits writer reader b p (standing f is st) = standing f is (record {
   start = st.start;
   part = st.part;
   items = st.items;
-  behind = st.behind;
+  following = st.following;
   held_is = st.held_is;
-  carries = end_told st.start st.part b st.items st.behind st.carries;
+  carries = end_told st.start st.part b st.items st.following st.carries;
   read = st.read;
   awaits = st.awaits;
 })
 
-pub told_image : (limits : Limits) (writer : Option Phase) (reader : Option State) (b : Pipe) (p : ItemPipe) → PipeImage limits writer reader b p
-    → PipeImage limits writer reader (with_end_told b) (items.with_end_told p)
-told_image limits writer reader b p i = record { ended = i.ended; told = refl; carried = told_carried limits writer reader b p i.carried }
+pub told_encodes : (limits : Limits) (writer : Option Phase) (reader : Option State) (b : Pipe) (p : ItemPipe) → PipeEncodes limits writer reader b p
+    → PipeEncodes limits writer reader (with_end_reported b) (items.with_end_reported p)
+told_encodes limits writer reader b p i = record { ended = i.ended; told = refl; carried = told_carried limits writer reader b p i.carried }
 
 -- ---- what is lost
 
@@ -144,24 +144,24 @@ read_others first others outs e =
 cut_of : (limits : Limits) (writer next : Option Phase) (reader : Option State) (b : Pipe) (p : ItemPipe) (n : ℕ) → b.told ≡ p.told → IsCarried limits writer reader b p → IsCut limits writer next reader b p n
 cut_of limits writer next reader b p n told (over o) = record {
   count = 0;
-  image = record {
+  encodes = record {
     ended = refl;
     told = told;
     carried = over (record { no_bytes = ap (take n) o.no_bytes ∙ take-nil n; no_items = refl; has_ended = refl });
   };
 }
 cut_of limits writer next reader b p n told (standing f is st) =
-    let k = cuts st.start st.part b st.items st.behind n st.carries in
+    let k = cuts st.start st.part b st.items st.following n st.carries in
     record {
       count = length k.first;
-      image = record {
+      encodes = record {
         ended = refl;
         told = told;
         carried = standing f is (record {
           start = st.start;
           part = st.part;
           items = k.first;
-          behind = k.now;
+          following = k.now;
           held_is = st.held_is;
           carries = k.left;
           read = read_first k.first k.others p.items (ap (map (placed 0)) (sym k.items_are) ∙ st.read);
@@ -170,14 +170,14 @@ cut_of limits writer next reader b p n told (standing f is st) =
       };
     }
 
-pub cut_image : (limits : Limits) (writer next : Option Phase) (reader : Option State) (b : Pipe) (p : ItemPipe) (n : ℕ) → PipeImage limits writer reader b p → IsCut limits writer next reader b p n
-cut_image limits writer next reader b p n i = cut_of limits writer next reader b p n i.told i.carried
+pub cut_encodes : (limits : Limits) (writer next : Option Phase) (reader : Option State) (b : Pipe) (p : ItemPipe) (n : ℕ) → PipeEncodes limits writer reader b p → IsCut limits writer next reader b p n
+cut_encodes limits writer next reader b p n i = cut_of limits writer next reader b p n i.told i.carried
 
 -- ---- what is handed over
 
-pub handed_image : (limits : Limits) (writer : Option Phase) (f : State) (b : Pipe) (p : ItemPipe) (n : ℕ) → b.ended ≡ p.ended → b.told ≡ p.told → Standing limits writer f b p → IsHanded limits writer f b p n
-handed_image limits writer f b p n ended told st =
-    let h = hands st.start st.part b st.items st.behind n st.carries in
+pub handed_encodes : (limits : Limits) (writer : Option Phase) (f : State) (b : Pipe) (p : ItemPipe) (n : ℕ) → b.ended ≡ p.ended → b.told ≡ p.told → Standing limits writer f b p → IsHanded limits writer f b p n
+handed_encodes limits writer f b p n ended told st =
+    let h = hands st.start st.part b st.items st.following n st.carries in
     let all : AreRead (h.first ++ h.others) p.items = ap (map (placed 0)) (sym h.items_are) ∙ st.read in
     record {
       count = length h.first;
@@ -186,14 +186,14 @@ handed_image limits writer f b p n ended told st =
       run_is = subst (λ s. run (turn s []) (take n b.bytes) ≡ turn (held h.now h.kept) h.first) (sym st.held_is) (h.run_is []);
       no_fault = h.no_fault;
       read = read_first h.first h.others p.items all;
-      image = record {
+      encodes = record {
         ended = ended;
         told = told;
         carried = standing (held h.now h.kept) refl (record {
           start = h.now;
           part = h.kept;
           items = h.others;
-          behind = st.behind;
+          following = st.following;
           held_is = refl;
           carries = h.left;
           read = read_others h.first h.others p.items all;
@@ -215,20 +215,20 @@ none_left : (limits : Limits) (writer : Option Phase) (f : State) (b : Pipe) (p 
 none_left limits writer f b p l e none = no_outs p.items (subst (λ l. AreRead l p.items) none e)
 
 -- where the end is due no item is left
-pub due_image : (limits : Limits) (writer : Option Phase) (reader : Option State) (b : Pipe) (p : ItemPipe) → PipeImage limits writer reader b p → is_end_due b ≡ true → p.items ≡ []
-due_image limits writer reader b p i due = by i.carried
+pub due_encodes : (limits : Limits) (writer : Option Phase) (reader : Option State) (b : Pipe) (p : ItemPipe) → PipeEncodes limits writer reader b p → is_end_due b ≡ true → p.items ≡ []
+due_encodes limits writer reader b p i due = by i.carried
   where
     by : IsCarried limits writer reader b p → p.items ≡ []
     by (over o) = o.no_items
-    by (standing f is st) = none_left limits writer f b p st.items st.read (due_means_none st.start st.part b st.items st.behind st.carries due)
+    by (standing f is st) = none_left limits writer f b p st.items st.read (due_means_none st.start st.part b st.items st.following st.carries due)
 
 -- where a pipe without bytes has not ended no item is under way
-pub empty_image : (limits : Limits) (writer : Option Phase) (reader : Option State) (b : Pipe) (p : ItemPipe) → PipeImage limits writer reader b p → b.ended ≡ false → b.bytes ≡ [] → p.items ≡ []
-empty_image limits writer reader b p i open_still none = by i.carried
+pub empty_encodes : (limits : Limits) (writer : Option Phase) (reader : Option State) (b : Pipe) (p : ItemPipe) → PipeEncodes limits writer reader b p → b.ended ≡ false → b.bytes ≡ [] → p.items ≡ []
+empty_encodes limits writer reader b p i open_still none = by i.carried
   where
     by : IsCarried limits writer reader b p → p.items ≡ []
     by (over o) = o.no_items
-    by (standing f is st) = none_left limits writer f b p st.items st.read (open_without_bytes st.start st.part b st.items st.behind st.carries open_still none).0
+    by (standing f is st) = none_left limits writer f b p st.items st.read (open_without_bytes st.start st.part b st.items st.following st.carries open_still none).0
 
 -- ---- an end that is due
 
@@ -249,17 +249,17 @@ due_parts (x ∷ bytes) ended told e = absurd (omega (arith, by e))
 pub is_due : (b : Pipe) → is_end_due b ≡ true → IsDue b
 is_due b due = (let h = due_parts b.bytes b.ended b.told due in record { no_bytes = h.0; has_ended = h.1; not_told = h.2 })
 
-pub items_due : (limits : Limits) (writer : Option Phase) (reader : Option State) (b : Pipe) (p : ItemPipe) → PipeImage limits writer reader b p → is_end_due b ≡ true → items.is_end_due p ≡ true
+pub items_due : (limits : Limits) (writer : Option Phase) (reader : Option State) (b : Pipe) (p : ItemPipe) → PipeEncodes limits writer reader b p → is_end_due b ≡ true → items.is_end_due p ≡ true
 items_due limits writer reader b p i due =
     let d = is_due b due in
-    let none = due_image limits writer reader b p i due in
+    let none = due_encodes limits writer reader b p i due in
     let ended = sym i.ended ∙ d.has_ended in
     let told = sym i.told ∙ d.not_told in
     rw (none, ended, told) refl
 
 -- its reader needs no framer any more
-pub due_told_image : (limits : Limits) (writer next : Option Phase) (reader other : Option State) (b : Pipe) (p : ItemPipe) → PipeImage limits writer reader b p → is_end_due b ≡ true
-    → PipeImage limits next other (with_end_told b) (items.with_end_told p)
-due_told_image limits writer next reader other b p i due =
+pub due_told_encodes : (limits : Limits) (writer next : Option Phase) (reader other : Option State) (b : Pipe) (p : ItemPipe) → PipeEncodes limits writer reader b p → is_end_due b ≡ true
+    → PipeEncodes limits next other (with_end_reported b) (items.with_end_reported p)
+due_told_encodes limits writer next reader other b p i due =
     let d = is_due b due in
-    record { ended = i.ended; told = refl; carried = over (record { no_bytes = d.no_bytes; no_items = due_image limits writer reader b p i due; has_ended = d.has_ended }) }
+    record { ended = i.ended; told = refl; carried = over (record { no_bytes = d.no_bytes; no_items = due_encodes limits writer reader b p i due; has_ended = d.has_ended }) }

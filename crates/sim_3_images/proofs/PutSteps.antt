@@ -17,8 +17,8 @@ use Rattle.net_pipes.specs.Pipes.{Pipe, entered}
 use Rattle.xml_writer.specs.Items.{Closing, ItemOut, Opening, Whole, written_item}
 use Rattle.law_xml.proofs.PutLaws.{put_enters}
 use Rattle.law_xml.specs.Puts.{MayPut, OutFits, StandsAt, phase_behind, read_out}
-use Rattle.sim_3_images.specs.PipeImages.{AreRead, IsCarried, PipeImage, Standing, over, standing}
-use Rattle.sim_3_images.proofs.PipeSteps.{ended_image, image_same}
+use Rattle.sim_3_images.specs.PipeEncodings.{AreRead, IsCarried, PipeEncodes, Standing, over, standing}
+use Rattle.sim_3_images.proofs.PipeSteps.{encodes_same, ended_encodes}
 
 -- ---- the fields of what entered
 
@@ -61,25 +61,25 @@ read_more at items outs i e =
     map-append (placed 0) items (read_out at i ∷ []) ∙ ap (λ l. l ++ placed 0 (read_out at i) ∷ []) e ∙ ap (λ x. map read_of outs ++ x ∷ []) (reads_out at i) ∙ sym (map-append read_of outs (i ∷ []))
 
 -- behind what was put
-stands_behind : (i : ItemOut) (t : State) → StandsOutside t (phase_behind i) written_scope (codes "stream:stream") → StandsAt t (phase_behind i)
-stands_behind (Opening h) t s = s
-stands_behind (Whole e) t s = s
-stands_behind Closing t s = s
+stands_after : (i : ItemOut) (t : State) → StandsOutside t (phase_behind i) written_scope (codes "stream:stream") → StandsAt t (phase_behind i)
+stands_after (Opening h) t s = s
+stands_after (Whole e) t s = s
+stands_after Closing t s = s
 
 module _ (limits : Limits) (few : limits.attributes < 2 ^ 32) (names : limits.namespace_bytes < 2 ^ 32) where
   -- into an ended pipe nothing enters
-  lost : (writer next : Option Phase) (reader : Option State) (b : Pipe) (p : ItemPipe) (bytes : List ℕ) (more : List ItemOut) → b.ended ≡ true → PipeImage limits writer reader b p
-      → PipeImage limits next reader (entered bytes b) (items.entered more p)
+  lost : (writer next : Option Phase) (reader : Option State) (b : Pipe) (p : ItemPipe) (bytes : List ℕ) (more : List ItemOut) → b.ended ≡ true → PipeEncodes limits writer reader b p
+      → PipeEncodes limits next reader (entered bytes b) (items.entered more p)
   lost writer next reader b p bytes more e i =
       let same : entered bytes b ≡ b = cond-true b.ended b (record b { bytes = b.bytes ++ bytes; put = (entered bytes (record b { ended = false })).put }) e in
       let same_items : items.entered more p ≡ p = cond-true p.ended p (record p { items = p.items ++ more }) (sym i.ended ∙ e) in
-      subst (λ x. PipeImage limits next reader x (items.entered more p)) (sym same) (subst (PipeImage limits next reader b) (sym same_items) (ended_image limits writer next reader b p e i))
+      subst (λ x. PipeEncodes limits next reader x (items.entered more p)) (sym same) (subst (PipeEncodes limits next reader b) (sym same_items) (ended_encodes limits writer next reader b p e i))
 
   put_open : (f : State) (reader : Option State) → reader ≡ Some f → (now : Phase) (b : Pipe) (p : ItemPipe) (i : ItemOut) → b.ended ≡ false → b.ended ≡ p.ended → b.told ≡ p.told → MayPut now i → OutFits limits i
-      → Standing limits (Some now) f b p → PipeImage limits (Some (phase_behind i)) reader (entered (written_item i) b) (items.entered (i ∷ []) p)
+      → Standing limits (Some now) f b p → PipeEncodes limits (Some (phase_behind i)) reader (entered (written_item i) b) (items.entered (i ∷ []) p)
   put_open f reader is now b p i e ended told may fits st =
       let a = st.awaits e in
-      let h = put_enters st.start st.part b st.items st.behind st.carries e now i a.stands may (subst (λ l. OutFits l i) (sym a.limits_are) fits) (subst (λ l. l.attributes < 2 ^ 32) (sym a.limits_are) few) (subst (λ l. l.namespace_bytes < 2 ^ 32) (sym a.limits_are) names) in
+      let h = put_enters st.start st.part b st.items st.following st.carries e now i a.stands may (subst (λ l. OutFits l i) (sym a.limits_are) fits) (subst (λ l. l.attributes < 2 ^ 32) (sym a.limits_are) few) (subst (λ l. l.namespace_bytes < 2 ^ 32) (sym a.limits_are) names) in
       let in_items : items.entered (i ∷ []) p ≡ record p { items = p.items ++ i ∷ [] } = cond-false p.ended p (record p { items = p.items ++ i ∷ [] }) (sym ended ∙ e) in
       record {
         ended = ended_entered (written_item i) b ∙ ended ∙ sym (items_ended_entered (i ∷ []) p);
@@ -88,19 +88,19 @@ module _ (limits : Limits) (few : limits.attributes < 2 ^ 32) (names : limits.na
           start = st.start;
           part = st.part;
           items = st.items ++ read_out h.at i ∷ [];
-          behind = h.entered_as.now;
+          following = h.entered_as.now;
           held_is = st.held_is;
           carries = h.entered_as.carries;
           read = subst (λ (q : ItemPipe). AreRead (st.items ++ read_out h.at i ∷ []) q.items) (sym in_items) (read_more h.at st.items p.items i st.read);
-          awaits = λ _. record { limits_are = h.entered_as.same_limits ∙ a.limits_are; stands = stands_behind i h.entered_as.now h.entered_as.stands };
+          awaits = λ _. record { limits_are = h.entered_as.same_limits ∙ a.limits_are; stands = stands_after i h.entered_as.now h.entered_as.stands };
         });
       }
 
-  pub put_image : (now : Phase) (reader : Option State) (b : Pipe) (p : ItemPipe) (i : ItemOut) → MayPut now i → OutFits limits i → PipeImage limits (Some now) reader b p
-      → PipeImage limits (Some (phase_behind i)) reader (entered (written_item i) b) (items.entered (i ∷ []) p)
-  put_image now reader b p i may fits m = by b.ended refl m.carried
+  pub put_encodes : (now : Phase) (reader : Option State) (b : Pipe) (p : ItemPipe) (i : ItemOut) → MayPut now i → OutFits limits i → PipeEncodes limits (Some now) reader b p
+      → PipeEncodes limits (Some (phase_behind i)) reader (entered (written_item i) b) (items.entered (i ∷ []) p)
+  put_encodes now reader b p i may fits m = by b.ended refl m.carried
     where
-      by : (e : Bool) → b.ended ≡ e → IsCarried limits (Some now) reader b p → PipeImage limits (Some (phase_behind i)) reader (entered (written_item i) b) (items.entered (i ∷ []) p)
+      by : (e : Bool) → b.ended ≡ e → IsCarried limits (Some now) reader b p → PipeEncodes limits (Some (phase_behind i)) reader (entered (written_item i) b) (items.entered (i ∷ []) p)
       by true e c = lost (Some now) (Some (phase_behind i)) reader b p (written_item i) (i ∷ []) e m
       by false e (over o) = lost (Some now) (Some (phase_behind i)) reader b p (written_item i) (i ∷ []) o.has_ended m
       by false e (standing f is st) = put_open f reader is now b p i e m.ended m.told may fits st
@@ -137,18 +137,18 @@ module _ (limits : Limits) (few : limits.attributes < 2 ^ 32) (names : limits.na
       by true = refl
       by false = append-nil b.bytes
 
-  pub puts_image : (reader : Option State) (b : Pipe) (p : ItemPipe) (more : List ItemOut) → AllByRecursion (λ i. phase_behind i ≡ phase.Between) more → AllByRecursion (OutFits limits) more
-      → PipeImage limits (Some phase.Between) reader b p → PipeImage limits (Some phase.Between) reader (entered (flat_map written_item more) b) (items.entered more p)
-  puts_image reader b p [] between fit m =
-      subst (PipeImage limits (Some phase.Between) reader (entered [] b)) (sym (nothing_entered p))
-      (image_same limits (Some phase.Between) reader b (entered [] b) p (no_bytes_entered b) (sym (ended_entered [] b)) (sym (told_entered [] b)) m)
-  puts_image reader b p (i ∷ more) between fit m =
+  pub puts_encodes : (reader : Option State) (b : Pipe) (p : ItemPipe) (more : List ItemOut) → AllByRecursion (λ i. phase_behind i ≡ phase.Between) more → AllByRecursion (OutFits limits) more
+      → PipeEncodes limits (Some phase.Between) reader b p → PipeEncodes limits (Some phase.Between) reader (entered (flat_map written_item more) b) (items.entered more p)
+  puts_encodes reader b p [] between fit m =
+      subst (PipeEncodes limits (Some phase.Between) reader (entered [] b)) (sym (nothing_entered p))
+      (encodes_same limits (Some phase.Between) reader b (entered [] b) p (no_bytes_entered b) (sym (ended_entered [] b)) (sym (told_entered [] b)) m)
+  puts_encodes reader b p (i ∷ more) between fit m =
       let bytes = written_item i in
       let rest = flat_map written_item more in
-      let one = subst (λ n. PipeImage limits (Some n) reader (entered bytes b) (items.entered (i ∷ []) p)) between.0 (put_image phase.Between reader b p i (may i) fit.0 m) in
-      let all = puts_image reader (entered bytes b) (items.entered (i ∷ []) p) more between.1 fit.1 one in
-      subst (PipeImage limits (Some phase.Between) reader (entered (bytes ++ rest) b)) (two_items_entered i more p)
-      (image_same limits (Some phase.Between) reader (entered rest (entered bytes b)) (entered (bytes ++ rest) b) (items.entered more (items.entered (i ∷ []) p)) (two_entered bytes rest b)
+      let one = subst (λ n. PipeEncodes limits (Some n) reader (entered bytes b) (items.entered (i ∷ []) p)) between.0 (put_encodes phase.Between reader b p i (may i) fit.0 m) in
+      let all = puts_encodes reader (entered bytes b) (items.entered (i ∷ []) p) more between.1 fit.1 one in
+      subst (PipeEncodes limits (Some phase.Between) reader (entered (bytes ++ rest) b)) (two_items_entered i more p)
+      (encodes_same limits (Some phase.Between) reader (entered rest (entered bytes b)) (entered (bytes ++ rest) b) (items.entered more (items.entered (i ∷ []) p)) (two_entered bytes rest b)
       (ended_entered rest (entered bytes b) ∙ ended_entered bytes b ∙ sym (ended_entered (bytes ++ rest) b)) (told_entered rest (entered bytes b) ∙ told_entered bytes b ∙ sym (told_entered (bytes ++ rest) b)) all)
     where
       may : (i : ItemOut) → MayPut phase.Between i
@@ -156,15 +156,15 @@ module _ (limits : Limits) (few : limits.attributes < 2 ^ 32) (names : limits.na
 
   -- the same, and a footer behind them
   pub puts_last : (reader : Option State) (b : Pipe) (p : ItemPipe) (more : List ItemOut) → AllByRecursion (λ i. phase_behind i ≡ phase.Between) more → AllByRecursion (OutFits limits) (more ++ Closing ∷ [])
-      → PipeImage limits (Some phase.Between) reader b p → PipeImage limits (Some phase.Ended) reader (entered (flat_map written_item (more ++ Closing ∷ [])) b) (items.entered (more ++ Closing ∷ []) p)
+      → PipeEncodes limits (Some phase.Between) reader b p → PipeEncodes limits (Some phase.Ended) reader (entered (flat_map written_item (more ++ Closing ∷ [])) b) (items.entered (more ++ Closing ∷ []) p)
   puts_last reader b p [] between fit m =
-      subst (λ l. PipeImage limits (Some phase.Ended) reader (entered l b) (items.entered (Closing ∷ []) p)) (sym (append-nil (written_item Closing))) (put_image phase.Between reader b p Closing tt fit.0 m)
+      subst (λ l. PipeEncodes limits (Some phase.Ended) reader (entered l b) (items.entered (Closing ∷ []) p)) (sym (append-nil (written_item Closing))) (put_encodes phase.Between reader b p Closing tt fit.0 m)
   puts_last reader b p (i ∷ more) between fit m =
       let bytes = written_item i in
       let last = more ++ Closing ∷ [] in
       let rest = flat_map written_item last in
-      let one = subst (λ n. PipeImage limits (Some n) reader (entered bytes b) (items.entered (i ∷ []) p)) between.0 (put_image phase.Between reader b p i tt fit.0 m) in
+      let one = subst (λ n. PipeEncodes limits (Some n) reader (entered bytes b) (items.entered (i ∷ []) p)) between.0 (put_encodes phase.Between reader b p i tt fit.0 m) in
       let all = puts_last reader (entered bytes b) (items.entered (i ∷ []) p) more between.1 fit.1 one in
-      subst (PipeImage limits (Some phase.Ended) reader (entered (bytes ++ rest) b)) (two_items_entered i last p)
-      (image_same limits (Some phase.Ended) reader (entered rest (entered bytes b)) (entered (bytes ++ rest) b) (items.entered last (items.entered (i ∷ []) p)) (two_entered bytes rest b)
+      subst (PipeEncodes limits (Some phase.Ended) reader (entered (bytes ++ rest) b)) (two_items_entered i last p)
+      (encodes_same limits (Some phase.Ended) reader (entered rest (entered bytes b)) (entered (bytes ++ rest) b) (items.entered last (items.entered (i ∷ []) p)) (two_entered bytes rest b)
       (ended_entered rest (entered bytes b) ∙ ended_entered bytes b ∙ sym (ended_entered (bytes ++ rest) b)) (told_entered rest (entered bytes b) ∙ told_entered bytes b ∙ sym (told_entered (bytes ++ rest) b)) all)

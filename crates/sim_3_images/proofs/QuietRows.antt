@@ -3,14 +3,14 @@ use Rattle.std.proofs.Common.{◌≡◌, ℕ, Bool, true, false, cond, List, [],
 use Rattle.std.specs.List.{AllByRecursion}
 use Rattle.mam_archive.specs.Entries.{EntryView, entry_numbered}
 use Rattle.srv_state.specs.Handling.{counting}
-use Rattle.srv_state.specs.State.{Hall, Kept, archive_at, bare_address, session_address}
+use Rattle.srv_state.specs.State.{Kept, ServerState, archive_at, bare_address, session_address}
 use Rattle.srv_state.specs.Steps.{Act, Handle}
 use Rattle.im_forwarding.specs.Passed.{addressed}
 use Rattle.im_forwarding.specs.Results.{AskerView, fin_item}
 use Rattle.sim_3_images.proofs.StepsInOrder.{IsQuiet}
 use Rattle.sim_3_items.specs.ItemWorlds.{itself}
-use Rattle.sm_live.specs.Sessions.{number_of, told_of}
-use Rattle.sm_live.specs.declared.told.Told.{Told}
+use Rattle.sm_live.specs.Sessions.{info_of, number_of}
+use Rattle.sm_live.specs.declared.told.SessionInfo.{SessionInfo}
 use Rattle.srv_handlers.specs.Messages.{archiving, carrying, copying, copying_to, delivering, delivering_to, is_full_in, messaging, no_room, bouncing, telling}
 use Rattle.im_messages.specs.Entries.{entry_of}
 use Rattle.im_mam.specs.declared.archive_query.MamQuery.{MamQuery}
@@ -50,30 +50,30 @@ module _ (n : ℕ) (start : ℕ → Option Phase) where
   telling_q m [] more q = q
   telling_q m (account ∷ accounts) more q = (tt, q)
 
-  delivering_to_q : (m : MessageView) (accounts : List ℕ) (i : ℕ) (o : Option Told) (h : Hall ItemOut) (more : List (Act ItemOut)) → AreQuiet more → AreQuiet (delivering_to itself m accounts i o h more)
+  delivering_to_q : (m : MessageView) (accounts : List ℕ) (i : ℕ) (o : Option SessionInfo) (h : ServerState ItemOut) (more : List (Act ItemOut)) → AreQuiet more → AreQuiet (delivering_to itself m accounts i o h more)
   delivering_to_q m accounts i None h more q = q
   delivering_to_q m accounts i (Some t) h more q = (refl, q)
 
-  delivering_q : (m : MessageView) (accounts numbers : List ℕ) (h : Hall ItemOut) (more : List (Act ItemOut)) → AreQuiet more → AreQuiet (delivering itself m accounts numbers h more)
+  delivering_q : (m : MessageView) (accounts numbers : List ℕ) (h : ServerState ItemOut) (more : List (Act ItemOut)) → AreQuiet more → AreQuiet (delivering itself m accounts numbers h more)
   delivering_q m accounts [] h more q = q
-  delivering_q m accounts (i ∷ numbers) h more q = delivering_to_q m accounts i (told_of i h.sessions) h (delivering itself m accounts numbers h more) (delivering_q m accounts numbers h more q)
+  delivering_q m accounts (i ∷ numbers) h more q = delivering_to_q m accounts i (info_of i h.sessions) h (delivering itself m accounts numbers h more) (delivering_q m accounts numbers h more q)
 
-  copying_to_q : (sent : Bool) (m : MessageView) (accounts : List ℕ) (i : ℕ) (o : Option Told) (h : Hall ItemOut) (more : List (Act ItemOut)) → AreQuiet more → AreQuiet (copying_to itself sent m accounts i o h more)
+  copying_to_q : (sent : Bool) (m : MessageView) (accounts : List ℕ) (i : ℕ) (o : Option SessionInfo) (h : ServerState ItemOut) (more : List (Act ItemOut)) → AreQuiet more → AreQuiet (copying_to itself sent m accounts i o h more)
   copying_to_q sent m accounts i None h more q = q
   copying_to_q sent m accounts i (Some t) h more q = (refl, q)
 
-  copying_q : (sent : Bool) (m : MessageView) (accounts numbers : List ℕ) (h : Hall ItemOut) (more : List (Act ItemOut)) → AreQuiet more → AreQuiet (copying itself sent m accounts numbers h more)
+  copying_q : (sent : Bool) (m : MessageView) (accounts numbers : List ℕ) (h : ServerState ItemOut) (more : List (Act ItemOut)) → AreQuiet more → AreQuiet (copying itself sent m accounts numbers h more)
   copying_q sent m accounts [] h more q = q
-  copying_q sent m accounts (i ∷ numbers) h more q = copying_to_q sent m accounts i (told_of i h.sessions) h (copying itself sent m accounts numbers h more) (copying_q sent m accounts numbers h more q)
+  copying_q sent m accounts (i ∷ numbers) h more q = copying_to_q sent m accounts i (info_of i h.sessions) h (copying itself sent m accounts numbers h more) (copying_q sent m accounts numbers h more q)
 
-  carrying_q : (m : MessageView) (accounts : List ℕ) (r : RouteOf ℕ) (h : Hall ItemOut) → AreQuiet (carrying itself m accounts r h)
+  carrying_q : (m : MessageView) (accounts : List ℕ) (r : RouteOf ℕ) (h : ServerState ItemOut) → AreQuiet (carrying itself m accounts r h)
   carrying_q m accounts r h =
       archiving_q (entry_of 0 h.moment m) accounts (telling m accounts (delivering itself m accounts r.deliver h (copying itself true m accounts r.sent h (copying itself false m accounts r.received h []))))
       (telling_q m accounts (delivering itself m accounts r.deliver h (copying itself true m accounts r.sent h (copying itself false m accounts r.received h [])))
       (delivering_q m accounts r.deliver h (copying itself true m accounts r.sent h (copying itself false m accounts r.received h []))
       (copying_q true m accounts r.sent h (copying itself false m accounts r.received h []) (copying_q false m accounts r.received h [] tt))))
 
-  messaging_q : (m : MessageView) (to : List ℕ) (t : Told) (p : PlanOf ℕ) (h : Hall ItemOut) → AreQuiet (messaging itself m to t p h)
+  messaging_q : (m : MessageView) (to : List ℕ) (t : SessionInfo) (p : PlanOf ℕ) (h : ServerState ItemOut) → AreQuiet (messaging itself m to t p h)
   messaging_q m to t (Bounced e) h = (refl, tt)
   messaging_q m to t (Routed r) h = by (is_full_in (archives_of r.archiving) h)
     where
@@ -91,19 +91,19 @@ module _ (n : ℕ) (start : ℕ → Option Phase) where
   sending_q i asker entries [] more q = q
   sending_q i asker entries (number ∷ numbers) more q = sending_entry_q i asker (entry_numbered number entries) (sending_entries itself i asker entries numbers more) (sending_q i asker entries numbers more q)
 
-  paging_q : (q : IqView) (t : Told) (queryid : List ℕ) (kept : Kept) (o : Option CutView) (h : Hall ItemOut) → AreQuiet (paging itself q t queryid kept o h)
+  paging_q : (q : IqView) (t : SessionInfo) (queryid : List ℕ) (kept : Kept) (o : Option CutView) (h : ServerState ItemOut) → AreQuiet (paging itself q t queryid kept o h)
   paging_q q t queryid kept None h = (refl, tt)
   paging_q q t queryid kept (Some cut) h = sending_q t.number (asker_of t queryid h) kept.entries cut.numbers (answering_iq itself t (fin_item (envelope_of q t h) cut)) (refl, tt)
 
-  querying_q : (q : IqView) (t : Told) (query : MamQuery) (o : Option Kept) (h : Hall ItemOut) → AreQuiet (querying_in itself q t query o h)
+  querying_q : (q : IqView) (t : SessionInfo) (query : MamQuery) (o : Option Kept) (h : ServerState ItemOut) → AreQuiet (querying_in itself q t query o h)
   querying_q q t query None h = tt
   querying_q q t query (Some kept) h = paging_q q t query.queryid kept (page_of (kept_by kept.owner kept.entries) query.query) h
 
-  info_word : (b : Bool) (q : IqView) (t : Told) (h : Hall ItemOut) → phase_behind (info_item b (envelope_of q t h)) ≡ phase.Between
+  info_word : (b : Bool) (q : IqView) (t : SessionInfo) (h : ServerState ItemOut) → phase_behind (info_item b (envelope_of q t h)) ≡ phase.Between
   info_word true q t h = refl
   info_word false q t h = refl
 
-  serving_q : (o : Option Request) (q : IqView) (t : Told) (h : Hall ItemOut) → AreQuiet (serving itself o q t h)
+  serving_q : (o : Option Request) (q : IqView) (t : SessionInfo) (h : ServerState ItemOut) → AreQuiet (serving itself o q t h)
   serving_q None q t h = tt
   serving_q (Some request.Ping) q t h = (refl, tt)
   serving_q (Some (request.Info at_domain)) q t h = (info_word at_domain q t h, tt)
@@ -116,36 +116,36 @@ module _ (n : ℕ) (start : ℕ → Option Phase) where
 
   -- ---- stanzas
 
-  returning_q : (kind : PresenceKind) (to : List ℕ) (p : Presence) (t : Told) → AreQuiet (returning itself kind to p t)
+  returning_q : (kind : PresenceKind) (to : List ℕ) (p : Presence) (t : SessionInfo) → AreQuiet (returning itself kind to p t)
   returning_q Available to p t = (refl, tt)
   returning_q Unavailable to p t = tt
   returning_q Error to p t = tt
   returning_q Other to p t = (refl, tt)
 
-  directing_q : (here : Bool) (kind : PresenceKind) (to : List ℕ) (p : Presence) (t : Told) → AreQuiet (directing itself here kind to p t)
+  directing_q : (here : Bool) (kind : PresenceKind) (to : List ℕ) (p : Presence) (t : SessionInfo) → AreQuiet (directing itself here kind to p t)
   directing_q true kind to p t = tt
   directing_q false kind to p t = returning_q kind to p t
 
-  presenting_q : (o : Option (List ℕ)) (kind : PresenceKind) (p : Presence) (t : Told) (h : Hall ItemOut) → AreQuiet (presenting itself o kind p t h)
+  presenting_q : (o : Option (List ℕ)) (kind : PresenceKind) (p : Presence) (t : SessionInfo) (h : ServerState ItemOut) → AreQuiet (presenting itself o kind p t h)
   presenting_q (Some to) kind p t h = directing_q (is_local to h) kind to p t
   presenting_q None Available p t h = (tt, tt)
   presenting_q None Unavailable p t h = (tt, tt)
   presenting_q None Error p t h = tt
   presenting_q None Other p t h = tt
 
-  bad_to_q : (message reply : Bool) (id to : List ℕ) (t : Told) (h : Hall ItemOut) → AreQuiet (at_bad_to itself message reply id to t h)
+  bad_to_q : (message reply : Bool) (id to : List ℕ) (t : SessionInfo) (h : ServerState ItemOut) → AreQuiet (at_bad_to itself message reply id to t h)
   bad_to_q message false id to t h = tt
   bad_to_q true true id to t h = (refl, tt)
   bad_to_q false true id to t h = (refl, tt)
 
-  handling_q : (read : Result Stanza StanzaFault) (t : Told) (h : Hall ItemOut) → AreQuiet (handling itself read t h)
+  handling_q : (read : Result Stanza StanzaFault) (t : SessionInfo) (h : ServerState ItemOut) → AreQuiet (handling itself read t h)
   handling_q (Ok (stanza.Message m)) t h = messaging_q m (unwrap_or m.to (bare_address t.account h)) t (plan_renamed number_of (plan_of h.domain h.accounts h.sessions m t)) h
   handling_q (Ok (stanza.Presence p)) t h = presenting_q p.to p.kind p t h
   handling_q (Ok (stanza.Iq q)) t h = serving_q (request_of q t h) q t h
   handling_q (Err (fault.BadTo message reply from id to)) t h = bad_to_q message reply id to t h
   handling_q (Err why) t h = tt
 
-  pub counted_q : (read : Result Stanza StanzaFault) (t : Told) (h : Hall ItemOut) → AreQuiet (counting t (handling itself read t h))
+  pub counted_q : (read : Result Stanza StanzaFault) (t : SessionInfo) (h : ServerState ItemOut) → AreQuiet (counting t (handling itself read t h))
   counted_q read t h = by t.counted
     where
       by : (b : Bool) → AreQuiet (cond b (Handle t.number ∷ handling itself read t h) (handling itself read t h))

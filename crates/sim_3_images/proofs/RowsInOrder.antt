@@ -9,7 +9,7 @@ use Rattle.sm_acks.specs.Counters.{ahead}
 use Rattle.sm_acks.specs.declared.end.TooHigh.{TooHigh as TooHighCount}
 use Rattle.law_limits.proofs.TurnsKept.{All-drop}
 use Rattle.srv_state.specs.Logins.{answering, at_challenge, at_login, at_login_other, beginning, failing, negotiation_at}
-use Rattle.srv_state.specs.State.{Hall, Step, conn_at, is_number}
+use Rattle.srv_state.specs.State.{ServerState, Step, conn_at, is_number}
 use Rattle.srv_state.specs.Steps as steps
 use Rattle.srv_state.specs.Steps.{Act, act, acted, after_failure, in_phase, in_sessions, part, put}
 use Rattle.srv_state.specs.Streams.{answering_header, at_any, ending_in, field_condition, header_condition, parting_where, stage_of, standing_of}
@@ -31,14 +31,14 @@ use Rattle.xml_framer.specs.declared.states.Phase.{Phase}
 use Rattle.xml_framer.specs.declared.states.Phase.TheVariants as phase
 use Rattle.sim_3_images.proofs.AloneKept.{all_apart}
 use Rattle.sim_3_images.proofs.ConnsKept.{all_found}
-use Rattle.sim_3_images.proofs.Lookups.{found_behind_removal}
+use Rattle.sim_3_images.proofs.Lookups.{found_after_removal}
 use Rattle.sim_3_images.proofs.QuietRows.{counted_q}
 use Rattle.sim_3_images.proofs.StepsInOrder.{Calm, bind_calm, ends_first, entered, opens_first, part_calm, put_word, quiet_calm, resume_calm, session_changed, shut_footer}
-use Rattle.sim_3_images.specs.ImagesCores.{IsNoFooter, phase_of, writer_of}
-use Rattle.sim_3_images.specs.Stands.{Conns, IsBehind, SessionStands, writer_in}
+use Rattle.sim_3_images.specs.EncodingsCores.{IsNoFooter, phase_of, writer_of}
+use Rattle.sim_3_images.specs.Stands.{Conns, IsAfter, SessionStands, writer_in}
 use Rattle.sim_3_items.specs.ItemWorlds.{itself}
 use Rattle.sm_live.specs.Sessions.{Session, ack_answer, asks, ended_of, is_at, is_named, is_resumed_by, is_too_high, resent, resume_answer, resume_ok, send_count, session_at, session_named, session_of, session_resumed, told, with_session}
-use Rattle.sm_live.specs.declared.told.Told.{Told}
+use Rattle.sm_live.specs.declared.told.SessionInfo.{SessionInfo}
 use Rattle.srv_login.specs.Headers.{header_answer}
 use Rattle.srv_login.specs.Negotiations.{LoginView, auth_answer, condition_name, final_answer}
 use Rattle.srv_login.specs.declared.header_judgement.HeaderAnswer.{HeaderAnswer}
@@ -88,21 +88,21 @@ IsHeader item.Footer = ⊥
 module _ (n : ℕ) (start : ℕ → Option Phase) (k : ℕ) where
   -- the connection of the row is behind its header
   abbrev On : Step ItemOut → Type 0
-  On s = writer_in k s.hall.conns ≡ Some phase.Between
+  On s = writer_in k s.server_state.conns ≡ Some phase.Between
 
   abbrev Goes : List (Act ItemOut) → Step ItemOut → Type 0
   Goes acts s = Calm n start (acted itself acts s)
 
   -- ---- ends
 
-  ending_calm : (e : StreamCondition) (g : Stage) (entropy : List ℕ) (h : Hall ItemOut) (s : Step ItemOut) → NotStart g → On s → Calm n start s → Goes (ending_in itself k e g entropy h) s
+  ending_calm : (e : StreamCondition) (g : Stage) (entropy : List ℕ) (h : ServerState ItemOut) (s : Step ItemOut) → NotStart g → On s → Calm n start s → Goes (ending_in itself k e g entropy h) s
   ending_calm e stage.Start entropy h s not on c = absurd not
   ending_calm e stage.Login entropy h s not on c = part_calm n start s k (error_item e) on refl c
   ending_calm e stage.Challenge entropy h s not on c = part_calm n start s k (error_item e) on refl c
   ending_calm e (stage.Restart account) entropy h s not on c = part_calm n start s k (error_item e) on refl c
   ending_calm e (stage.Ready account) entropy h s not on c = part_calm n start s k (error_item e) on refl c
 
-  any_calm : (w : Word) (st : Standing) (h : Hall ItemOut) (s : Step ItemOut) → NotStart st.stage → On s → Calm n start s → Goes (at_any itself k w st h) s
+  any_calm : (w : Word) (st : Standing) (h : ServerState ItemOut) (s : Step ItemOut) → NotStart st.stage → On s → Calm n start s → Goes (at_any itself k w st h) s
   any_calm word.BadField st h s not on c = ending_calm stream.BadFormat st.stage st.entropy h s not on c
   any_calm (word.Auth e bad) st h s not on c = ending_calm (field_condition bad) st.stage st.entropy h s not on c
   any_calm (word.Response e bad) st h s not on c = ending_calm (field_condition bad) st.stage st.entropy h s not on c
@@ -125,16 +125,16 @@ module _ (n : ℕ) (start : ℕ → Option Phase) (k : ℕ) where
   answering_calm left (Some (Ok login)) s on c = entered n start (put k (success_item login.message) s) k (in_phase (conn.Restart login.account)) (λ y. refl) on (put_word n start s k (success_item login.message) on refl c)
   answering_calm left (Some (Err why)) s on c = failing_calm why left s on c
 
-  login_other_calm : (w : Word) (st : Standing) (h : Hall ItemOut) (s : Step ItemOut) → NotStart st.stage → On s → Calm n start s → Goes (at_login_other itself k w st h) s
+  login_other_calm : (w : Word) (st : Standing) (h : ServerState ItemOut) (s : Step ItemOut) → NotStart st.stage → On s → Calm n start s → Goes (at_login_other itself k w st h) s
   login_other_calm word.Abort st h s not on c = failing_calm Aborted st.tries s on c
   login_other_calm (word.Stanza long read) st h s not on c = ending_calm stream.NotAuthorized st.stage st.entropy h s not on c
   login_other_calm w st h s not on c = any_calm w st h s not on c
 
-  login_calm : (w : Word) (st : Standing) (h : Hall ItemOut) (s : Step ItemOut) → NotStart st.stage → On s → Calm n start s → Goes (at_login itself k w st h) s
+  login_calm : (w : Word) (st : Standing) (h : ServerState ItemOut) (s : Step ItemOut) → NotStart st.stage → On s → Calm n start s → Goes (at_login itself k w st h) s
   login_calm (word.Auth e bad) st h s not on c = beginning_calm st.tries (auth_answer e st.entropy h.accounts) s on c
   login_calm w st h s not on c = login_other_calm w st h s not on c
 
-  challenge_calm : (w : Word) (st : Standing) (h : Hall ItemOut) (s : Step ItemOut) → NotStart st.stage → On s → Calm n start s → Goes (at_challenge itself k w st h) s
+  challenge_calm : (w : Word) (st : Standing) (h : ServerState ItemOut) (s : Step ItemOut) → NotStart st.stage → On s → Calm n start s → Goes (at_challenge itself k w st h) s
   challenge_calm (word.Response e bad) st h s not on c = answering_calm st.tries (option_map (final_answer e) (negotiation_at k h)) s on c
   challenge_calm w st h s not on c = login_other_calm w st h s not on c
 
@@ -145,13 +145,13 @@ module _ (n : ℕ) (start : ℕ → Option Phase) (k : ℕ) where
 
   -- another connection on which a session is
   record IsFormer (s : Step ItemOut) (j : ℕ) : Type 0 where
-    on : writer_in j s.hall.conns ≡ Some phase.Between
+    on : writer_in j s.server_state.conns ≡ Some phase.Between
     apart : k ≢ j
 
-  former_is : (s : Step ItemOut) → Calm n start s → session_at k s.hall.sessions ≡ None → (q : Session ItemOut → Bool) (u : Session ItemOut) → find q s.hall.sessions ≡ Some u → (j : ℕ) → u.shown.conn ≡ Some j → IsFormer s j
+  former_is : (s : Step ItemOut) → Calm n start s → session_at k s.server_state.sessions ≡ None → (q : Session ItemOut → Bool) (u : Session ItemOut) → find q s.server_state.sessions ≡ Some u → (j : ℕ) → u.shown.conn ≡ Some j → IsFormer s j
   former_is s c none q u found j conn_is = record {
-    on = subst (IsBehind s.hall.conns) conn_is (all_found (SessionStands s.hall.conns) q s.hall.sessions u c.stands.sessions found).on;
-    apart = λ same. true_is_not (sym (eq-eqb j k (sym same)) ∙ sym (ap (is_some_number k) conn_is) ∙ all_found (λ t. is_at k t ≡ false) q s.hall.sessions u (all_apart (is_at k) s.hall.sessions none) found);
+    on = subst (IsAfter s.server_state.conns) conn_is (all_found (SessionStands s.server_state.conns) q s.server_state.sessions u c.stands.sessions found).on;
+    apart = λ same. true_is_not (sym (eq-eqb j k (sym same)) ∙ sym (ap (is_some_number k) conn_is) ∙ all_found (λ t. is_at k t ≡ false) q s.server_state.sessions u (all_apart (is_at k) s.server_state.sessions none) found);
   }
     where
       true_is_not : true ≡ false → ⊥
@@ -162,24 +162,24 @@ module _ (n : ℕ) (start : ℕ → Option Phase) (k : ℕ) where
 
   -- behind the end of another connection this one is as it was
   on_still : (conns : Conns) (j : ℕ) → k ≢ j → writer_in k conns ≡ Some phase.Between → writer_in k (remove_entry (is_number j) conns) ≡ Some phase.Between
-  on_still conns j apart on = ap (option_map writer_of) (found_behind_removal k j conns apart) ∙ on
+  on_still conns j apart on = ap (option_map writer_of) (found_after_removal k j conns apart) ∙ on
 
   bound_calm : (s : Step ItemOut) (o : Option ℕ) (more : ItemOut) → ((j : ℕ) → o ≡ Some j → IsFormer s j) → IsNoFooter more → On s → Calm n start s → Goes (parting_where itself o (error_item stream.Conflict) (steps.Say k more ∷ [])) s
   bound_calm s None more former word on c = put_word n start s k more on word c
   bound_calm s (Some j) more former word on c =
       let f = former j refl in
-      put_word n start (part itself j (error_item stream.Conflict) s) k more (on_still s.hall.conns j f.apart on) word (part_calm n start s j (error_item stream.Conflict) f.on refl c)
+      put_word n start (part itself j (error_item stream.Conflict) s) k more (on_still s.server_state.conns j f.apart on) word (part_calm n start s j (error_item stream.Conflict) f.on refl c)
 
-  binding_calm : (account : ℕ) (id : List ℕ) (o : Option (List ℕ)) (s : Step ItemOut) → session_at k s.hall.sessions ≡ None → On s → Calm n start s → Goes (binding_as itself k account id o s.hall) s
+  binding_calm : (account : ℕ) (id : List ℕ) (o : Option (List ℕ)) (s : Step ItemOut) → session_at k s.server_state.sessions ≡ None → On s → Calm n start s → Goes (binding_as itself k account id o s.server_state) s
   binding_calm account id None s none on c = put_word n start s k (iq_error_item (record { from = None; to = None; id = id }) bad_request) on refl c
   binding_calm account id (Some resource) s none on c =
-      bound_calm (act itself (steps.Bind account resource k) s) (former_of (option_map ended_of (session_named account resource s.hall.sessions))) _ (λ j e. same j (by (session_named account resource s.hall.sessions) refl j e)) refl on
-      (bind_calm n start s account resource k on (all_apart (is_at k) s.hall.sessions none) c)
+      bound_calm (act itself (steps.Bind account resource k) s) (former_of (option_map ended_of (session_named account resource s.server_state.sessions))) _ (λ j e. same j (by (session_named account resource s.server_state.sessions) refl j e)) refl on
+      (bind_calm n start s account resource k on (all_apart (is_at k) s.server_state.sessions none) c)
     where
       same : (j : ℕ) → IsFormer s j → IsFormer (act itself (steps.Bind account resource k) s) j
       same j f = record { on = f.on; apart = f.apart }
 
-      by : (o : Option (Session ItemOut)) → session_named account resource s.hall.sessions ≡ o → (j : ℕ) → former_of (option_map ended_of o) ≡ Some j → IsFormer s j
+      by : (o : Option (Session ItemOut)) → session_named account resource s.server_state.sessions ≡ o → (j : ℕ) → former_of (option_map ended_of o) ≡ Some j → IsFormer s j
       by None found j e = absurd (none-some j e)
       by (Some u) found j e = former_is s c none (is_named account resource) u found j e
 
@@ -198,14 +198,14 @@ module _ (n : ℕ) (start : ℕ → Option Phase) (k : ℕ) where
   again_calm s None first waiting m due former word words on c = saying_calm waiting m due (put k first s) words on (put_word n start s k first on word c)
   again_calm s (Some j) first waiting m due former word words on c =
       let f = former j refl in
-      let still = on_still s.hall.conns j f.apart on in
+      let still = on_still s.server_state.conns j f.apart on in
       saying_calm waiting m due (put k first (part itself j (error_item stream.Conflict) s)) words still (put_word n start (part itself j (error_item stream.Conflict) s) k first still word (part_calm n start s j (error_item stream.Conflict) f.on refl c))
 
-  other_shut : (s : Step ItemOut) (o : Option ℕ) → ((j : ℕ) → o ≡ Some j → writer_in j s.hall.conns ≡ Some phase.Between) → Calm n start s → Goes (parting_where itself o (error_item stream.Conflict) []) s
+  other_shut : (s : Step ItemOut) (o : Option ℕ) → ((j : ℕ) → o ≡ Some j → writer_in j s.server_state.conns ≡ Some phase.Between) → Calm n start s → Goes (parting_where itself o (error_item stream.Conflict) []) s
   other_shut s None former c = c
   other_shut s (Some j) former c = part_calm n start s j (error_item stream.Conflict) (former j refl) refl c
 
-  resume_row : (account : ℕ) (previd : List ℕ) (h : ℕ) (s : Step ItemOut) → session_at k s.hall.sessions ≡ None → On s → Calm n start s → (o : Option (Session ItemOut)) → session_resumed previd account s.hall.sessions ≡ o → Goes (resuming itself k account previd h (resume_answer h o) (resent_where h o)) s
+  resume_row : (account : ℕ) (previd : List ℕ) (h : ℕ) (s : Step ItemOut) → session_at k s.server_state.sessions ≡ None → On s → Calm n start s → (o : Option (Session ItemOut)) → session_resumed previd account s.server_state.sessions ≡ o → Goes (resuming itself k account previd h (resume_answer h o) (resent_where h o)) s
   resume_row account previd h s none on c None found = refusing_calm ItemNotFound s on c
   resume_row account previd h s none on c (Some u) found = by (is_too_high h u)
     where
@@ -213,18 +213,18 @@ module _ (n : ℕ) (start : ℕ → Option Phase) (k : ℕ) where
       former j e = former_is s c none (is_resumed_by previd account) u found j e
 
       one : Calm n start (act itself (steps.Resume previd account h k) s)
-      one = resume_calm n start s previd account h k on (all_apart (is_at k) s.hall.sessions none) c
+      one = resume_calm n start s previd account h k on (all_apart (is_at k) s.server_state.sessions none) c
 
       two : Calm n start (in_sessions (with_session u.shown.number (asks false)) (act itself (steps.Resume previd account h k) s))
       two = session_changed n start (act itself (steps.Resume previd account h k) s) u.shown.number (asks false) (λ t x. record { on = x.on; words = x.words }) (λ t. (refl, refl)) one
 
       words : AllByRecursion IsNoFooter (resent h u)
-      words = All-drop IsNoFooter (ahead h u.acked) u.waiting (all_found (SessionStands s.hall.conns) (is_resumed_by previd account) s.hall.sessions u c.stands.sessions found).words
+      words = All-drop IsNoFooter (ahead h u.acked) u.waiting (all_found (SessionStands s.server_state.conns) (is_resumed_by previd account) s.server_state.sessions u c.stands.sessions found).words
 
       by : (b : Bool) → Goes (resuming itself k account previd h (cond b (Err (TooHigh h (send_count u) u.shown.conn)) (Ok (resume_ok u))) (resent h u)) s
       by true =
           other_shut (part itself k (too_high_item h (send_count u)) (act itself (steps.Resume previd account h k) s)) u.shown.conn
-          (λ j e. ap (option_map writer_of) (found_behind_removal j k s.hall.conns (λ same. (former j e).apart (sym same))) ∙ (former j e).on)
+          (λ j e. ap (option_map writer_of) (found_after_removal j k s.server_state.conns (λ same. (former j e).apart (sym same))) ∙ (former j e).on)
           (part_calm n start (act itself (steps.Resume previd account h k) s) k (too_high_item h (send_count u)) on refl one)
       by false =
           again_calm (in_sessions (with_session u.shown.number (asks false)) (act itself (steps.Resume previd account h k) s)) u.shown.conn (resumed_item u.shown.number u.handled) (resent h u) u.shown.number (nat_le ASKS_AT (length (resent h u)))
@@ -232,49 +232,49 @@ module _ (n : ℕ) (start : ℕ → Option Phase) (k : ℕ) where
 
   -- ---- behind a login, without a session
 
-  ready_iq_calm : (account : ℕ) (kind : IqKind) (q : IqView) (bind : Option Elem) (st : Standing) (s : Step ItemOut) → session_at k s.hall.sessions ≡ None → NotStart st.stage → On s → Calm n start s → Goes (ready_iq itself k account kind q bind st s.hall) s
-  ready_iq_calm account iq.Set q (Some bind) st s none not on c = binding_calm account q.id (result_ok (chosen s.hall.next (asked_resource bind))) s none on c
-  ready_iq_calm account iq.Set q None st s none not on c = ending_calm stream.NotAuthorized st.stage st.entropy s.hall s not on c
-  ready_iq_calm account iq.Get q bind st s none not on c = ending_calm stream.NotAuthorized st.stage st.entropy s.hall s not on c
-  ready_iq_calm account iq.Result q bind st s none not on c = ending_calm stream.NotAuthorized st.stage st.entropy s.hall s not on c
-  ready_iq_calm account iq.Error q bind st s none not on c = ending_calm stream.NotAuthorized st.stage st.entropy s.hall s not on c
+  ready_iq_calm : (account : ℕ) (kind : IqKind) (q : IqView) (bind : Option Elem) (st : Standing) (s : Step ItemOut) → session_at k s.server_state.sessions ≡ None → NotStart st.stage → On s → Calm n start s → Goes (ready_iq itself k account kind q bind st s.server_state) s
+  ready_iq_calm account iq.Set q (Some bind) st s none not on c = binding_calm account q.id (result_ok (chosen s.server_state.next (asked_resource bind))) s none on c
+  ready_iq_calm account iq.Set q None st s none not on c = ending_calm stream.NotAuthorized st.stage st.entropy s.server_state s not on c
+  ready_iq_calm account iq.Get q bind st s none not on c = ending_calm stream.NotAuthorized st.stage st.entropy s.server_state s not on c
+  ready_iq_calm account iq.Result q bind st s none not on c = ending_calm stream.NotAuthorized st.stage st.entropy s.server_state s not on c
+  ready_iq_calm account iq.Error q bind st s none not on c = ending_calm stream.NotAuthorized st.stage st.entropy s.server_state s not on c
 
-  ready_stanza_calm : (account : ℕ) (read : Result Stanza StanzaFault) (st : Standing) (s : Step ItemOut) → session_at k s.hall.sessions ≡ None → NotStart st.stage → On s → Calm n start s → Goes (ready_stanza itself k account read st s.hall) s
+  ready_stanza_calm : (account : ℕ) (read : Result Stanza StanzaFault) (st : Standing) (s : Step ItemOut) → session_at k s.server_state.sessions ≡ None → NotStart st.stage → On s → Calm n start s → Goes (ready_stanza itself k account read st s.server_state) s
   ready_stanza_calm account (Ok (stanza.Iq q)) st s none not on c = ready_iq_calm account q.kind q (first_named binding (codes "bind") q.payload) st s none not on c
-  ready_stanza_calm account (Ok (stanza.Message m)) st s none not on c = ending_calm stream.NotAuthorized st.stage st.entropy s.hall s not on c
-  ready_stanza_calm account (Ok (stanza.Presence p)) st s none not on c = ending_calm stream.NotAuthorized st.stage st.entropy s.hall s not on c
-  ready_stanza_calm account (Err why) st s none not on c = ending_calm stream.NotAuthorized st.stage st.entropy s.hall s not on c
+  ready_stanza_calm account (Ok (stanza.Message m)) st s none not on c = ending_calm stream.NotAuthorized st.stage st.entropy s.server_state s not on c
+  ready_stanza_calm account (Ok (stanza.Presence p)) st s none not on c = ending_calm stream.NotAuthorized st.stage st.entropy s.server_state s not on c
+  ready_stanza_calm account (Err why) st s none not on c = ending_calm stream.NotAuthorized st.stage st.entropy s.server_state s not on c
 
-  ready_calm : (account : ℕ) (w : Word) (st : Standing) (s : Step ItemOut) → session_at k s.hall.sessions ≡ None → NotStart st.stage → On s → Calm n start s → Goes (at_ready itself k account w st s.hall) s
+  ready_calm : (account : ℕ) (w : Word) (st : Standing) (s : Step ItemOut) → session_at k s.server_state.sessions ≡ None → NotStart st.stage → On s → Calm n start s → Goes (at_ready itself k account w st s.server_state) s
   ready_calm account (word.Stanza long read) st s none not on c = ready_stanza_calm account read st s none not on c
-  ready_calm account (word.Resume previd handled) st s none not on c = resume_row account previd handled s none on c (session_resumed previd account s.hall.sessions) refl
+  ready_calm account (word.Resume previd handled) st s none not on c = resume_row account previd handled s none on c (session_resumed previd account s.server_state.sessions) refl
   ready_calm account (word.Enable resume) st s none not on c = refusing_calm UnexpectedRequest s on c
   ready_calm account word.Request st s none not on c = refusing_calm UnexpectedRequest s on c
   ready_calm account (word.Ack handled) st s none not on c = refusing_calm UnexpectedRequest s on c
-  ready_calm account w st s none not on c = any_calm w st s.hall s not on c
+  ready_calm account w st s none not on c = any_calm w st s.server_state s not on c
 
   -- ---- with one
 
-  judging_calm : (read : Result Stanza StanzaFault) (t : Told) (st : Standing) (o : Option StreamCondition) (s : Step ItemOut) → NotStart st.stage → On s → Calm n start s → Goes (judging itself k read t st o s.hall) s
-  judging_calm read t st None s not on c = quiet_calm n start _ s (counted_q n start read t s.hall) c
-  judging_calm read t st (Some condition) s not on c = ending_calm condition st.stage st.entropy s.hall s not on c
+  judging_calm : (read : Result Stanza StanzaFault) (t : SessionInfo) (st : Standing) (o : Option StreamCondition) (s : Step ItemOut) → NotStart st.stage → On s → Calm n start s → Goes (judging itself k read t st o s.server_state) s
+  judging_calm read t st None s not on c = quiet_calm n start _ s (counted_q n start read t s.server_state) c
+  judging_calm read t st (Some condition) s not on c = ending_calm condition st.stage st.entropy s.server_state s not on c
 
-  stanza_calm : (long : Bool) (read : Result Stanza StanzaFault) (t : Told) (st : Standing) (s : Step ItemOut) → NotStart st.stage → On s → Calm n start s → Goes (at_stanza itself k long read t st s.hall) s
-  stanza_calm true read t st s not on c = ending_calm stream.PolicyViolation st.stage st.entropy s.hall s not on c
-  stanza_calm false read t st s not on c = judging_calm read t st (stanza_condition read t s.hall) s not on c
+  stanza_calm : (long : Bool) (read : Result Stanza StanzaFault) (t : SessionInfo) (st : Standing) (s : Step ItemOut) → NotStart st.stage → On s → Calm n start s → Goes (at_stanza itself k long read t st s.server_state) s
+  stanza_calm true read t st s not on c = ending_calm stream.PolicyViolation st.stage st.entropy s.server_state s not on c
+  stanza_calm false read t st s not on c = judging_calm read t st (stanza_condition read t s.server_state) s not on c
 
   enabled_word : (m : ℕ) (b : Bool) → IsNoFooter (enabled_as m b)
   enabled_word m true = refl
   enabled_word m false = refl
 
-  enable_calm : (resume : Bool) (t : Told) (s : Step ItemOut) → On s → Calm n start s → Goes (at_enable itself k resume t) s
+  enable_calm : (resume : Bool) (t : SessionInfo) (s : Step ItemOut) → On s → Calm n start s → Goes (at_enable itself k resume t) s
   enable_calm resume t s on c = by t.counted
     where
       by : (b : Bool) → Goes (cond b (refusing itself k UnexpectedRequest) (steps.Enable t.number resume ∷ steps.Say k (itself (enabled_as t.number resume)) ∷ [])) s
       by true = refusing_calm UnexpectedRequest s on c
       by false = put_word n start (act itself (steps.Enable t.number resume) s) k (enabled_as t.number resume) on (enabled_word t.number resume) (quiet_calm n start (steps.Enable t.number resume ∷ []) s (tt, tt) c)
 
-  request_calm : (t : Told) (s : Step ItemOut) → On s → Calm n start s → Goes (at_request itself k t) s
+  request_calm : (t : SessionInfo) (s : Step ItemOut) → On s → Calm n start s → Goes (at_request itself k t) s
   request_calm t s on c = by t.counted
     where
       by : (b : Bool) → Goes (cond b (steps.Say k (itself (ack_item t.handled)) ∷ []) (refusing itself k UnexpectedRequest)) s
@@ -286,60 +286,60 @@ module _ (n : ℕ) (start : ℕ → Option Phase) (k : ℕ) where
   acknowledging_calm m h (Some (Ok more)) s on c = quiet_calm n start (steps.Acknowledge m h ∷ steps.Ask m false ∷ []) s (tt, (tt, tt)) c
   acknowledging_calm m h (Some (Err why)) s on c = part_calm n start s k (too_high_item why.h why.send_count) on refl c
 
-  ack_calm : (h : ℕ) (t : Told) (s : Step ItemOut) → On s → Calm n start s → Goes (at_ack itself k h t s.hall) s
+  ack_calm : (h : ℕ) (t : SessionInfo) (s : Step ItemOut) → On s → Calm n start s → Goes (at_ack itself k h t s.server_state) s
   ack_calm h t s on c = by t.counted
     where
-      by : (b : Bool) → Goes (cond b (acknowledging itself k t.number h (option_map (ack_answer h) (session_of t.number s.hall.sessions))) (refusing itself k UnexpectedRequest)) s
-      by true = acknowledging_calm t.number h (option_map (ack_answer h) (session_of t.number s.hall.sessions)) s on c
+      by : (b : Bool) → Goes (cond b (acknowledging itself k t.number h (option_map (ack_answer h) (session_of t.number s.server_state.sessions))) (refusing itself k UnexpectedRequest)) s
+      by true = acknowledging_calm t.number h (option_map (ack_answer h) (session_of t.number s.server_state.sessions)) s on c
       by false = refusing_calm UnexpectedRequest s on c
 
-  bound_row : (w : Word) (t : Told) (st : Standing) (s : Step ItemOut) → NotStart st.stage → On s → Calm n start s → Goes (at_bound itself k w t st s.hall) s
+  bound_row : (w : Word) (t : SessionInfo) (st : Standing) (s : Step ItemOut) → NotStart st.stage → On s → Calm n start s → Goes (at_bound itself k w t st s.server_state) s
   bound_row (word.Stanza long read) t st s not on c = stanza_calm long read t st s not on c
   bound_row (word.Enable resume) t st s not on c = enable_calm resume t s on c
   bound_row word.Request t st s not on c = request_calm t s on c
   bound_row (word.Ack handled) t st s not on c = ack_calm handled t s on c
   bound_row (word.Resume previd handled) t st s not on c = refusing_calm UnexpectedRequest s on c
-  bound_row w t st s not on c = any_calm w st s.hall s not on c
+  bound_row w t st s not on c = any_calm w st s.server_state s not on c
 
-  ready_or_bound : (account : ℕ) (w : Word) (st : Standing) (s : Step ItemOut) → NotStart st.stage → On s → Calm n start s → (o : Option (Session ItemOut)) → session_at k s.hall.sessions ≡ o → Goes (at_ready_or_bound itself k account w (option_map told o) st s.hall) s
+  ready_or_bound : (account : ℕ) (w : Word) (st : Standing) (s : Step ItemOut) → NotStart st.stage → On s → Calm n start s → (o : Option (Session ItemOut)) → session_at k s.server_state.sessions ≡ o → Goes (at_ready_or_bound itself k account w (option_map told o) st s.server_state) s
   ready_or_bound account w st s not on c None found = ready_calm account w st s found not on c
   ready_or_bound account w st s not on c (Some u) found = bound_row w (told u) st s not on c
 
   -- ---- items
 
-  answered_calm : (account : ℕ) (left : Tries) (entropy : List ℕ) (a : HeaderAnswer) (s : Step ItemOut) → On s → Calm n start s → Goes (answering_header itself k (record { stage = stage.Restart account; tries = left; entropy = entropy }) a s.hall) s
+  answered_calm : (account : ℕ) (left : Tries) (entropy : List ℕ) (a : HeaderAnswer) (s : Step ItemOut) → On s → Calm n start s → Goes (answering_header itself k (record { stage = stage.Restart account; tries = left; entropy = entropy }) a s.server_state) s
   answered_calm account left entropy Opens s on c =
-      let header = header_item s.hall.domain k entropy in
+      let header = header_item s.server_state.domain k entropy in
       entered n start (put k session_features_item (put k header s)) k (in_phase (conn.Ready account)) (λ y. refl) on (put_word n start (put k header s) k session_features_item on refl (put_word n start s k header on refl c))
   answered_calm account left entropy (Refused why) s on c = part_calm n start s k (error_item (header_condition why)) on refl c
 
-  first_calm : (left : Tries) (entropy : List ℕ) (a : HeaderAnswer) (s : Step ItemOut) (x : Connection) → lookup (is_number k) s.hall.conns ≡ Some x → writer_of x ≡ phase.First → Calm n start s
-      → Goes (answering_header itself k (record { stage = stage.Start; tries = left; entropy = entropy }) a s.hall) s
+  first_calm : (left : Tries) (entropy : List ℕ) (a : HeaderAnswer) (s : Step ItemOut) (x : Connection) → lookup (is_number k) s.server_state.conns ≡ Some x → writer_of x ≡ phase.First → Calm n start s
+      → Goes (answering_header itself k (record { stage = stage.Start; tries = left; entropy = entropy }) a s.server_state) s
   first_calm left entropy Opens s x found first c = opens_first n start s k _ login_features_item (in_phase conn.Login) x found first refl refl c
   first_calm left entropy (Refused why) s x found first c = ends_first n start s k _ (header_condition why) (ap (option_map writer_of) found ∙ ap Some first) c
 
-  pub row_calm : (i : Item) (p : ConnPhase) (left : Tries) (entropy : List ℕ) (s : Step ItemOut) (x : Connection) → lookup (is_number k) s.hall.conns ≡ Some x → writer_of x ≡ phase_of p → (Some (phase_of p) ≡ Some phase.First → IsHeader i) → Calm n start s
-      → Goes (at_item itself k i (record { stage = stage_of p; tries = left; entropy = entropy }) s.hall) s
-  row_calm (item.Header at h) conn.Start left entropy s x found w may c = first_calm left entropy (header_answer s.hall.domain h) s x found w c
+  pub row_calm : (i : Item) (p : ConnPhase) (left : Tries) (entropy : List ℕ) (s : Step ItemOut) (x : Connection) → lookup (is_number k) s.server_state.conns ≡ Some x → writer_of x ≡ phase_of p → (Some (phase_of p) ≡ Some phase.First → IsHeader i) → Calm n start s
+      → Goes (at_item itself k i (record { stage = stage_of p; tries = left; entropy = entropy }) s.server_state) s
+  row_calm (item.Header at h) conn.Start left entropy s x found w may c = first_calm left entropy (header_answer s.server_state.domain h) s x found w c
   row_calm (item.Element e) conn.Start left entropy s x found w may c = absurd (may refl)
   row_calm item.Footer conn.Start left entropy s x found w may c = absurd (may refl)
   row_calm (item.Header at h) conn.Login left entropy s x found w may c = part_calm n start s k (error_item stream.UnsupportedStanzaType) (ap (option_map writer_of) found ∙ ap Some w) refl c
-  row_calm (item.Element e) conn.Login left entropy s x found w may c = login_calm (word_of e) (record { stage = stage.Login; tries = left; entropy = entropy }) s.hall s tt (ap (option_map writer_of) found ∙ ap Some w) c
+  row_calm (item.Element e) conn.Login left entropy s x found w may c = login_calm (word_of e) (record { stage = stage.Login; tries = left; entropy = entropy }) s.server_state s tt (ap (option_map writer_of) found ∙ ap Some w) c
   row_calm item.Footer conn.Login left entropy s x found w may c = shut_footer n start s k (ap (option_map writer_of) found ∙ ap Some w) c
   row_calm (item.Header at h) (conn.Challenge m) left entropy s x found w may c = part_calm n start s k (error_item stream.UnsupportedStanzaType) (ap (option_map writer_of) found ∙ ap Some w) refl c
-  row_calm (item.Element e) (conn.Challenge m) left entropy s x found w may c = challenge_calm (word_of e) (record { stage = stage.Challenge; tries = left; entropy = entropy }) s.hall s tt (ap (option_map writer_of) found ∙ ap Some w) c
+  row_calm (item.Element e) (conn.Challenge m) left entropy s x found w may c = challenge_calm (word_of e) (record { stage = stage.Challenge; tries = left; entropy = entropy }) s.server_state s tt (ap (option_map writer_of) found ∙ ap Some w) c
   row_calm item.Footer (conn.Challenge m) left entropy s x found w may c = shut_footer n start s k (ap (option_map writer_of) found ∙ ap Some w) c
-  row_calm (item.Header at h) (conn.Restart account) left entropy s x found w may c = answered_calm account left entropy (header_answer s.hall.domain h) s (ap (option_map writer_of) found ∙ ap Some w) c
-  row_calm (item.Element e) (conn.Restart account) left entropy s x found w may c = any_calm (word_of e) (record { stage = stage.Restart account; tries = left; entropy = entropy }) s.hall s tt (ap (option_map writer_of) found ∙ ap Some w) c
+  row_calm (item.Header at h) (conn.Restart account) left entropy s x found w may c = answered_calm account left entropy (header_answer s.server_state.domain h) s (ap (option_map writer_of) found ∙ ap Some w) c
+  row_calm (item.Element e) (conn.Restart account) left entropy s x found w may c = any_calm (word_of e) (record { stage = stage.Restart account; tries = left; entropy = entropy }) s.server_state s tt (ap (option_map writer_of) found ∙ ap Some w) c
   row_calm item.Footer (conn.Restart account) left entropy s x found w may c = shut_footer n start s k (ap (option_map writer_of) found ∙ ap Some w) c
   row_calm (item.Header at h) (conn.Ready account) left entropy s x found w may c = part_calm n start s k (error_item stream.UnsupportedStanzaType) (ap (option_map writer_of) found ∙ ap Some w) refl c
   row_calm (item.Element e) (conn.Ready account) left entropy s x found w may c =
-      ready_or_bound account (word_of e) (record { stage = stage.Ready account; tries = left; entropy = entropy }) s tt (ap (option_map writer_of) found ∙ ap Some w) c (session_at k s.hall.sessions) refl
+      ready_or_bound account (word_of e) (record { stage = stage.Ready account; tries = left; entropy = entropy }) s tt (ap (option_map writer_of) found ∙ ap Some w) c (session_at k s.server_state.sessions) refl
   row_calm item.Footer (conn.Ready account) left entropy s x found w may c = shut_footer n start s k (ap (option_map writer_of) found ∙ ap Some w) c
 
-  pub item_calm : (i : Item) (s : Step ItemOut) → (writer_in k s.hall.conns ≡ Some phase.First → IsHeader i) → Calm n start s → Calm n start (after_item itself k i s)
-  item_calm i s may c = by (conn_at k s.hall) refl
+  pub item_calm : (i : Item) (s : Step ItemOut) → (writer_in k s.server_state.conns ≡ Some phase.First → IsHeader i) → Calm n start s → Calm n start (after_item itself k i s)
+  item_calm i s may c = by (conn_at k s.server_state) refl
     where
-      by : (o : Option Connection) → conn_at k s.hall ≡ o → Calm n start (acted itself (at_open itself k i (option_map standing_of o) s.hall) s)
+      by : (o : Option Connection) → conn_at k s.server_state ≡ o → Calm n start (acted itself (at_open itself k i (option_map standing_of o) s.server_state) s)
       by None found = c
       by (Some x) found = row_calm i x.phase x.tries x.entropy s x found refl (λ e. may (ap (option_map writer_of) found ∙ e)) c

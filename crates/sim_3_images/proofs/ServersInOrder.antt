@@ -6,7 +6,7 @@ use Rattle.std.specs.Map.{lookup, remove_entry}
 use Rattle.std.specs.Option.{option_map}
 use Rattle.std.specs.Ordering.{nat_cmp}
 use Rattle.srv_state.specs.Moments.{at_moment, fresh_conn, gone_at, with_fresh}
-use Rattle.srv_state.specs.State.{Hall, Out, Put, Shut, Step, Took, changed, conn_at, is_number}
+use Rattle.srv_state.specs.State.{Out, Put, ServerState, Shut, Step, Took, changed, conn_at, is_number}
 use Rattle.srv_state.specs.Steps.{acted, in_phase}
 use Rattle.srv_state.specs.Streams.{answering_header, stage_of, standing_of}
 use Rattle.srv_state.specs.declared.connection.Phase.{Phase as ConnPhase}
@@ -29,31 +29,31 @@ use Rattle.sm_resumption.proofs.StoredFacts.{at_conn}
 use Rattle.sm_resumption.specs.Rows.{is_some_number}
 use Rattle.sim_3_images.proofs.Beginnings.{first_before}
 use Rattle.sim_3_images.proofs.ConnsKept.{absent, all_filtered, differ_inserted, differ_removed, few_inserted, few_removed, removed_none}
-use Rattle.sim_3_images.proofs.Lookups.{found_behind_removal, found_behind_value, found_beside_inserted}
+use Rattle.sim_3_images.proofs.Lookups.{found_after_removal, found_after_value, found_beside_inserted}
 use Rattle.sim_3_images.proofs.RowsInOrder.{IsHeader, item_calm}
 use Rattle.sim_3_images.proofs.StepsInOrder.{Calm}
 use Rattle.sim_3_images.proofs.WireSteps.{all_mapped}
-use Rattle.sim_3_images.specs.ImagesCores.{AreInOrder, CoresFit, IsInOrder, MayCome, behind_put, behind_shut, phase_of, writer_at, writer_of}
-use Rattle.sim_3_images.specs.ImagesOwed.{CoresKeep}
-use Rattle.sim_3_images.specs.Stands.{Alone, Any, Apart, Conns, Differ, HallStands, IsBehind, OutPuts, SessionStands, StandingHalls, writer_in}
+use Rattle.sim_3_images.specs.EncodingsCores.{AreInOrder, CoresFit, IsInOrder, MayCome, after_put, after_shut, phase_of, writer_at, writer_of}
+use Rattle.sim_3_images.specs.EncodingsOwed.{CoresKeep}
+use Rattle.sim_3_images.specs.Stands.{Alone, Any, Apart, Conns, Differ, IsAfter, OutPuts, ServerStateStands, SessionStands, StandingServers, writer_in}
 use Rattle.sim_3_items.specs.ItemMoves.{step_of}
 use Rattle.sim_3_items.specs.ItemWorlds.{itself, read_of}
 use Rattle.sm_live.specs.Sessions.{Session, is_at, lost, parked, session_at, with_session, without}
 use Rattle.srv_login.specs.declared.account.Account.{Account}
-use Rattle.srv_core.specs.Configs.{hall_at_start}
+use Rattle.srv_core.specs.Configs.{server_state_at_start}
 use Rattle.srv_core.specs.Table.{after_item, at_item, at_open}
 use Rattle.xml_writer.specs.Items.{Closing, ItemOut, Opening, Whole}
 
 -- ---- moments, and connections that come and go
 
-pub moment_stands : (n now : ℕ) (h : Hall ItemOut) → HallStands n h → HallStands n (at_moment now h)
+pub moment_stands : (n now : ℕ) (h : ServerState ItemOut) → ServerStateStands n h → ServerStateStands n (at_moment now h)
 moment_stands n now h c = record { differ = c.differ; few = c.few; sessions = all_filtered (SessionStands h.conns) (SessionStands h.conns) _ h.sessions (λ t x e. x) c.sessions; alone = alone_filtered _ h.sessions c.alone }
 
 more_few : (n : ℕ) (es : Conns) → AllByRecursion (λ (e : ℕ × Connection). e.0 ≤ n) es → AllByRecursion (λ (e : ℕ × Connection). e.0 ≤ n + 1) es
 more_few n [] all = tt
 more_few n (e ∷ es) all = (let below = all.0 in omega (arith, below), more_few n es all.1)
 
-pub fresh_stands : (n : ℕ) (entropy : List ℕ) (h : Hall ItemOut) → HallStands n h → HallStands (n + 1) (with_fresh (n + 1) entropy h)
+pub fresh_stands : (n : ℕ) (entropy : List ℕ) (h : ServerState ItemOut) → ServerStateStands n h → ServerStateStands (n + 1) (with_fresh (n + 1) entropy h)
 fresh_stands n entropy h c = record {
   differ = differ_inserted (n + 1) (fresh_conn entropy) h.conns (absent n h.conns c.few) c.differ;
   few = few_inserted (n + 1) (n + 1) (fresh_conn entropy) h.conns (omega arith) (more_few n h.conns c.few);
@@ -64,14 +64,14 @@ fresh_stands n entropy h c = record {
     none_is_not : (o : Option Phase) → o ≡ None → o ≡ Some phase.Between → ⊥
     none_is_not o e f = cc
 
-    on : (o : Option ℕ) → IsBehind h.conns o → IsBehind (insert_entry nat_cmp h.conns (n + 1) (fresh_conn entropy)) o
+    on : (o : Option ℕ) → IsAfter h.conns o → IsAfter (insert_entry nat_cmp h.conns (n + 1) (fresh_conn entropy)) o
     on None x = tt
     on (Some q) x = ap (option_map writer_of) (found_beside_inserted q (n + 1) (fresh_conn entropy) h.conns (λ same. none_is_not (writer_in q h.conns) (ap (λ m. writer_in m h.conns) same ∙ ap (option_map writer_of) (absent n h.conns c.few)) x)) ∙ x
 
 -- behind a connection that is gone
-gone_on : (k : ℕ) (conns : Conns) (o : Option ℕ) → is_some_number k o ≡ false → IsBehind conns o → IsBehind (remove_entry (is_number k) conns) o
+gone_on : (k : ℕ) (conns : Conns) (o : Option ℕ) → is_some_number k o ≡ false → IsAfter conns o → IsAfter (remove_entry (is_number k) conns) o
 gone_on k conns None e x = tt
-gone_on k conns (Some q) e x = ap (option_map writer_of) (found_behind_removal q k conns (λ same. true_is_not (sym (eq-eqb q k same) ∙ e))) ∙ x
+gone_on k conns (Some q) e x = ap (option_map writer_of) (found_after_removal q k conns (λ same. true_is_not (sym (eq-eqb q k same) ∙ e))) ∙ x
   where
     true_is_not : true ≡ false → ⊥
     true_is_not x = cc
@@ -171,17 +171,17 @@ lost_stands now k conns l (Some u) found all a = by u.shown.resumable
       alone_filtered (λ t. not (t.shown.number == u.shown.number)) l a,
     )
 
-pub gone_stands : (n k : ℕ) (h : Hall ItemOut) → HallStands n h → HallStands n (gone_at k h)
+pub gone_stands : (n k : ℕ) (h : ServerState ItemOut) → ServerStateStands n h → ServerStateStands n (gone_at k h)
 gone_stands n k h c =
     let x = lost_stands h.moment k h.conns h.sessions (session_at k h.sessions) refl c.sessions c.alone in
     record { differ = differ_removed k h.conns c.differ; few = few_removed n k h.conns c.few; sessions = x.0; alone = x.1 }
 
 -- ---- the beginning, and items
 
-pub start_stands : (n : ℕ) (domain : List ℕ) (accounts : List Account) (keep : ℕ) → HallStands n (hall_at_start domain accounts keep)
+pub start_stands : (n : ℕ) (domain : List ℕ) (accounts : List Account) (keep : ℕ) → ServerStateStands n (server_state_at_start domain accounts keep)
 start_stands n domain accounts keep = record { differ = tt; few = tt; sessions = tt; alone = tt }
 
-begun_calm : (n : ℕ) (h : Hall ItemOut) → HallStands n h → Calm n (λ j. writer_at j h) (step_of h)
+begun_calm : (n : ℕ) (h : ServerState ItemOut) → ServerStateStands n h → Calm n (λ j. writer_at j h) (step_of h)
 begun_calm n h c = record { order = λ j. refl; stands = c }
 
 may_come : (i : ItemOut) (now : Option Phase) → MayCome now i → now ≡ Some phase.First → IsHeader (read_of i)
@@ -189,7 +189,7 @@ may_come (Opening h) now may first = tt
 may_come (Whole e) now may first = may first
 may_come Closing now may first = may first
 
-pub after_item_calm : (n k : ℕ) (i : ItemOut) (h : Hall ItemOut) → HallStands n h → MayCome (writer_at k h) i → Calm n (λ j. writer_at j h) (after_item itself k (read_of i) (step_of h))
+pub after_item_calm : (n k : ℕ) (i : ItemOut) (h : ServerState ItemOut) → ServerStateStands n h → MayCome (writer_at k h) i → Calm n (λ j. writer_at j h) (after_item itself k (read_of i) (step_of h))
 after_item_calm n k i h c may = item_calm n (λ j. writer_at j h) k (read_of i) (step_of h) (may_come i (writer_at k h) may) (begun_calm n h c)
 
 -- ---- what fits, in order
@@ -201,8 +201,8 @@ in_order_fits Fits true (Some p) i fits x = (x.0, fits)
 
 pub fitting_in_order : (Fits : ItemOut → Type 0) (j : ℕ) (now later : Option Phase) (outs : List (Out ItemOut)) → AllByRecursion (OutPuts Fits) outs → AreInOrder Any j now outs later → AreInOrder Fits j now outs later
 fitting_in_order Fits j now later [] fit order = order
-fitting_in_order Fits j now later (Put k i ∷ outs) fit order = (in_order_fits Fits (is_number j k) now i fit.0 order.0, fitting_in_order Fits j (behind_put (is_number j k) now i) later outs fit.1 order.1)
-fitting_in_order Fits j now later (Shut k ∷ outs) fit order = fitting_in_order Fits j (behind_shut (is_number j k) now) later outs fit.1 order
+fitting_in_order Fits j now later (Put k i ∷ outs) fit order = (in_order_fits Fits (is_number j k) now i fit.0 order.0, fitting_in_order Fits j (after_put (is_number j k) now i) later outs fit.1 order.1)
+fitting_in_order Fits j now later (Shut k ∷ outs) fit order = fitting_in_order Fits j (after_shut (is_number j k) now) later outs fit.1 order
 fitting_in_order Fits j now later (Took from to origin ∷ outs) fit order = fitting_in_order Fits j now later outs fit.1 order
 
 -- ---- the first header
@@ -213,19 +213,19 @@ first_is_not o e f = cc
 none_is_not : (o : Option Phase) → o ≡ Some phase.First → o ≡ None → ⊥
 none_is_not o e f = cc
 
-answered : (k : ℕ) (left : Tries) (entropy : List ℕ) (a : HeaderAnswer) (s : Step ItemOut) (x : Connection) → lookup (is_number k) s.hall.conns ≡ Some x → Differ s.hall.conns
-    → writer_in k (acted itself (answering_header itself k (record { stage = stage.Start; tries = left; entropy = entropy }) a s.hall) s).hall.conns ≡ Some phase.First → ⊥
+answered : (k : ℕ) (left : Tries) (entropy : List ℕ) (a : HeaderAnswer) (s : Step ItemOut) (x : Connection) → lookup (is_number k) s.server_state.conns ≡ Some x → Differ s.server_state.conns
+    → writer_in k (acted itself (answering_header itself k (record { stage = stage.Start; tries = left; entropy = entropy }) a s.server_state) s).server_state.conns ≡ Some phase.First → ⊥
 answered k left entropy Opens s x found d first =
-    first_is_not (writer_in k (changed k (in_phase conn.Login) (conn_at k s.hall) s.hall.conns)) first
-    (ap (λ o. writer_in k (changed k (in_phase conn.Login) o s.hall.conns)) found ∙ ap (option_map writer_of) (found_behind_value k s.hall.conns x (in_phase conn.Login x) found))
-answered k left entropy (Refused why) s x found d first = none_is_not (writer_in k (remove_entry (is_number k) s.hall.conns)) first (ap (option_map writer_of) (removed_none k s.hall.conns d))
+    first_is_not (writer_in k (changed k (in_phase conn.Login) (conn_at k s.server_state) s.server_state.conns)) first
+    (ap (λ o. writer_in k (changed k (in_phase conn.Login) o s.server_state.conns)) found ∙ ap (option_map writer_of) (found_after_value k s.server_state.conns x (in_phase conn.Login x) found))
+answered k left entropy (Refused why) s x found d first = none_is_not (writer_in k (remove_entry (is_number k) s.server_state.conns)) first (ap (option_map writer_of) (removed_none k s.server_state.conns d))
 
 between_is_not : Some phase.Between ≡ Some phase.First → ⊥
 between_is_not e = cc
 
-opened_row : (k : ℕ) (i : Item) (p : ConnPhase) (left : Tries) (entropy : List ℕ) (s : Step ItemOut) (x : Connection) → lookup (is_number k) s.hall.conns ≡ Some x → Differ s.hall.conns → Some (phase_of p) ≡ Some phase.First → IsHeader i
-    → writer_in k (acted itself (at_item itself k i (record { stage = stage_of p; tries = left; entropy = entropy }) s.hall) s).hall.conns ≡ Some phase.First → ⊥
-opened_row k (item.Header at h) conn.Start left entropy s x found d here header first = answered k left entropy (header_answer s.hall.domain h) s x found d first
+opened_row : (k : ℕ) (i : Item) (p : ConnPhase) (left : Tries) (entropy : List ℕ) (s : Step ItemOut) (x : Connection) → lookup (is_number k) s.server_state.conns ≡ Some x → Differ s.server_state.conns → Some (phase_of p) ≡ Some phase.First → IsHeader i
+    → writer_in k (acted itself (at_item itself k i (record { stage = stage_of p; tries = left; entropy = entropy }) s.server_state) s).server_state.conns ≡ Some phase.First → ⊥
+opened_row k (item.Header at h) conn.Start left entropy s x found d here header first = answered k left entropy (header_answer s.server_state.domain h) s x found d first
 opened_row k (item.Element e) conn.Start left entropy s x found d here header first = absurd header
 opened_row k item.Footer conn.Start left entropy s x found d here header first = absurd header
 opened_row k i conn.Login left entropy s x found d here header first = between_is_not here
@@ -233,24 +233,24 @@ opened_row k i (conn.Challenge m) left entropy s x found d here header first = b
 opened_row k i (conn.Restart account) left entropy s x found d here header first = between_is_not here
 opened_row k i (conn.Ready account) left entropy s x found d here header first = between_is_not here
 
-pub opened_after : (n k : ℕ) (i : ItemOut) (h : Hall ItemOut) → HallStands n h → MayCome (writer_at k h) i → writer_at k (after_item itself k (read_of i) (step_of h)).hall ≡ Some phase.First → ⊥
+pub opened_after : (n k : ℕ) (i : ItemOut) (h : ServerState ItemOut) → ServerStateStands n h → MayCome (writer_at k h) i → writer_at k (after_item itself k (read_of i) (step_of h)).server_state ≡ Some phase.First → ⊥
 opened_after n k i h c may first = by (conn_at k h) refl first
   where
     nothing : None ≡ Some phase.First → ⊥
     nothing e = cc
 
     before : writer_at k h ≡ Some phase.First
-    before = first_before Any k (after_item itself k (read_of i) (step_of h)).outs (writer_at k h) (writer_at k (after_item itself k (read_of i) (step_of h)).hall) ((after_item_calm n k i h c may).order k) first
+    before = first_before Any k (after_item itself k (read_of i) (step_of h)).outs (writer_at k h) (writer_at k (after_item itself k (read_of i) (step_of h)).server_state) ((after_item_calm n k i h c may).order k) first
 
-    by : (o : Option Connection) → conn_at k h ≡ o → writer_in k (acted itself (at_open itself k (read_of i) (option_map standing_of o) h) (step_of h)).hall.conns ≡ Some phase.First → ⊥
+    by : (o : Option Connection) → conn_at k h ≡ o → writer_in k (acted itself (at_open itself k (read_of i) (option_map standing_of o) h) (step_of h)).server_state.conns ≡ Some phase.First → ⊥
     by None found e = nothing (sym (ap (option_map writer_of) found) ∙ before)
     by (Some x) found e = opened_row k (read_of i) x.phase x.tries x.entropy (step_of h) x found c.differ (sym (ap (option_map writer_of) found) ∙ before) (may_come i (writer_at k h) may before) e
 
 -- ---- what is owed, of what a server keeps alone
 
-pub cores_fit : (UpFits DownFits : ItemOut → Type 0) (HallKeeps : Hall ItemOut → Type 0) (ClientFits : ClientView ItemOut → Type 0) → CoresKeep UpFits DownFits HallKeeps ClientFits
-    → CoresFit UpFits DownFits (StandingHalls HallKeeps) ClientFits
-cores_fit UpFits DownFits HallKeeps ClientFits keep = record {
+pub cores_fit : (UpFits DownFits : ItemOut → Type 0) (ServerKeeps : ServerState ItemOut → Type 0) (ClientFits : ClientView ItemOut → Type 0) → CoresKeep UpFits DownFits ServerKeeps ClientFits
+    → CoresFit UpFits DownFits (StandingServers ServerKeeps) ClientFits
+cores_fit UpFits DownFits ServerKeeps ClientFits keep = record {
   up_limits = keep.up_limits;
   down_limits = keep.down_limits;
   footer = keep.footer;
@@ -259,7 +259,7 @@ cores_fit UpFits DownFits HallKeeps ClientFits keep = record {
   goes = λ n k h x. (gone_stands n k h x.0, keep.goes k h x.1);
   handles = λ n k i h x few fits may. ((after_item_calm n k i h x.0 may).stands, keep.handles k i h x.1 fits);
   in_order = λ n k i h j x few fits may.
-      fitting_in_order DownFits j (writer_at j h) (writer_at j (after_item itself k (read_of i) (step_of h)).hall) (after_item itself k (read_of i) (step_of h)).outs (keep.puts k i h x.1 fits) ((after_item_calm n k i h x.0 may).order j);
+      fitting_in_order DownFits j (writer_at j h) (writer_at j (after_item itself k (read_of i) (step_of h)).server_state) (after_item itself k (read_of i) (step_of h)).outs (keep.puts k i h x.1 fits) ((after_item_calm n k i h x.0 may).order j);
   opened = λ n k i h x few fits may. opened_after n k i h x.0 may;
   client = keep.client;
 }

@@ -5,12 +5,12 @@ use Rattle.std.proofs.lemmas.Slice.Eq.{bytes_eq-Decides}
 use Rattle.std.specs.List.{AllByRecursion, flat_map, list_all}
 use Rattle.std.specs.Prelude.{IsTrue, nat_le}
 use Rattle.std.specs.Str.{bytes_eq}
-use Rattle.sim_3_images.specs.Mild.{ClientFits, HallFits}
+use Rattle.sim_3_images.specs.Relayable.{ClientFits, ServerFits}
 use Rattle.cmd_network.proofs.Names.{domain_stays, local_stays}
 use Rattle.cmd_network.specs.Starting.{accounts_at_start, password_of}
 use Rattle.base_io.specs.Names.{is_among}
 use Rattle.sim_3_images.specs.ItemStarts.{item_device}
-use Rattle.sim_3_images.specs.ImagesOwed.{StartKeeps}
+use Rattle.sim_3_images.specs.EncodingsOwed.{StartKeeps}
 use Rattle.srv_login.specs.Accounts.{is_normal_local}
 use Rattle.cmd_report.specs.Addresses.{domain}
 use Rattle.cmd_schedule.specs.Contents.{Owned, accounts_of, owned_in}
@@ -69,7 +69,7 @@ device_fits : (o : Owned) → Named o → ClientFits (item_device o).client
 device_fits o named = record {
   within = record { account = account_within o.account (password_of o.account) o.device named.0 named.1; log = record { entries = tt; page = tt }; epoch = omega arith; session = tt; phase = tt };
   no_end = tt;
-  mild = record { name = name_short o.account named.0; queue = tt };
+  relayable = record { name = name_short o.account named.0; queue = tt };
 }
 
 devices_fit : (os : List Owned) → AllByRecursion Named os → AllByRecursion (λ o. ClientFits (item_device o).client) os
@@ -120,11 +120,11 @@ owned_named (line ∷ lines) above known run = owned_more line.number line.step 
 
 -- ---- a schedule
 
-pub start_keeps : (schedule : WireView) → IsWireSchedule schedule → StartKeeps HallFits ClientFits schedule
+pub start_keeps : (schedule : WireView) → IsWireSchedule schedule → StartKeeps ServerFits ClientFits schedule
 start_keeps schedule is =
     let run = may_run_all schedule is in
     let names = are_names (accounts_of (common_steps schedule)) (are_accounts schedule run) in
     record {
-      hall = (start_kept domain (accounts_at_start (accounts_of (common_steps schedule))) (keep_of schedule.version) normal_domain (accounts_keep (accounts_of (common_steps schedule)) names) (keep_small schedule.version is.keeps), tt);
+      server_state = (start_kept domain (accounts_at_start (accounts_of (common_steps schedule))) (keep_of schedule.version) normal_domain (accounts_keep (accounts_of (common_steps schedule)) names) (keep_small schedule.version is.keeps), tt);
       clients = devices_fit (owned_in (common_steps schedule)) (owned_named schedule.lines nothing_above tt run);
     }

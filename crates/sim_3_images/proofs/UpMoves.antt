@@ -8,7 +8,7 @@ use Rattle.std.specs.Map.{set_value}
 use Rattle.std.specs.Option.{option_map}
 use Rattle.cl_handlers.specs.Clients.{ClientView}
 use Rattle.srv_state.specs.Moments.{at_moment}
-use Rattle.srv_state.specs.State.{Hall, Out, Put, Shut, Step, Took, is_number}
+use Rattle.srv_state.specs.State.{Out, Put, ServerState, Shut, Step, Took, is_number}
 use Rattle.srv_state.specs.Streams.{standing_at}
 use Rattle.srv_state.specs.Steps.{acted}
 use Rattle.srv_state.specs.declared.connection.Standing.{Standing as ConnStanding}
@@ -21,16 +21,16 @@ use Rattle.xml_framer.specs.declared.states.Phase.TheVariants as phase
 use Rattle.law_xml.specs.Spells.{placed}
 use Rattle.sim_3_images.proofs.Beginnings.{IsHeaded, begun_headed, first_before, wire_there}
 use Rattle.sim_3_images.proofs.Emissions.{all_here}
-use Rattle.sim_3_images.proofs.HallsTurned.{moment_turned}
+use Rattle.sim_3_images.proofs.ServerStatesRendered.{moment_rendered}
 use Rattle.sim_3_images.proofs.ItemsServed.{at_once, changed_none, many_up, served, served_fits, served_in_order, served_opened, up_after, ups_are}
-use Rattle.sim_3_images.proofs.Lookups.{get_changed_other, found_behind_other_value, found_behind_value, length_changed, set_changes}
+use Rattle.sim_3_images.proofs.Lookups.{get_changed_other, found_after_other_value, found_after_value, length_changed, set_changes}
 use Rattle.sim_3_images.proofs.NetworkMoves.{both_changed, end_is, found_both, number_apart}
 use Rattle.sim_3_images.proofs.WireSteps.{IsUpHanded, all_taken, wire_up}
-use Rattle.sim_3_images.specs.ImagesCores.{CoresFit, writer_at}
-use Rattle.sim_3_images.specs.ItemRuns.{IsServed, moved_where, ups}
-use Rattle.sim_3_images.specs.PipeImages.{AreRead, over, standing}
-use Rattle.sim_3_images.specs.WireImages.{WireImage}
-use Rattle.sim_3_images.specs.WorldImages.{Begins, Both, IsBegun, IsMoved, WireAt, WorldImage, framer_here, line_told}
+use Rattle.sim_3_images.specs.EncodingsCores.{CoresFit, writer_at}
+use Rattle.sim_3_images.specs.ItemRuns.{AreServedUps, moved_where, ups}
+use Rattle.sim_3_images.specs.PipeEncodings.{AreRead, over, standing}
+use Rattle.sim_3_images.specs.WireEncodings.{WireEncodes}
+use Rattle.sim_3_images.specs.WorldEncodings.{Begins, Both, IsBegun, IsMoved, WireAt, WorldEncodes, framer_here, line_reported}
 use Rattle.sim_3_items.specs.ItemMoves as items
 use Rattle.sim_3_items.specs.ItemMoves.{ItemMove, step_of}
 use Rattle.sim_3_items.specs.ItemPipes.{ItemWire}
@@ -40,22 +40,22 @@ use Rattle.cmd_schedule.specs.declared.schedule.Count.TheVariants.{All, Number}
 use Rattle.cmd_schedule.specs.declared.schedule.Version.{Version}
 use Rattle.srv_core.specs.Events.{after_fault, at_piece, begun, dropped, fed, framer_at}
 use Rattle.srv_core.specs.Table.{after_item, after_items, at_open}
-use Rattle.law_server.proofs.TableTurned.{items_turned}
-use Rattle.law_server.specs.Turned.{hall_turned, outs_turned, step_turned}
-use Rattle.cmd_network.specs.Places.{changed_at, changed_under}
-use Rattle.cmd_network.specs.Takes.{take_told}
+use Rattle.law_server.proofs.TableRendered.{items_rendered}
+use Rattle.law_server.specs.Rendered.{outs_rendered, server_state_rendered, step_rendered}
+use Rattle.cmd_network.specs.Positions.{changed_at, changed_under}
+use Rattle.cmd_network.specs.Takes.{take_reported}
 use Rattle.cmd_network.specs.Wires.{amount, handed_up}
 use Rattle.cmd_network.specs.declared.wire.Wire.{Wire}
 use Rattle.net_pipes.specs.Pipes.{Pipe}
 use Rattle.cmd_world.specs.Effects.{Effects, all_emitted, effects_of, emitted}
 use Rattle.cmd_world.specs.Moves as bytes
-use Rattle.cmd_world.specs.Moves.{Up, end_told_up, server_behind, served_by, served_first, step_of_piece, with_effects}
-use Rattle.cmd_world.specs.Worlds.{World, number_at}
+use Rattle.cmd_world.specs.Moves.{Up, end_reported_up, server_after, served_by, served_first, step_of_piece, with_effects}
+use Rattle.cmd_world.specs.Worlds.{ByteWorld, number_at}
 use Rattle.xml_writer.specs.Items.{ItemOut, written_item}
 
 -- ---- the place of a header is not looked at
 
-open_unplaced : {A : Type 0} (say : ItemOut → A) (k : ℕ) (i : Item) (o : Option ConnStanding) (h : Hall A) → at_open say k i o h ≡ at_open say k (placed 0 i) o h
+open_unplaced : {A : Type 0} (say : ItemOut → A) (k : ℕ) (i : Item) (o : Option ConnStanding) (h : ServerState A) → at_open say k i o h ≡ at_open say k (placed 0 i) o h
 open_unplaced say k i None h = refl
 open_unplaced say k (item.Header at header) (Some st) h = refl
 open_unplaced say k (item.Element e) (Some st) h = refl
@@ -63,7 +63,7 @@ open_unplaced say k item.Footer (Some st) h = refl
 
 unplaced : {A : Type 0} (say : ItemOut → A) (k : ℕ) (l : List Item) (s : Step A) → after_items say k l s ≡ after_items say k (map (placed 0) l) s
 unplaced say k [] s = refl
-unplaced say k (i ∷ l) s = ap (λ acts. after_items say k l (acted say acts s)) (open_unplaced say k i (standing_at k s.hall) s.hall) ∙ unplaced say k l (after_item say k (placed 0 i) s)
+unplaced say k (i ∷ l) s = ap (λ acts. after_items say k l (acted say acts s)) (open_unplaced say k i (standing_at k s.server_state) s.server_state) ∙ unplaced say k l (after_item say k (placed 0 i) s)
 
 -- ---- lengths
 
@@ -78,12 +78,12 @@ length_emitted version moment (Shut k ∷ outs) e = length_emitted version momen
 length_emitted version moment (Took from to origin ∷ outs) e = length_emitted version moment outs (emitted version moment (Took from to origin) e)
 
 -- what was taken has the same lines
-takes_emitted : (version : Version) (moment : ℕ) (outs : List (Out ItemOut)) (e : Effects) → (all_emitted version moment (outs_turned written_item outs) e).takes ≡ e.takes ++ map (line_told version) (items.takes_told moment outs)
+takes_emitted : (version : Version) (moment : ℕ) (outs : List (Out ItemOut)) (e : Effects) → (all_emitted version moment (outs_rendered written_item outs) e).takes ≡ e.takes ++ map (line_reported version) (items.takes_reported moment outs)
 takes_emitted version moment [] e = sym (append-nil e.takes)
 takes_emitted version moment (Put k i ∷ outs) e = takes_emitted version moment outs (emitted version moment (Put k (written_item i)) e)
 takes_emitted version moment (Shut k ∷ outs) e = takes_emitted version moment outs (emitted version moment (Shut k) e)
 takes_emitted version moment (Took from to origin ∷ outs) e =
-    takes_emitted version moment outs (emitted version moment (Took from to origin) e) ∙ append_assoc e.takes (take_told version moment from to origin ∷ []) (map (line_told version) (items.takes_told moment outs))
+    takes_emitted version moment outs (emitted version moment (Took from to origin) e) ∙ append_assoc e.takes (take_reported version moment from to origin ∷ []) (map (line_reported version) (items.takes_reported moment outs))
 
 pub length_items_emitted : (outs : List (Out ItemOut)) (ps : List ItemWire) → length (items.all_emitted outs ps) ≡ length ps
 length_items_emitted [] ps = refl
@@ -108,22 +108,22 @@ moved_joined (m ∷ a) b v = moved_joined a b (items.moved m v)
 -- ---- the server's step
 
 -- a server that took a piece without a fault took its items
-piece_is : (k : ℕ) (piece : List ℕ) (f now : State) (first : List Item) (taken : List ItemOut) (s : Step (List ℕ)) (t : Step ItemOut) → run (turn f []) piece ≡ turn now first → now.fault ≡ None → AreRead first taken → s ≡ step_turned written_item t
-    → at_piece written_item k piece (Some f) s ≡ step_turned written_item (after_items itself k (map read_of taken) t)
+piece_is : (k : ℕ) (piece : List ℕ) (f now : State) (first : List Item) (taken : List ItemOut) (s : Step (List ℕ)) (t : Step ItemOut) → run (turn f []) piece ≡ turn now first → now.fault ≡ None → AreRead first taken → s ≡ step_rendered written_item t
+    → at_piece written_item k piece (Some f) s ≡ step_rendered written_item (after_items itself k (map read_of taken) t)
 piece_is k piece f now first taken s t run_is no_fault read same =
     ap (λ (u : Turn). after_fault written_item k u.state.fault (after_items written_item k u.items s)) run_is ∙ ap (λ o. after_fault written_item k o (after_items written_item k first s)) no_fault
-    ∙ unplaced written_item k first s ∙ ap (λ l. after_items written_item k l s) read ∙ ap (after_items written_item k (map read_of taken)) same ∙ items_turned written_item itself k (map read_of taken) t
+    ∙ unplaced written_item k first s ∙ ap (λ l. after_items written_item k l s) read ∙ ap (after_items written_item k (map read_of taken)) same ∙ items_rendered written_item itself k (map read_of taken) t
 
-module _ (UpFits DownFits : ItemOut → Type 0) (HallFits : ℕ → Hall ItemOut → Type 0) (ClientFits : ClientView ItemOut → Type 0) (cores : CoresFit UpFits DownFits HallFits ClientFits) where
-  record IsServedSo (place : ℕ) (count : Count) (w : World) (v : ItemWorld) : Type 0 where
+module _ (UpFits DownFits : ItemOut → Type 0) (ServerFits : ℕ → ServerState ItemOut → Type 0) (ClientFits : ClientView ItemOut → Type 0) (cores : CoresFit UpFits DownFits ServerFits ClientFits) where
+  record IsServedSo (position : ℕ) (count : Count) (w : ByteWorld) (v : ItemWorld) : Type 0 where
     moves : List ItemMove
-    is_served : IsServed place moves
-    image : WorldImage UpFits DownFits HallFits ClientFits (served_by place count (slice_get w.wires place) w) (items.all_moved moves v)
+    is_served : AreServedUps position moves
+    encodes : WorldEncodes UpFits DownFits ServerFits ClientFits (served_by position count (slice_get w.wires position) w) (items.all_moved moves v)
 
   -- where the framer gives some first items
-  module _ (place n : ℕ) (w : World) (v : ItemWorld) (b : Wire) (p : ItemWire) (found : slice_get w.wires place ≡ Some b) (found_item : slice_get v.wires place ≡ Some p) (i : WorldImage UpFits DownFits HallFits ClientFits w v)
-      (f : State) (reader : framer_at (number_at place) w.server.framers ≡ Some f)
-      (h : IsUpHanded UpFits DownFits cores.up_limits cores.down_limits f (framer_here place (slice_get w.devices b.device)) (writer_at (number_at place) v.server) b p n) (fit : AllByRecursion UpFits p.up.items) where
+  module _ (position n : ℕ) (w : ByteWorld) (v : ItemWorld) (b : Wire) (p : ItemWire) (found : slice_get w.wires position ≡ Some b) (found_item : slice_get v.wires position ≡ Some p) (i : WorldEncodes UpFits DownFits ServerFits ClientFits w v)
+      (f : State) (reader : framer_at (number_at position) w.server.framers ≡ Some f)
+      (h : IsUpHanded UpFits DownFits cores.up_limits cores.down_limits f (framer_here position (slice_get w.devices b.device)) (writer_at (number_at position) v.server) b p n) (fit : AllByRecursion UpFits p.up.items) where
     abbrev piece : List ℕ
     piece = take n b.up.bytes
 
@@ -135,7 +135,7 @@ module _ (UpFits DownFits : ItemOut → Type 0) (HallFits : ℕ → Hall ItemOut
     ticked = record v { moment = v.moment + 0; server = at_moment (v.moment + 0) v.server }
 
     abbrev done : Step ItemOut
-    done = served place taken ticked.server
+    done = served position taken ticked.server
 
     same_moment : w.moment ≡ v.moment + 0
     same_moment = (let e = i.moment in omega (arith, e))
@@ -143,86 +143,86 @@ module _ (UpFits DownFits : ItemOut → Type 0) (HallFits : ℕ → Hall ItemOut
     abbrev many : ℕ
     many = length v.wires
 
-    few : number_at place ≤ many
-    few = (let within = slice_get_within v.wires place p found_item in omega (arith, within))
+    few : number_at position ≤ many
+    few = (let within = slice_get_within v.wires position p found_item in omega (arith, within))
 
-    ticked_fits : HallFits many ticked.server
-    ticked_fits = cores.moment many (v.moment + 0) v.server i.hall_fits
+    ticked_fits : ServerFits many ticked.server
+    ticked_fits = cores.moment many (v.moment + 0) v.server i.server_state_fits
 
     taken_fit : AllByRecursion UpFits taken
     taken_fit = all_taken UpFits h.count p.up.items fit
 
-    comes : writer_at (number_at place) ticked.server ≡ Some phase.First → IsHeaded taken
-    comes first = begun_headed h.count p.up (i.begins place p found_item first)
+    comes : writer_at (number_at position) ticked.server ≡ Some phase.First → IsHeaded taken
+    comes first = begun_headed h.count p.up (i.begins position p found_item first)
 
-    done_is : step_of_piece (number_at place) piece w.moment w.server ≡ step_turned written_item done
+    done_is : step_of_piece (number_at position) piece w.moment w.server ≡ step_rendered written_item done
     done_is =
-        ap (λ o. at_piece written_item (number_at place) piece o (begun w.moment w.server.hall [])) reader
-        ∙ piece_is (number_at place) piece f h.now h.first taken (begun w.moment w.server.hall []) (step_of ticked.server) h.run_is h.no_fault h.read
-        (ap (λ x. record { hall = x; outs = [] }) (ap₂ at_moment same_moment i.hall ∙ moment_turned written_item (v.moment + 0) v.server))
+        ap (λ o. at_piece written_item (number_at position) piece o (begun w.moment w.server.server_state [])) reader
+        ∙ piece_is (number_at position) piece f h.now h.first taken (begun w.moment w.server.server_state []) (step_of ticked.server) h.run_is h.no_fault h.read
+        (ap (λ x. record { server_state = x; outs = [] }) (ap₂ at_moment same_moment i.server_state ∙ moment_rendered written_item (v.moment + 0) v.server))
 
     abbrev framers_now : List (ℕ × State)
-    framers_now = set_value (is_number (number_at place)) w.server.framers h.now
+    framers_now = set_value (is_number (number_at position)) w.server.framers h.now
 
     -- the connections before anything is put out
     abbrev Handed : ℕ → Wire → ItemWire → Type 0
-    Handed q c r = WireImage UpFits DownFits (framer_at (number_at q) framers_now) (framer_here q (slice_get w.devices c.device)) (writer_at (number_at q) ticked.server) c r
+    Handed q c r = WireEncodes UpFits DownFits (framer_at (number_at q) framers_now) (framer_here q (slice_get w.devices c.device)) (writer_at (number_at q) ticked.server) c r
 
     many_is : many_up h.count p ≡ many_up (length taken) p
     many_is = ap (λ l. record p { up = record p.up { items = l } }) (drop_taken h.count p.up.items)
 
-    handed_here : Both (Handed place) (option_map (handed_up n) (slice_get w.wires place)) (option_map (many_up (length taken)) (slice_get v.wires place))
+    handed_here : Both (Handed position) (option_map (handed_up n) (slice_get w.wires position)) (option_map (many_up (length taken)) (slice_get v.wires position))
     handed_here =
-        subst (λ o. Both (Handed place) (option_map (handed_up n) o) (option_map (many_up (length taken)) (slice_get v.wires place))) (sym found)
-        (subst (λ o. Both (Handed place) (Some (handed_up n b)) (option_map (many_up (length taken)) o)) (sym found_item)
-        (subst (Handed place (handed_up n b)) many_is
-        (subst (λ r. WireImage UpFits DownFits r (framer_here place (slice_get w.devices b.device)) (writer_at (number_at place) v.server) (handed_up n b) (many_up h.count p)) (sym (found_behind_value (number_at place) w.server.framers f h.now reader)) h.image)))
+        subst (λ o. Both (Handed position) (option_map (handed_up n) o) (option_map (many_up (length taken)) (slice_get v.wires position))) (sym found)
+        (subst (λ o. Both (Handed position) (Some (handed_up n b)) (option_map (many_up (length taken)) o)) (sym found_item)
+        (subst (Handed position (handed_up n b)) many_is
+        (subst (λ r. WireEncodes UpFits DownFits r (framer_here position (slice_get w.devices b.device)) (writer_at (number_at position) v.server) (handed_up n b) (many_up h.count p)) (sym (found_after_value (number_at position) w.server.framers f h.now reader)) h.encodes)))
 
-    handed_there : (q : ℕ) → (q ≡ place → ⊥) → (c : Wire) (r : ItemWire) → WireAt UpFits DownFits w v q c r → Handed q c r
+    handed_there : (q : ℕ) → (q ≡ position → ⊥) → (c : Wire) (r : ItemWire) → WireAt UpFits DownFits w v q c r → Handed q c r
     handed_there q other c r x =
-        subst (λ o. WireImage UpFits DownFits o (framer_here q (slice_get w.devices c.device)) (writer_at (number_at q) v.server) c r) (sym (found_behind_other_value (number_at q) (number_at place) w.server.framers h.now (number_apart q place other))) x
+        subst (λ o. WireEncodes UpFits DownFits o (framer_here q (slice_get w.devices c.device)) (writer_at (number_at q) v.server) c r) (sym (found_after_other_value (number_at q) (number_at position) w.server.framers h.now (number_apart q position other))) x
 
-    handed_all : (q : ℕ) → Both (Handed q) (slice_get (slice_set w.wires place (handed_up n b)) q) (slice_get (changed_at place (many_up (length taken)) v.wires) q)
+    handed_all : (q : ℕ) → Both (Handed q) (slice_get (slice_set w.wires position (handed_up n b)) q) (slice_get (changed_at position (many_up (length taken)) v.wires) q)
     handed_all q =
-        subst (λ l. Both (Handed q) (slice_get l q) (slice_get (changed_at place (many_up (length taken)) v.wires) q)) (sym (set_changes (handed_up n) w.wires place b (handed_up n b) found refl))
-        (both_changed (WireAt UpFits DownFits w v) Handed (handed_up n) (many_up (length taken)) w.wires v.wires place handed_here handed_there i.wires q)
+        subst (λ l. Both (Handed q) (slice_get l q) (slice_get (changed_at position (many_up (length taken)) v.wires) q)) (sym (set_changes (handed_up n) w.wires position b (handed_up n b) found refl))
+        (both_changed (WireAt UpFits DownFits w v) Handed (handed_up n) (many_up (length taken)) w.wires v.wires position handed_here handed_there i.wires q)
 
     abbrev before : Effects
-    before = effects_of (slice_set w.wires place (handed_up n b)) w.takes
+    before = effects_of (slice_set w.wires position (handed_up n b)) w.takes
 
     -- the world of bytes, by what the server of items does
-    abbrev behind_it : World
-    behind_it = record w {
-      server = record { hall = hall_turned written_item done.hall; framers = dropped (outs_turned written_item done.outs) framers_now };
-      wires = (all_emitted w.version w.moment (outs_turned written_item done.outs) before).wires;
-      takes = (all_emitted w.version w.moment (outs_turned written_item done.outs) before).takes;
+    abbrev after_it : ByteWorld
+    after_it = record w {
+      server = record { server_state = server_state_rendered written_item done.server_state; framers = dropped (outs_rendered written_item done.outs) framers_now };
+      wires = (all_emitted w.version w.moment (outs_rendered written_item done.outs) before).wires;
+      takes = (all_emitted w.version w.moment (outs_rendered written_item done.outs) before).takes;
     }
 
-    bytes_is : bytes.served place n b w ≡ behind_it
+    bytes_is : bytes.served position n b w ≡ after_it
     bytes_is =
-        ap (λ s. with_effects (server_behind (number_at place) piece w.server s) (all_emitted w.version w.moment s.outs before) w) done_is
-        ∙ ap (λ o. record behind_it { server = record { hall = hall_turned written_item done.hall; framers = dropped (outs_turned written_item done.outs) (fed_by o) } }) reader
-        ∙ ap (λ (u : Turn). record behind_it { server = record { hall = hall_turned written_item done.hall; framers = dropped (outs_turned written_item done.outs) (set_value (is_number (number_at place)) w.server.framers u.state) } }) h.run_is
+        ap (λ s. with_effects (server_after (number_at position) piece w.server s) (all_emitted w.version w.moment s.outs before) w) done_is
+        ∙ ap (λ o. record after_it { server = record { server_state = server_state_rendered written_item done.server_state; framers = dropped (outs_rendered written_item done.outs) (fed_by o) } }) reader
+        ∙ ap (λ (u : Turn). record after_it { server = record { server_state = server_state_rendered written_item done.server_state; framers = dropped (outs_rendered written_item done.outs) (set_value (is_number (number_at position)) w.server.framers u.state) } }) h.run_is
       where
         fed_by : Option State → List (ℕ × State)
-        fed_by o = fed (number_at place) piece o w.server.framers
+        fed_by o = fed (number_at position) piece o w.server.framers
 
     abbrev handed_items : List ItemWire
-    handed_items = changed_at place (many_up (length taken)) v.wires
+    handed_items = changed_at position (many_up (length taken)) v.wires
 
-    now_begins : Begins (items.all_emitted done.outs handed_items) done.hall
-    now_begins q r there first = elim (cases_eq q place) [
+    now_begins : Begins (items.all_emitted done.outs handed_items) done.server_state
+    now_begins q r there first = elim (cases_eq q position) [
       | inl same ↦
-          let none : taken ≡ [] = served_opened UpFits DownFits HallFits ClientFits cores many place taken ticked.server few ticked_fits taken_fit comes (ap (λ j. writer_at (number_at j) done.hall) (sym same) ∙ first) in
-          let unchanged : handed_items ≡ v.wires = ap (λ l. changed_at place (many_up (length l)) v.wires) none ∙ changed_none (many_up 0) v.wires place (λ x. refl) in
-          kept p (ap (slice_get handed_items) same ∙ ap (λ l. slice_get l place) unchanged ∙ found_item) (λ e. i.begins place p found_item (ap (λ j. writer_at (number_at j) v.server) (sym same) ∙ e))
+          let none : taken ≡ [] = served_opened UpFits DownFits ServerFits ClientFits cores many position taken ticked.server few ticked_fits taken_fit comes (ap (λ j. writer_at (number_at j) done.server_state) (sym same) ∙ first) in
+          let unchanged : handed_items ≡ v.wires = ap (λ l. changed_at position (many_up (length l)) v.wires) none ∙ changed_none (many_up 0) v.wires position (λ x. refl) in
+          kept p (ap (slice_get handed_items) same ∙ ap (λ l. slice_get l position) unchanged ∙ found_item) (λ e. i.begins position p found_item (ap (λ j. writer_at (number_at j) v.server) (sym same) ∙ e))
       | inr other ↦
           let x = wire_there v.wires q within in
-          kept x.0 (get_changed_other (many_up (length taken)) v.wires place q other ∙ x.1) (λ e. i.begins q x.0 x.1 e)
+          kept x.0 (get_changed_other (many_up (length taken)) v.wires position q other ∙ x.1) (λ e. i.begins q x.0 x.1 e)
     ]
       where
         within : q < length v.wires
-        within = (let has = slice_get_within (items.all_emitted done.outs handed_items) q r there in let same_length = length_items_emitted done.outs handed_items ∙ length_changed (many_up (length taken)) v.wires place in omega (arith, has, same_length))
+        within = (let has = slice_get_within (items.all_emitted done.outs handed_items) q r there in let same_length = length_items_emitted done.outs handed_items ∙ length_changed (many_up (length taken)) v.wires position in omega (arith, has, same_length))
 
         some_is : (x y : ItemWire) → Some x ≡ Some y → x ≡ y
         some_is x y e = cc
@@ -233,77 +233,77 @@ module _ (UpFits DownFits : ItemOut → Type 0) (HallFits : ℕ → Hall ItemOut
         -- what goes up there is as it was
         kept : (x : ItemWire) → slice_get handed_items q ≡ Some x → (writer_at (number_at q) v.server ≡ Some phase.First → IsBegun x.up) → IsBegun r.up
         kept x found_there begun =
-            let order = served_in_order UpFits DownFits HallFits ClientFits cores many place taken ticked.server (number_at q) few ticked_fits taken_fit comes in
-            let after = up_after DownFits q done.outs (writer_at (number_at q) ticked.server) (writer_at (number_at q) done.hall) handed_items x order found_there in
+            let order = served_in_order UpFits DownFits ServerFits ClientFits cores many position taken ticked.server (number_at q) few ticked_fits taken_fit comes in
+            let after = up_after DownFits q done.outs (writer_at (number_at q) ticked.server) (writer_at (number_at q) done.server_state) handed_items x order found_there in
             let is : after.wire ≡ r = some_is after.wire r (sym after.found ∙ there) in
             elim after.is [
-              | inl same ↦ subst IsBegun (sym same ∙ ap (λ (y : ItemWire). y.up) is) (begun (first_before DownFits (number_at q) done.outs (writer_at (number_at q) ticked.server) (writer_at (number_at q) done.hall) order first))
-              | inr gone ↦ absurd (none_is_not (writer_at (number_at q) done.hall) gone.1 first)
+              | inl same ↦ subst IsBegun (sym same ∙ ap (λ (y : ItemWire). y.up) is) (begun (first_before DownFits (number_at q) done.outs (writer_at (number_at q) ticked.server) (writer_at (number_at q) done.server_state) order first))
+              | inr gone ↦ absurd (none_is_not (writer_at (number_at q) done.server_state) gone.1 first)
             ]
 
-    behind_image : WorldImage UpFits DownFits HallFits ClientFits behind_it (at_once place taken ticked)
-    behind_image = record {
+    after_encodes : WorldEncodes UpFits DownFits ServerFits ClientFits after_it (at_once position taken ticked)
+    after_encodes = record {
       moment = same_moment;
-      hall = refl;
-      hall_fits = subst (λ n. HallFits n done.hall) (sym (length_items_emitted done.outs (changed_at place (many_up (length taken)) v.wires) ∙ length_changed (many_up (length taken)) v.wires place))
-          (served_fits UpFits DownFits HallFits ClientFits cores many place taken ticked.server few ticked_fits taken_fit comes);
+      server_state = refl;
+      server_state_fits = subst (λ n. ServerFits n done.server_state) (sym (length_items_emitted done.outs (changed_at position (many_up (length taken)) v.wires) ∙ length_changed (many_up (length taken)) v.wires position))
+          (served_fits UpFits DownFits ServerFits ClientFits cores many position taken ticked.server few ticked_fits taken_fit comes);
       begins = now_begins;
       devices = i.devices;
-      as_many = length_emitted w.version w.moment (outs_turned written_item done.outs) before ∙ ap length (set_changes (handed_up n) w.wires place b (handed_up n b) found refl) ∙ length_changed (handed_up n) w.wires place
-          ∙ i.as_many ∙ sym (length_items_emitted done.outs (changed_at place (many_up (length taken)) v.wires) ∙ length_changed (many_up (length taken)) v.wires place);
-      wires = λ q. all_here UpFits DownFits cores.up_limits cores.down_limits q w.devices w.version w.moment done.outs framers_now (writer_at (number_at q) ticked.server) (writer_at (number_at q) done.hall) before
-          (changed_at place (many_up (length taken)) v.wires) (served_in_order UpFits DownFits HallFits ClientFits cores many place taken ticked.server (number_at q) few ticked_fits taken_fit comes) (handed_all q);
+      as_many = length_emitted w.version w.moment (outs_rendered written_item done.outs) before ∙ ap length (set_changes (handed_up n) w.wires position b (handed_up n b) found refl) ∙ length_changed (handed_up n) w.wires position
+          ∙ i.as_many ∙ sym (length_items_emitted done.outs (changed_at position (many_up (length taken)) v.wires) ∙ length_changed (many_up (length taken)) v.wires position);
+      wires = λ q. all_here UpFits DownFits cores.up_limits cores.down_limits q w.devices w.version w.moment done.outs framers_now (writer_at (number_at q) ticked.server) (writer_at (number_at q) done.server_state) before
+          (changed_at position (many_up (length taken)) v.wires) (served_in_order UpFits DownFits ServerFits ClientFits cores many position taken ticked.server (number_at q) few ticked_fits taken_fit comes) (handed_all q);
       takes =
           takes_emitted w.version w.moment done.outs before
-          ∙ ap₂ (λ l m. l ++ map (line_told w.version) (items.takes_told m done.outs)) i.takes same_moment
-          ∙ sym (map-append (line_told w.version) v.takes (items.takes_told (v.moment + 0) done.outs));
+          ∙ ap₂ (λ l m. l ++ map (line_reported w.version) (items.takes_reported m done.outs)) i.takes same_moment
+          ∙ sym (map-append (line_reported w.version) v.takes (items.takes_reported (v.moment + 0) done.outs));
     }
 
-    pub served_image : WorldImage UpFits DownFits HallFits ClientFits (bytes.served place n b w) (items.all_moved (items.Tick 0 ∷ ups place (length taken)) v)
-    served_image =
-        subst (λ x. WorldImage UpFits DownFits HallFits ClientFits x (items.all_moved (items.Tick 0 ∷ ups place (length taken)) v)) (sym bytes_is)
-        (subst (WorldImage UpFits DownFits HallFits ClientFits behind_it) (sym (ups_are UpFits DownFits HallFits ClientFits cores many place taken (drop h.count p.up.items) ticked p few found_item (sym (take-append-drop h.count p.up.items)) ticked_fits taken_fit comes)) behind_image)
+    pub served_encodes : WorldEncodes UpFits DownFits ServerFits ClientFits (bytes.served position n b w) (items.all_moved (items.Tick 0 ∷ ups position (length taken)) v)
+    served_encodes =
+        subst (λ x. WorldEncodes UpFits DownFits ServerFits ClientFits x (items.all_moved (items.Tick 0 ∷ ups position (length taken)) v)) (sym bytes_is)
+        (subst (WorldEncodes UpFits DownFits ServerFits ClientFits after_it) (sym (ups_are UpFits DownFits ServerFits ClientFits cores many position taken (drop h.count p.up.items) ticked p few found_item (sym (take-append-drop h.count p.up.items)) ticked_fits taken_fit comes)) after_encodes)
 
-  served_so : (place : ℕ) (count : Count) (w : World) (v : ItemWorld) → WorldImage UpFits DownFits HallFits ClientFits w v → IsServedSo place count w v
-  served_so place count w v i = by (slice_get w.wires place) refl
+  served_so : (position : ℕ) (count : Count) (w : ByteWorld) (v : ItemWorld) → WorldEncodes UpFits DownFits ServerFits ClientFits w v → IsServedSo position count w v
+  served_so position count w v i = by (slice_get w.wires position) refl
     where
-      nothing : (x : World) → x ≡ w → WorldImage UpFits DownFits HallFits ClientFits x v
-      nothing x e = subst (λ y. WorldImage UpFits DownFits HallFits ClientFits y v) (sym e) i
+      nothing : (x : ByteWorld) → x ≡ w → WorldEncodes UpFits DownFits ServerFits ClientFits x v
+      nothing x e = subst (λ y. WorldEncodes UpFits DownFits ServerFits ClientFits y v) (sym e) i
 
-      some : (b : Wire) → slice_get w.wires place ≡ Some b → (e : Bool) → (amount count b.up == 0) ≡ e → IsServedSo place count w v
+      some : (b : Wire) → slice_get w.wires position ≡ Some b → (e : Bool) → (amount count b.up == 0) ≡ e → IsServedSo position count w v
       some b found true none = record {
         moves = [];
         is_served = inl refl;
-        image = nothing (served_by place count (slice_get w.wires place) w) (ap (λ o. served_by place count o w) found ∙ ap (λ (e : Bool). cond e w (bytes.served place (amount count b.up) b w)) none);
+        encodes = nothing (served_by position count (slice_get w.wires position) w) (ap (λ o. served_by position count o w) found ∙ ap (λ (e : Bool). cond e w (bytes.served position (amount count b.up) b w)) none);
       }
       some b found false few =
-          let other = found_both (WireAt UpFits DownFits w v place) b (slice_get w.wires place) (slice_get v.wires place) found (i.wires place) in
+          let other = found_both (WireAt UpFits DownFits w v position) b (slice_get w.wires position) (slice_get v.wires position) found (i.wires position) in
           let p = other.other in
           let x = other.holds in
           let n = amount count b.up in
-          let is : served_by place count (slice_get w.wires place) w ≡ bytes.served place n b w = ap (λ o. served_by place count o w) found ∙ ap (λ (e : Bool). cond e w (bytes.served place n b w)) few in
+          let is : served_by position count (slice_get w.wires position) w ≡ bytes.served position n b w = ap (λ o. served_by position count o w) found ∙ ap (λ (e : Bool). cond e w (bytes.served position n b w)) few in
           elim x.up.carried [
             | over o ↦ absurd (true≢false (sym (ap (λ m. m == 0) (no_amount count b.up o.no_bytes)) ∙ few))
             | standing f reader st ↦
-                let h = wire_up UpFits DownFits cores.up_limits cores.down_limits f (framer_here place (slice_get w.devices b.device)) (writer_at (number_at place) v.server) b p n st
-                (subst (λ r. WireImage UpFits DownFits r (framer_here place (slice_get w.devices b.device)) (writer_at (number_at place) v.server) b p) reader x) in
+                let h = wire_up UpFits DownFits cores.up_limits cores.down_limits f (framer_here position (slice_get w.devices b.device)) (writer_at (number_at position) v.server) b p n st
+                (subst (λ r. WireEncodes UpFits DownFits r (framer_here position (slice_get w.devices b.device)) (writer_at (number_at position) v.server) b p) reader x) in
                 record {
-                  moves = items.Tick 0 ∷ ups place (length (take h.count p.up.items));
+                  moves = items.Tick 0 ∷ ups position (length (take h.count p.up.items));
                   is_served = inr (length (take h.count p.up.items), refl);
-                  image = subst (λ y. WorldImage UpFits DownFits HallFits ClientFits y (items.all_moved (items.Tick 0 ∷ ups place (length (take h.count p.up.items))) v)) (sym is) (served_image place n w v b p found other.is i f reader h x.up_fits);
+                  encodes = subst (λ y. WorldEncodes UpFits DownFits ServerFits ClientFits y (items.all_moved (items.Tick 0 ∷ ups position (length (take h.count p.up.items))) v)) (sym is) (served_encodes position n w v b p found other.is i f reader h x.up_fits);
                 }
           ]
 
-      by : (o : Option Wire) → slice_get w.wires place ≡ o → IsServedSo place count w v
-      by None found = record { moves = []; is_served = inl refl; image = nothing (served_by place count (slice_get w.wires place) w) (ap (λ o. served_by place count o w) found) }
+      by : (o : Option Wire) → slice_get w.wires position ≡ o → IsServedSo position count w v
+      by None found = record { moves = []; is_served = inl refl; encodes = nothing (served_by position count (slice_get w.wires position) w) (ap (λ o. served_by position count o w) found) }
       by (Some b) found = some b found (amount count b.up == 0) refl
 
-  pub up_is : (place : ℕ) (count : Count) (w : World) (v : ItemWorld) → WorldImage UpFits DownFits HallFits ClientFits w v → IsMoved UpFits DownFits HallFits ClientFits (Up place count) w v
-  up_is place count w v i =
-      let a = served_so place count w v i in
-      let z = end_is UpFits DownFits HallFits ClientFits cores place (served_by place count (slice_get w.wires place) w) (items.all_moved a.moves v) a.image in
+  pub up_is : (position : ℕ) (count : Count) (w : ByteWorld) (v : ItemWorld) → WorldEncodes UpFits DownFits ServerFits ClientFits w v → IsMoved UpFits DownFits ServerFits ClientFits (Up position count) w v
+  up_is position count w v i =
+      let a = served_so position count w v i in
+      let z = end_is UpFits DownFits ServerFits ClientFits cores position (served_by position count (slice_get w.wires position) w) (items.all_moved a.moves v) a.encodes in
       record {
-        moves = a.moves ++ moved_where (items.UpEnd place) z.ended;
+        moves = a.moves ++ moved_where (items.UpEnd position) z.ended;
         is_run = (a.moves, z.ended, a.is_served, refl);
-        image = subst (WorldImage UpFits DownFits HallFits ClientFits (end_told_up place (served_by place count (slice_get w.wires place) w))) (sym (moved_joined a.moves (moved_where (items.UpEnd place) z.ended) v)) z.image;
+        encodes = subst (WorldEncodes UpFits DownFits ServerFits ClientFits (end_reported_up position (served_by position count (slice_get w.wires position) w))) (sym (moved_joined a.moves (moved_where (items.UpEnd position) z.ended) v)) z.encodes;
       }

@@ -2,9 +2,9 @@
 use Rattle.std.specs.Prelude.{ℕ, ◌≡◌, ◌≤◌, List, IsTrue}
 use Rattle.std.specs.List.{AllByRecursion}
 use Rattle.cl_handlers.specs.Clients.{ClientView}
-use Rattle.sim_3_images.specs.Mild.{ClientFits, DownFits, HallFits, UpFits}
+use Rattle.sim_3_images.specs.Relayable.{ClientFits, DownFits, ServerFits, UpFits}
 use Rattle.srv_state.specs.Moments.{with_fresh}
-use Rattle.srv_state.specs.State.{Hall}
+use Rattle.srv_state.specs.State.{ServerState}
 use Rattle.sim_3_items.specs.ItemMoves.{CatchUp, Dial, ItemMove, Say}
 use Rattle.sim_3_items.specs.ItemPipes.{ItemWire}
 use Rattle.sim_3_items.specs.ItemWorlds.{ItemDevice, ItemWorld}
@@ -20,15 +20,15 @@ pub record WireFits (UpFits DownFits : ItemOut → Type 0) (wire : ItemWire) : T
   pub up : AllByRecursion UpFits wire.up.items
   pub down : AllByRecursion DownFits wire.down.items
 
--- Of four families: what a client may put, and the server; halls; and clients.
-pub record WorldFits (UpFits DownFits : ItemOut → Type 0) (HallKeeps : Hall ItemOut → Type 0) (ClientFits : ClientView ItemOut → Type 0) (w : ItemWorld) : Type 0 where
-  pub hall : HallKeeps w.server
+-- Of four families: what a client may put, and the server; server states; and clients.
+pub record WorldFits (UpFits DownFits : ItemOut → Type 0) (ServerKeeps : ServerState ItemOut → Type 0) (ClientFits : ClientView ItemOut → Type 0) (w : ItemWorld) : Type 0 where
+  pub server_state : ServerKeeps w.server
   pub clients : AllByRecursion (λ (d : ItemDevice). ClientFits d.client) w.devices
   pub wires : AllByRecursion (WireFits UpFits DownFits) w.wires
 
 -- of the families of this project
 abbrev pub FitsHere : ItemWorld → Type 0
-FitsHere w = WorldFits UpFits DownFits HallFits ClientFits w
+FitsHere w = WorldFits UpFits DownFits ServerFits ClientFits w
 
 -- ---- moves
 
@@ -40,7 +40,7 @@ MayItem (Say device to text private) = (name : List ℕ) × (to ≡ bare_address
 MayItem (CatchUp device most) = (1 ≤ most) × (most ≤ 100)
 MayItem m = Unit {0}
 
--- Of halls: whatever number a connection has, and whichever's bytes are drawn for it, its coming keeps them. (`CoresKeep` says
--- so where a connection draws its own.)
-abbrev pub TakesAny : (Hall ItemOut → Type 0) → Type 0
-TakesAny HallKeeps = (n k : ℕ) (h : Hall ItemOut) → HallKeeps h → HallKeeps (with_fresh n (server_entropy k) h)
+-- Of server states: whatever number a connection has, and whichever's bytes are drawn for it, its coming keeps them.
+-- (`CoresKeep` says so where a connection draws its own.)
+abbrev pub TakesAny : (ServerState ItemOut → Type 0) → Type 0
+TakesAny ServerKeeps = (n k : ℕ) (h : ServerState ItemOut) → ServerKeeps h → ServerKeeps (with_fresh n (server_entropy k) h)

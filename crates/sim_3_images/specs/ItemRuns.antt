@@ -10,20 +10,20 @@ use Rattle.cmd_world.specs.Worlds.{client_entropy, server_entropy}
 
 -- so many items of a connection go to the server, one after another
 abbrev pub ups : ℕ → ℕ → List ItemMove
-ups place zero = []
-ups place (suc count) = items.Up place ∷ ups place count
+ups position zero = []
+ups position (suc count) = items.Up position ∷ ups position count
 
 abbrev pub downs : ℕ → ℕ → List ItemMove
-downs place zero = []
-downs place (suc count) = items.Down place ∷ downs place count
+downs position zero = []
+downs position (suc count) = items.Down position ∷ downs position count
 
 abbrev pub moved_where : ItemMove → Bool → List ItemMove
 moved_where m true = m ∷ []
 moved_where m false = []
 
 -- where bytes come to the server it looks at the clock first
-abbrev pub IsServed : ℕ → List ItemMove → Type 0
-IsServed place ms = (ms ≡ []) ⊎ ((count : ℕ) × (ms ≡ items.Tick 0 ∷ ups place count))
+abbrev pub AreServedUps : ℕ → List ItemMove → Type 0
+AreServedUps position ms = (ms ≡ []) ⊎ ((count : ℕ) × (ms ≡ items.Tick 0 ∷ ups position count))
 
 -- Of bytes that are handed over, those items are of which the last byte is among them; behind them perhaps the end is told.
 -- Of a cut some first items stay.
@@ -34,9 +34,9 @@ IsRunOf (bytes.Close device) ms = ms ≡ items.Close device ∷ []
 IsRunOf (bytes.Say device line to text private) ms = ms ≡ items.Say device (bare_address to) text private ∷ []
 IsRunOf (bytes.CatchUp device line most) ms = ms ≡ items.CatchUp device most ∷ []
 IsRunOf (bytes.Tick milliseconds) ms = ms ≡ items.Tick milliseconds ∷ []
-IsRunOf (bytes.Up place amount) ms = (first : List ItemMove) × (ended : Bool) × IsServed place first × (ms ≡ first ++ moved_where (items.UpEnd place) ended)
-IsRunOf (bytes.Down place amount) ms = (count : ℕ) × (ended : Bool) × (ms ≡ downs place count ++ moved_where (items.DownEnd place) ended)
-IsRunOf (bytes.Cut place up down) ms = (i j : ℕ) × (ms ≡ items.Cut place i j ∷ [])
+IsRunOf (bytes.Up position amount) ms = (first : List ItemMove) × (ended : Bool) × AreServedUps position first × (ms ≡ first ++ moved_where (items.UpEnd position) ended)
+IsRunOf (bytes.Down position amount) ms = (count : ℕ) × (ended : Bool) × (ms ≡ downs position count ++ moved_where (items.DownEnd position) ended)
+IsRunOf (bytes.Cut position up down) ms = (i j : ℕ) × (ms ≡ items.Cut position i j ∷ [])
 
 -- what is asked of a move: a message is for a name and has a text, and a page has 1 to 100 results
 abbrev pub MayMove : Move → Type 0

@@ -8,18 +8,18 @@ use Rattle.cmd_schedule.specs.Schedules.{WireView}
 use Rattle.cmd_network.specs.declared.wire.Wire.{Wire}
 use Rattle.cmd_world.specs.Histories.{common_steps}
 use Rattle.cmd_world.specs.WorldReports.{is_open}
-use Rattle.cmd_world.specs.Worlds.{World}
+use Rattle.cmd_world.specs.Worlds.{ByteWorld}
 
 -- ---- the newest connection of a device
 
 -- the connection at a place is there, and nothing ended it
 abbrev pub is_open_at : ℕ → List Wire → Bool
-is_open_at place wires = option_map_or (λ (b : Wire). is_open b.end) (slice_get wires place) false
+is_open_at position wires = option_map_or (λ (b : Wire). is_open b.end) (slice_get wires position) false
 
 -- The newest connection that the device dialled is there, and while it is open the device has it.
 pub record IsNewest (wires : List Wire) (d : DeviceState) : Type 0 where
-  pub there : (place : ℕ) → d.newest ≡ Some place → place < length wires
-  pub here : (place : ℕ) → d.newest ≡ Some place → is_open_at place wires ≡ true → d.here ≡ Some place
+  pub there : (position : ℕ) → d.newest ≡ Some position → position < length wires
+  pub here : (position : ℕ) → d.newest ≡ Some position → is_open_at position wires ≡ true → d.here ≡ Some position
 
 -- ---- a connection
 
@@ -32,7 +32,7 @@ IsFlowing b = is_open b.end ≡ true → (b.up.ended ≡ false) × (b.down.ended
 abbrev pub owned_by : DeviceState → Owned
 owned_by d = record { device = d.name; account = d.account }
 
-pub record IsKept (schedule : WireView) (w : World) : Type 0 where
+pub record IsWorldKept (schedule : WireView) (w : ByteWorld) : Type 0 where
   pub version : w.version ≡ schedule.version
   pub accounts : w.accounts ≡ accounts_of (common_steps schedule)
   pub owners : map owned_by w.devices ≡ owned_in (common_steps schedule)

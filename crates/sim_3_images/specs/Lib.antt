@@ -1,17 +1,17 @@
 pub use Rattle.base_io.specs.Listed
--- law: pipes, connections and worlds of bytes as images of those of items
-pub mod PipeImages
-pub mod WireImages
-pub mod WorldImages
+-- law: pipes, connections and worlds of bytes as encodings of those of items
+pub mod PipeEncodings
+pub mod WireEncodings
+pub mod WorldEncodings
 -- what the two cores owe
-pub mod ImagesCores
+pub mod EncodingsCores
 -- machine: the moves of items that a move of bytes is, and the first world
 pub mod ItemRuns
 pub mod ItemStarts
 pub mod Stands
-pub mod ImagesOwed
+pub mod EncodingsOwed
 -- what each core puts, beside that it fits
-pub mod Mild
+pub mod Relayable
 -- what is owed of that
 pub mod CoresOwed
 -- law: what is within limits in a world of items, and which moves keep it

@@ -14,7 +14,7 @@ use Rattle.cmd_report.specs.declared.report.TakeLine.{TakeLine}
 use Rattle.cmd_schedule.specs.Contents.{is_account}
 use Rattle.cmd_schedule.specs.Schedules.{ScheduleView, WireView, keep_of, seen_of}
 use Rattle.cmd_schedule.specs.declared.schedule.Version.{Version}
-use Rattle.cmd_network.specs.Takes.{take_told}
+use Rattle.cmd_network.specs.Takes.{take_reported}
 
 -- a message that was taken: the names of the account that sent it and of the account that it is to, and its entry, but for
 -- the number
@@ -27,7 +27,7 @@ pub record Taken : Type 0 where
 
 -- the line tells the entry's moment, addresses and origin id
 abbrev pub line_of : Version → Taken → TakeLine
-line_of version t = take_told version t.entry.stamp t.entry.from t.entry.to t.entry.origin
+line_of version t = take_reported version t.entry.stamp t.entry.from t.entry.to t.entry.origin
 
 -- the message is from the line's device at its sender's address, and to the line's account
 pub record IsOfLine (line : TakeLine) (t : Taken) : Type 0 where

@@ -3,11 +3,11 @@ use Rattle.std.specs.Prelude.{ℕ, ◌≡◌, ◌≤◌, List, [], ◌∷◌, Op
 use Rattle.std.specs.List.{AllByRecursion}
 use Rattle.std.specs.Map.{lookup}
 use Rattle.std.specs.Option.{option_map}
-use Rattle.srv_state.specs.State.{Hall, Out, Put, Shut, Took, is_number}
+use Rattle.srv_state.specs.State.{Out, Put, ServerState, Shut, Took, is_number}
 use Rattle.srv_state.specs.declared.connection.Connection.{Connection}
 use Rattle.xml_framer.specs.declared.states.Phase.{Phase}
 use Rattle.xml_framer.specs.declared.states.Phase.TheVariants as phase
-use Rattle.sim_3_images.specs.ImagesCores.{IsNoFooter, writer_of}
+use Rattle.sim_3_images.specs.EncodingsCores.{IsNoFooter, writer_of}
 use Rattle.sm_live.specs.Sessions.{Session}
 use Rattle.xml_writer.specs.Items.{ItemOut}
 
@@ -28,13 +28,13 @@ Differ [] = Unit {0}
 Differ (e ∷ es) = (lookup (is_number e.0) es ≡ None) × Differ es
 
 -- a connection on which a session is, is open behind its header
-abbrev pub IsBehind : Conns → Option ℕ → Type 0
-IsBehind conns None = Unit {0}
-IsBehind conns (Some k) = writer_in k conns ≡ Some phase.Between
+abbrev pub IsAfter : Conns → Option ℕ → Type 0
+IsAfter conns None = Unit {0}
+IsAfter conns (Some k) = writer_in k conns ≡ Some phase.Between
 
 -- and none of what waits there is a footer
 pub record SessionStands (conns : Conns) (t : Session ItemOut) : Type 0 where
-  pub on : IsBehind conns t.shown.conn
+  pub on : IsAfter conns t.shown.conn
   pub words : AllByRecursion IsNoFooter t.waiting
 
 -- two sessions on one connection are one
@@ -46,16 +46,16 @@ Alone [] = Unit {0}
 Alone (t ∷ l) = AllByRecursion (Apart t) l × Alone l
 
 -- of so many connections at most
-pub record HallStands (n : ℕ) (h : Hall ItemOut) : Type 0 where
+pub record ServerStateStands (n : ℕ) (h : ServerState ItemOut) : Type 0 where
   pub differ : Differ h.conns
   pub few : AllByRecursion (λ (e : ℕ × Connection). e.0 ≤ n) h.conns
   pub sessions : AllByRecursion (SessionStands h.conns) h.sessions
   pub alone : Alone h.sessions
 
--- ---- beside what else is kept of a hall
+-- ---- beside what else is kept of a server's state
 
-abbrev pub StandingHalls : (Hall ItemOut → Type 0) → ℕ → Hall ItemOut → Type 0
-StandingHalls Keeps n h = HallStands n h × Keeps h
+abbrev pub StandingServers : (ServerState ItemOut → Type 0) → ℕ → ServerState ItemOut → Type 0
+StandingServers Keeps n h = ServerStateStands n h × Keeps h
 
 -- what is put out for a connection fits
 abbrev pub OutPuts : (ItemOut → Type 0) → Out ItemOut → Type 0

@@ -3,8 +3,8 @@ ghost use Rattle.std.specs.Prelude.{◌≡◌, ◌≢◌, ℕ, List, true};
 ghost use Rattle.sim_3_images.specs.Devices.{AreTwo, IsDeviceAt, identity_at};
 ghost use Rattle.sim_3_images.specs.Logins.{HasLogin, IsDrawn};
 ghost use Rattle.sim_3_items.specs.Identities.{Identity, IsNormal, Login, own_account};
-ghost use Rattle.sim_3_items.specs.Servers.{IsServed};
-ghost use Rattle.sim_3_items.specs.Shows.{Shows};
+ghost use Rattle.sim_3_items.specs.Servers.{IsDeviceServed};
+ghost use Rattle.sim_3_items.specs.Represents.{Represents};
 ghost use Rattle.cmd_network.specs.Starting.{accounts_at_start, device_at_start};
 ghost use Rattle.sim_3_images.specs.ItemStarts.{items_at_start};
 ghost use Rattle.sim_2_links.specs.Machine.{nothing_yet};
@@ -13,7 +13,7 @@ ghost use Rattle.cmd_schedule.specs.Contents.{Owned, accounts_of};
 ghost use Rattle.cmd_schedule.specs.Schedules.{WireView};
 ghost use Rattle.cmd_schedule.specs.WireGrammar.{IsWireSchedule};
 ghost use Rattle.auth_scram.specs.Exchange.{is_plain};
-ghost use Rattle.srv_core.specs.Configs.{hall_at_start};
+ghost use Rattle.srv_core.specs.Configs.{server_state_at_start};
 ghost use Rattle.cmd_world.specs.Histories.{common_steps};
 ghost use Rattle.cmd_world.specs.Worlds.{client_entropy, server_entropy};
 
@@ -21,13 +21,13 @@ ghost use Rattle.cmd_world.specs.Worlds.{client_entropy, server_entropy};
 /// normal form (`normal`); a server of the schedule's accounts has its account and its archive (`served`), and its
 /// client has the same account (`client`). Its account's name and password are printable ASCII (`name`, `password`).
 pub fn devices_have_identities()
-    ensures normal { (schedule : WireView) (place : ℕ) (o : Owned) → IsWireSchedule schedule → IsDeviceAt schedule place o → IsNormal (identity_at schedule place o) }
-    ensures served { (schedule : WireView) (place : ℕ) (o : Owned) (keep : ℕ) → IsWireSchedule schedule → IsDeviceAt schedule place o
-        → IsServed (identity_at schedule place o) (hall_at_start domain (accounts_at_start (accounts_of (common_steps schedule))) keep) }
-    ensures client { (schedule : WireView) (place : ℕ) (o : Owned) → IsWireSchedule schedule → IsDeviceAt schedule place o
-        → (device_at_start o.device o.account).client.client.account ≡ own_account (identity_at schedule place o) }
-    ensures name { (schedule : WireView) (place : ℕ) (o : Owned) → IsWireSchedule schedule → IsDeviceAt schedule place o → is_plain (identity_at schedule place o).name ≡ true }
-    ensures password { (schedule : WireView) (place : ℕ) (o : Owned) → IsWireSchedule schedule → IsDeviceAt schedule place o → is_plain (identity_at schedule place o).password ≡ true }
+    ensures normal { (schedule : WireView) (position : ℕ) (o : Owned) → IsWireSchedule schedule → IsDeviceAt schedule position o → IsNormal (identity_at schedule position o) }
+    ensures served { (schedule : WireView) (position : ℕ) (o : Owned) (keep : ℕ) → IsWireSchedule schedule → IsDeviceAt schedule position o
+        → IsDeviceServed (identity_at schedule position o) (server_state_at_start domain (accounts_at_start (accounts_of (common_steps schedule))) keep) }
+    ensures client { (schedule : WireView) (position : ℕ) (o : Owned) → IsWireSchedule schedule → IsDeviceAt schedule position o
+        → (device_at_start o.device o.account).client.client.account ≡ own_account (identity_at schedule position o) }
+    ensures name { (schedule : WireView) (position : ℕ) (o : Owned) → IsWireSchedule schedule → IsDeviceAt schedule position o → is_plain (identity_at schedule position o).name ≡ true }
+    ensures password { (schedule : WireView) (position : ℕ) (o : Owned) → IsWireSchedule schedule → IsDeviceAt schedule position o → is_plain (identity_at schedule position o).password ≡ true }
 {}
 
 /// A law: two devices of a wire schedule have two places and two resources.
@@ -42,13 +42,13 @@ pub fn devices_are_apart()
 /// (`schedule`).
 pub fn logins_go_through()
     ensures drawn { (who : Identity) (mine yours : List ℕ) → is_plain who.name ≡ true → is_plain who.password ≡ true → IsDrawn mine → IsDrawn yours → HasLogin who mine yours }
-    ensures schedule { (schedule : WireView) (place : ℕ) (o : Owned) → IsWireSchedule schedule → IsDeviceAt schedule place o
-        → (n : ℕ) → HasLogin (identity_at schedule place o) (client_entropy n) (server_entropy n) }
+    ensures schedule { (schedule : WireView) (position : ℕ) (o : Owned) → IsWireSchedule schedule → IsDeviceAt schedule position o
+        → (n : ℕ) → HasLogin (identity_at schedule position o) (client_entropy n) (server_entropy n) }
 {}
 
 /// A law: the first world of items of a wire schedule shows each of its devices, whatever its logins will be: nothing is
 /// there yet.
 pub fn devices_are_shown_from_the_start()
-    ensures { (schedule : WireView) (place : ℕ) (o : Owned) (logins : ℕ → Login) → IsWireSchedule schedule → IsDeviceAt schedule place o
-        → Shows (identity_at schedule place o) logins (items_at_start schedule) nothing_yet }
+    ensures { (schedule : WireView) (position : ℕ) (o : Owned) (logins : ℕ → Login) → IsWireSchedule schedule → IsDeviceAt schedule position o
+        → Represents (identity_at schedule position o) logins (items_at_start schedule) nothing_yet }
 {}

@@ -1,11 +1,11 @@
-//! Laws. Worlds of bytes as images of worlds of items, and what is kept in both; the archives of a wire schedule's report are
-//! those of its takes.
+//! Laws. Worlds of bytes as encodings of worlds of items, and what is kept in both; the archives of a wire schedule's
+//! report are those of its takes.
 #![tactic(auto)]
 
 mod archived_takes;
 mod cores;
 mod device_logins;
-mod images;
+mod encodings;
 mod kept_worlds;
 mod limits;
 mod numbers;
@@ -16,7 +16,7 @@ pub use cores::{both_cores_keep_to_the_limits, each_world_is_one_of_items};
 pub use device_logins::{
     devices_are_apart, devices_are_shown_from_the_start, devices_have_identities, logins_go_through,
 };
-pub use images::{
+pub use encodings::{
     a_move_is_moves_of_items, histories_are_those_of_items, no_bytes_are_no_items,
     pipes_of_bytes_carry_items, what_a_server_puts_is_in_order,
 };

@@ -7,9 +7,9 @@ use Rattle.im_forwarding.specs.Copies.{CopyView, copy_elem, copy_item}
 use Rattle.im_forwarding.specs.Passed.{passed_elem, passed_item}
 use Rattle.sim_3_items.proofs.ItemsUp.{empty_again}
 use Rattle.sim_3_items.proofs.TextsTold.{entry_again, epoch_again, n_again}
-use Rattle.sim_3_items.specs.Downs.{archived_id, bounced, down_elem, down_stanza, message_sent, message_told}
+use Rattle.sim_3_items.specs.Downs.{archived_id, bounced, down_elem, down_stanza, message_read_of, message_sent}
 use Rattle.sim_3_items.specs.Meant.{IsEntryNumber, IsOrigin, IsSubmitted}
-use Rattle.sim_3_items.specs.Told.{entry_told, is_error, query_told}
+use Rattle.sim_3_items.specs.Told.{entry_of_id, is_error, query_of_id}
 use Rattle.sm_outbox.specs.Submissions.{origin_of}
 use Rattle.im_payload.specs.Shapes.{attr_or_empty}
 use Rattle.im_replies.specs.Requests.{EnvelopeView, bounce_item, result_item}
@@ -31,13 +31,13 @@ use Rattle.xml_trees.specs.Trees.{element, no_nodes, child}
 pub accepted_read : (a : EnvelopeView) → down_stanza (result_item a no_nodes) ≡ Accepted
 accepted_read a =
     let e = iq_elem (record { from = a.from; to = a.to; id = a.id; kind = iq.Result; payload = no_nodes }) in
-    ap (λ kind. if is_error kind then NotFound (query_told (attr_or_empty (codes "id") e)) else Accepted) (type_written a.from (Some a.id) a.to (Some (iq_type iq.Result)) None)
+    ap (λ kind. if is_error kind then NotFound (query_of_id (attr_or_empty (codes "id") e)) else Accepted) (type_written a.from (Some a.id) a.to (Some (iq_type iq.Result)) None)
 
 pub bounced_read : (from resource : List ℕ) (epoch n : ℕ) (e : StanzaError) → IsOrigin resource epoch n → down_stanza (bounce_item from (origin_of resource epoch n) e) ≡ Bounced epoch n
 bounced_read from resource epoch n error is =
     let id = origin_of resource epoch n in
     let e = bounce_elem from id error in
-    let kind = ap (λ kind. message_told kind e) (type_written (Some from) (unless_empty id) None (Some (message_type Error)) None) in
+    let kind = ap (λ kind. message_read_of kind e) (type_written (Some from) (unless_empty id) None (Some (message_type Error)) None) in
     let same : attr_or_empty (codes "id") e ≡ id =
     ap (λ (o : Option (List ℕ)). unwrap_or o []) (id_written (Some from) (unless_empty id) None (Some (message_type Error)) None) ∙ empty_again id in
     let epochs = epoch_again resource epoch n is in
@@ -57,7 +57,7 @@ passed_id by number m is =
 
 -- a message that is passed on contains neither a result nor a carbon
 plainly_told : (by : List ℕ) (number : ℕ) (m : MessageView) (origin said : List ℕ) (apart : Bool)
-    → (let e = passed_elem by (Some number) (record m { payload = submission_nodes origin said apart }) in message_told (Some (message_type Chat)) e ≡ Live (entry_told (archived_id e)))
+    → (let e = passed_elem by (Some number) (record m { payload = submission_nodes origin said apart }) in message_read_of (Some (message_type Chat)) e ≡ Live (entry_of_id (archived_id e)))
 plainly_told by number m origin said true = refl
 plainly_told by number m origin said false = refl
 
@@ -66,10 +66,10 @@ passed_read by number m is entry =
     let e = passed_elem by (Some number) in
     let m0 = record m { payload = submission_nodes is.origin is.said is.apart } in
     let contains = ap (λ p. down_elem (e (record m { payload = p }))) is.contains in
-    let kind = ap (λ kind. message_told kind (e m0)) (type_written m.from (unless_empty m.id) m.to (Some (message_type m.kind)) (unless_empty m.lang)) in
-    let chat = ap (λ kind. message_told (Some (message_type kind)) (e m0)) is.chat in
+    let kind = ap (λ kind. message_read_of kind (e m0)) (type_written m.from (unless_empty m.id) m.to (Some (message_type m.kind)) (unless_empty m.lang)) in
+    let chat = ap (λ kind. message_read_of (Some (message_type kind)) (e m0)) is.chat in
     let plain = plainly_told by number m is.origin is.said is.apart in
-    contains ∙ kind ∙ chat ∙ plain ∙ ap (λ id. Live (entry_told id)) (id_of_nodes by number m is.origin is.said is.apart) ∙ ap Live (entry_again number entry)
+    contains ∙ kind ∙ chat ∙ plain ∙ ap (λ id. Live (entry_of_id id)) (id_of_nodes by number m is.origin is.said is.apart) ∙ ap Live (entry_again number entry)
 
 -- ---- copies
 
@@ -81,9 +81,9 @@ sent_within attrs false stamp m = refl
 pub copied_read : (c : CopyView) (full : List ℕ) (number : ℕ) → IsSubmitted c.message → c.number ≡ Some number → IsEntryNumber number → down_stanza (copy_item c full) ≡ Live number
 copied_read c full number is numbered entry =
     let e = copy_elem c full in
-    let kind = ap (λ kind. message_told kind e) (type_written (Some c.by) (unless_empty []) (Some full) (Some (message_type c.message.kind)) (unless_empty [])) in
-    let chat = ap (λ kind. message_told (Some (message_type kind)) e) is.chat in
+    let kind = ap (λ kind. message_read_of kind e) (type_written (Some c.by) (unless_empty []) (Some full) (Some (message_type c.message.kind)) (unless_empty [])) in
+    let chat = ap (λ kind. message_read_of (Some (message_type kind)) e) is.chat in
     let sent : message_sent e ≡ passed_elem c.by c.number c.message = sent_within _ c.sent (stamp_at c.moment) _ in
     let id : archived_id (message_sent e) ≡ id_of number =
     ap archived_id sent ∙ ap (λ o. archived_id (passed_elem c.by o c.message)) numbered ∙ passed_id c.by number c.message is in
-    kind ∙ chat ∙ ap (λ t. Live (entry_told t)) id ∙ ap Live (entry_again number entry)
+    kind ∙ chat ∙ ap (λ t. Live (entry_of_id t)) id ∙ ap Live (entry_again number entry)

@@ -5,7 +5,7 @@ use Rattle.mam_archive.specs.Ids.{id_of}
 use Rattle.im_extensions.specs.Given.{is_private}
 use Rattle.sim_3_items.proofs.TextsTold.{entry_again, epoch_again, n_again, name_again, number_again, query_again}
 use Rattle.sim_3_items.specs.Meant.{Fits, IsEntryNumber, IsOrigin, IsRequest, requested, submitted}
-use Rattle.sim_3_items.specs.Told.{entry_told, epoch_told, n_told, name_told, number_told}
+use Rattle.sim_3_items.specs.Told.{entry_of_id, epoch_of_id, local_part_of, number_of_digits, number_of_id}
 use Rattle.sim_3_items.specs.Ups.{up_stanza}
 use Rattle.im_mam.specs.ResultSets.{set_text}
 use Rattle.sm_outbox.specs.Submissions.{origin_of}
@@ -57,9 +57,9 @@ module _ (resource domain : List ℕ) (m : Submission) (is : IsOrigin resource m
 
   pub submission_read : up_stanza (submitted resource domain m) ≡ Message m
   submission_read =
-      let epoch = ap epoch_told (id_again origin address nodes) ∙ epoch_again resource m.epoch m.n is in
-      let n = ap n_told (id_again origin address nodes) ∙ n_again resource m.epoch m.n is in
-      let to = ap name_told (to_again origin address nodes) ∙ name_again m.to domain named in
+      let epoch = ap epoch_of_id (id_again origin address nodes) ∙ epoch_again resource m.epoch m.n is in
+      let n = ap number_of_id (id_again origin address nodes) ∙ n_again resource m.epoch m.n is in
+      let to = ap local_part_of (to_again origin address nodes) ∙ name_again m.to domain named in
       let text = text_of-text_node m.text in
       let private = private_again origin m.text m.private in
       λ i. Message (record { epoch = epoch i; n = n i; to = to i; text = text i; private = private i })
@@ -67,17 +67,17 @@ module _ (resource domain : List ℕ) (m : Submission) (is : IsOrigin resource m
 -- ---- requests
 
 module _ (queryid : List ℕ) (max : ℕ) where
-  place_again : (after : Option ℕ) → IfSome after IsEntryNumber → option_map entry_told (set_text (codes "after") (page_elem queryid (option_map id_of after) max)) ≡ after
-  place_again None is = refl
-  place_again (Some n) is = ap (λ t. Some (entry_told t)) (text_of-text_node (id_of n)) ∙ ap Some (entry_again n is)
+  position_again : (after : Option ℕ) → IfSome after IsEntryNumber → option_map entry_of_id (set_text (codes "after") (page_elem queryid (option_map id_of after) max)) ≡ after
+  position_again None is = refl
+  position_again (Some n) is = ap (λ t. Some (entry_of_id t)) (text_of-text_node (id_of n)) ∙ ap Some (entry_again n is)
 
-  max_again : (after : Option ℕ) → Fits max → number_told (unwrap_or (set_text (codes "max") (page_elem queryid (option_map id_of after) max)) []) ≡ max
-  max_again None fits = ap number_told (text_of-text_node (decimal max)) ∙ number_again max fits
-  max_again (Some n) fits = ap number_told (text_of-text_node (decimal max)) ∙ number_again max fits
+  max_again : (after : Option ℕ) → Fits max → number_of_digits (unwrap_or (set_text (codes "max") (page_elem queryid (option_map id_of after) max)) []) ≡ max
+  max_again None fits = ap number_of_digits (text_of-text_node (decimal max)) ∙ number_again max fits
+  max_again (Some n) fits = ap number_of_digits (text_of-text_node (decimal max)) ∙ number_again max fits
 
 pub request_read : (r : Request) → IsRequest r → up_stanza (requested r) ≡ Query r
 request_read r is =
     let number = query_again r.number is.number_fits in
-    let after = place_again (queryid_text r.number) r.max r.after is.place in
+    let after = position_again (queryid_text r.number) r.max r.after is.position in
     let max = max_again (queryid_text r.number) r.max r.after is.max_fits in
     λ i. Query (record { number = number i; after = after i; max = max i })

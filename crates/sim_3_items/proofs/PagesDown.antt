@@ -9,7 +9,7 @@ use Rattle.im_forwarding.specs.Results.{AskerView, entry_elem, entry_item, fin_i
 use Rattle.sim_3_items.proofs.TextsTold.{entry_again, number_again, query_again}
 use Rattle.sim_3_items.specs.Downs.{down_elem, down_stanza}
 use Rattle.sim_3_items.specs.Meant.{Fits, IsEntryNumber, IsPage}
-use Rattle.sim_3_items.specs.Told.{entry_told, is_error, number_told, query_told}
+use Rattle.sim_3_items.specs.Told.{entry_of_id, is_error, number_of_digits, query_of_id}
 use Rattle.im_mam.specs.ArchiveAnswers.{fin_elem, fin_elem_with, fin_elem_without_index}
 use Rattle.im_mam.specs.ResultSets.{set_text}
 use Rattle.mam_pages.specs.Cuts.{CutView, fin_of}
@@ -61,19 +61,19 @@ module _ (complete : Bool) (index : Option ℕ) (count : ℕ) where
   count_again (Some id) None = ap Some (text_of-text_node (decimal count))
   count_again (Some id) (Some t) = ap Some (text_of-text_node (decimal count))
 
-pub last_place : (ns : List ℕ) → slice_get ns (length ns - 1) ≡ last_in ns
-last_place [] = refl
-last_place (n ∷ []) = refl
-last_place (n ∷ m ∷ ns) =
+pub last_position : (ns : List ℕ) → slice_get ns (length ns - 1) ≡ last_in ns
+last_position [] = refl
+last_position (n ∷ []) = refl
+last_position (n ∷ m ∷ ns) =
     let whole : length (n ∷ m ∷ ns) - 1 ≡ suc (length (m ∷ ns) - 1) = omega arith in
-    ap (slice_get (n ∷ m ∷ ns)) whole ∙ last_place (m ∷ ns)
+    ap (slice_get (n ∷ m ∷ ns)) whole ∙ last_position (m ∷ ns)
 
 last_fits : (ns : List ℕ) → AllByRecursion IsEntryNumber ns → IfSome (last_in ns) IsEntryNumber
 last_fits [] all = tt
 last_fits (n ∷ []) all = all.0
 last_fits (n ∷ m ∷ ns) all = last_fits (m ∷ ns) all.1
 
-ids_again : (o : Option ℕ) → IfSome o IsEntryNumber → option_map entry_told (option_map id_of o) ≡ o
+ids_again : (o : Option ℕ) → IfSome o IsEntryNumber → option_map entry_of_id (option_map id_of o) ≡ o
 ids_again None is = refl
 ids_again (Some n) is = ap Some (entry_again n is)
 
@@ -84,12 +84,12 @@ module _ (a : EnvelopeView) (cut : CutView) (q : ℕ) (is : a.id ≡ queryid_tex
   end_with : (index : Option ℕ) → down_stanza (result_item a (child (fin_elem_with index end) no_nodes)) ≡ Fin q cut.complete (last_in cut.numbers) cut.count
   end_with index =
       let id = ap (λ (o : Option (List ℕ)). unwrap_or o []) (id_written a.from (Some a.id) a.to (Some (iq_type iq.Result)) None) ∙ is in
-      let query = ap query_told id ∙ query_again q fits in
+      let query = ap query_of_id id ∙ query_again q fits in
       let complete = complete_again cut.complete (nodes_of (fin_elem_with index end)) in
       let last =
-      ap (option_map entry_told) (last_again cut.complete index cut.count end.first end.last)
-      ∙ ap (λ o. option_map entry_told (option_map id_of o)) (last_place cut.numbers) ∙ ids_again (last_in cut.numbers) (last_fits cut.numbers page.entries) in
-      let count = ap (λ (o : Option (List ℕ)). number_told (unwrap_or o [])) (count_again cut.complete index cut.count end.first end.last) ∙ number_again cut.count page.count_fits in
+      ap (option_map entry_of_id) (last_again cut.complete index cut.count end.first end.last)
+      ∙ ap (λ o. option_map entry_of_id (option_map id_of o)) (last_position cut.numbers) ∙ ids_again (last_in cut.numbers) (last_fits cut.numbers page.entries) in
+      let count = ap (λ (o : Option (List ℕ)). number_of_digits (unwrap_or o [])) (count_again cut.complete index cut.count end.first end.last) ∙ number_again cut.count page.count_fits in
       λ i. Fin (query i) (complete i) (last i) (count i)
 
   pub end_read : down_stanza (fin_item a cut) ≡ Fin q cut.complete (last_in cut.numbers) cut.count
@@ -105,5 +105,5 @@ pub not_found_read : (a : EnvelopeView) (q : ℕ) → a.id ≡ queryid_text q �
 not_found_read a q is fits =
     let e = iq_error_elem a.from a.to a.id no_such_place in
     let id = ap (λ (o : Option (List ℕ)). unwrap_or o []) (id_written a.from (Some a.id) a.to (Some (iq_type iq.Error)) None) ∙ is in
-    ap (λ kind. if is_error kind then NotFound (query_told (attr_or_empty (codes "id") e)) else Accepted) (type_written a.from (Some a.id) a.to (Some (iq_type iq.Error)) None)
-    ∙ ap (λ t. NotFound (query_told t)) id ∙ ap NotFound (query_again q fits)
+    ap (λ kind. if is_error kind then NotFound (query_of_id (attr_or_empty (codes "id") e)) else Accepted) (type_written a.from (Some a.id) a.to (Some (iq_type iq.Error)) None)
+    ∙ ap (λ t. NotFound (query_of_id t)) id ∙ ap NotFound (query_again q fits)

@@ -11,7 +11,7 @@ use Rattle.std.specs.Str.Parse.{AllDigits}
 use Rattle.mam_archive.proofs.IdDigits.{number_found}
 use Rattle.mam_archive.specs.Ids.{id_of}
 use Rattle.sim_3_items.specs.Meant.{Fits, IsEntryNumber, IsOrigin}
-use Rattle.sim_3_items.specs.Told.{entry_told, epoch_told, is_at, is_dot, n_told, name_told, number_told, query_told}
+use Rattle.sim_3_items.specs.Told.{entry_of_id, epoch_of_id, is_at, is_dot, local_part_of, number_of_digits, number_of_id, query_of_id}
 use Rattle.sm_outbox.specs.Submissions.{origin_of}
 use Rattle.im_requests.specs.Messages.{queryid_text}
 use Rattle.cmd_schedule.specs.Grammar.{is_digit, is_lower, is_name}
@@ -29,8 +29,8 @@ module _ (p : ℕ → Bool) where
   pub before_it : (xs : List ℕ) (c : ℕ) (ys : List ℕ) → NonePasses p xs → p c ≡ true → before_first p (xs ++ c ∷ ys) ≡ xs
   before_it xs c ys none is = ap (λ n. take n (xs ++ c ∷ ys)) (position xs c ys none is) ∙ take-append_seam xs (c ∷ ys)
 
-  pub behind_it : (xs : List ℕ) (c : ℕ) (ys : List ℕ) → NonePasses p xs → p c ≡ true → after_first p (xs ++ c ∷ ys) ≡ ys
-  behind_it xs c ys none is = ap (λ n. drop (n + 1) (xs ++ c ∷ ys)) (position xs c ys none is) ∙ drop-append-add xs (c ∷ ys) 1
+  pub after_it : (xs : List ℕ) (c : ℕ) (ys : List ℕ) → NonePasses p xs → p c ≡ true → after_first p (xs ++ c ∷ ys) ≡ ys
+  after_it xs c ys none is = ap (λ n. drop (n + 1) (xs ++ c ∷ ys)) (position xs c ys none is) ∙ drop-append-add xs (c ∷ ys) 1
 
 -- ---- names and digits have neither a dot nor an at sign
 
@@ -70,13 +70,13 @@ digits_undotted (d ∷ ds) all = (undotted d all.0, digits_undotted ds all.1)
 
 -- ---- numbers
 
-pub number_again : (n : ℕ) → Fits n → number_told (decimal n) ≡ n
+pub number_again : (n : ℕ) → Fits n → number_of_digits (decimal n) ≡ n
 number_again n fits = (decimal_is_IsNumeral n fits).1
 
-pub query_again : (q : ℕ) → Fits q → query_told (queryid_text q) ≡ q
+pub query_again : (q : ℕ) → Fits q → query_of_id (queryid_text q) ≡ q
 query_again q fits = number_again q fits
 
-pub entry_again : (n : ℕ) → IsEntryNumber n → entry_told (id_of n) ≡ n
+pub entry_again : (n : ℕ) → IsEntryNumber n → entry_of_id (id_of n) ≡ n
 entry_again n is = ap (λ o. unwrap_or o 0) (sym (number_found (id_of n) n is.some is.fits refl))
 
 -- ---- names
@@ -84,7 +84,7 @@ entry_again n is = ap (λ o. unwrap_or o 0) (sym (number_found (id_of n) n is.so
 pub no_at : (name : List ℕ) → is_name name ≡ true → NonePasses is_at name
 no_at name is = in_name is_at first_no_at char_no_at name is
 
-pub name_again : (name domain : List ℕ) → is_name name ≡ true → name_told (name ++ 64 ∷ domain) ≡ name
+pub name_again : (name domain : List ℕ) → is_name name ≡ true → local_part_of (name ++ 64 ∷ domain) ≡ name
 name_again name domain is = before_it is_at name 64 domain (no_at name is) refl
 
 -- ---- origin ids
@@ -95,15 +95,15 @@ module _ (resource : List ℕ) (epoch n : ℕ) (is : IsOrigin resource epoch n) 
 
   numbers_again : after_first is_dot (origin_of resource epoch n) ≡ decimal epoch ++ 46 ∷ decimal n
   numbers_again =
-      ap (after_first is_dot) cut ∙ behind_it is_dot resource 46 (decimal epoch ++ 46 ∷ decimal n) (in_name is_dot first_undotted char_undotted resource is.device) refl
+      ap (after_first is_dot) cut ∙ after_it is_dot resource 46 (decimal epoch ++ 46 ∷ decimal n) (in_name is_dot first_undotted char_undotted resource is.device) refl
 
   undotted : NonePasses is_dot (decimal epoch)
   undotted = digits_undotted (decimal epoch) (decimal_is_IsNumeral epoch is.epoch_fits).0.1
 
-  pub epoch_again : epoch_told (origin_of resource epoch n) ≡ epoch
+  pub epoch_again : epoch_of_id (origin_of resource epoch n) ≡ epoch
   epoch_again =
-      ap (λ t. number_told (before_first is_dot t)) numbers_again ∙ ap number_told (before_it is_dot (decimal epoch) 46 (decimal n) undotted refl) ∙ number_again epoch is.epoch_fits
+      ap (λ t. number_of_digits (before_first is_dot t)) numbers_again ∙ ap number_of_digits (before_it is_dot (decimal epoch) 46 (decimal n) undotted refl) ∙ number_again epoch is.epoch_fits
 
-  pub n_again : n_told (origin_of resource epoch n) ≡ n
+  pub n_again : number_of_id (origin_of resource epoch n) ≡ n
   n_again =
-      ap (λ t. number_told (after_first is_dot t)) numbers_again ∙ ap number_told (behind_it is_dot (decimal epoch) 46 (decimal n) undotted refl) ∙ number_again n is.n_fits
+      ap (λ t. number_of_digits (after_first is_dot t)) numbers_again ∙ ap number_of_digits (after_it is_dot (decimal epoch) 46 (decimal n) undotted refl) ∙ number_again n is.n_fits

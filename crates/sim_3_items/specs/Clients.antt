@@ -2,14 +2,14 @@
 use Rattle.std.specs.Prelude.{◌≡◌, ℕ, ◌+◌, ◌≤◌, ◌⊎◌, false, All, List, Ok, Option, Some, None, is_none, length}
 use Rattle.sm_acks.specs.declared.end.TheConstants.{MOST_UNACKNOWLEDGED}
 use Rattle.cl_login.specs.declared.login_state.LoginState.TheVariants as state
-use Rattle.cl_handlers.specs.Turns.{is_apart}
+use Rattle.cl_handlers.specs.ClientSteps.{is_apart}
 use Rattle.cl_handlers.specs.declared.phase.Phase.{Phase}
 use Rattle.cl_handlers.specs.declared.phase.Phase.TheVariants as phase
 use Rattle.sim_3_items.specs.Counted.{IsForServer}
-use Rattle.sim_3_items.specs.Deeds.{ArePrompt, Deed, deeds_of}
+use Rattle.sim_3_items.specs.Labels.{ArePrompt, Label, labels_of}
 use Rattle.sim_3_items.specs.Frames.{SameServer}
 use Rattle.sim_3_items.specs.Identities.{Identity, Login, own_account}
-use Rattle.sim_3_items.specs.Pipes.{PipesShow}
+use Rattle.sim_3_items.specs.Pipes.{PipesRepresent}
 use Rattle.sim_3_items.specs.WordItems.{told_count}
 use Rattle.sim_3_items.specs.ItemPipes.{ItemWire}
 use Rattle.sim_3_items.specs.ItemWorlds.{ItemDevice}
@@ -46,34 +46,34 @@ pub record IsOwn (o : Own ItemOut) (s : SessionView ItemOut) : Type 0 where
   pub for_server : All IsForServer o.queue
   pub few : length o.queue ≤ MOST_UNACKNOWLEDGED
 
-abbrev pub IsOwnShown : Option (Own ItemOut) → Option (SessionView ItemOut) → Type 0
-IsOwnShown None None = Unit {0}
-IsOwnShown (Some o) (Some s) = IsOwn o s
-IsOwnShown _ _ = ⊥
+abbrev pub IsOwnRepresented : Option (Own ItemOut) → Option (SessionView ItemOut) → Type 0
+IsOwnRepresented None None = Unit {0}
+IsOwnRepresented (Some o) (Some s) = IsOwn o s
+IsOwnRepresented _ _ = ⊥
 
 -- ---- the client
 
 -- The connection that the device has is the one that its client works on, or one of which the client was told the end:
 -- then it stands apart.
-pub record ClientShows (who : Identity) (logins : ℕ → Login) (d : ItemDevice) (v : View ItemOut) : Type 0 where
+pub record ClientRepresents (who : Identity) (logins : ℕ → Login) (d : ItemDevice) (v : View ItemOut) : Type 0 where
   pub account : d.client.account ≡ own_account who
   pub epoch : d.client.epoch ≡ v.epoch
-  pub own : IsOwnShown v.own d.client.session
+  pub own : IsOwnRepresented v.own d.client.session
   pub apart : is_apart d.client.phase ≡ is_none v.here
-  pub here : (k : ℕ) → v.here ≡ Some k → (place : ℕ) × (k ≡ place + 1) × (d.here ≡ Some place)
-  pub has : (place : ℕ) → d.here ≡ Some place → (c : Conn ItemOut) × (v.conns (place + 1) ≡ Some c) × ((v.here ≡ Some (place + 1)) ⊎ (is_flowing c.wires ≡ false))
+  pub here : (k : ℕ) → v.here ≡ Some k → (position : ℕ) × (k ≡ position + 1) × (d.here ≡ Some position)
+  pub has : (position : ℕ) → d.here ≡ Some position → (c : Conn ItemOut) × (v.conns (position + 1) ≡ Some c) × ((v.here ≡ Some (position + 1)) ⊎ (is_flowing c.wires ≡ false))
   pub phase : (k : ℕ) (c : Conn ItemOut) → v.here ≡ Some k → v.conns k ≡ Some c → d.client.phase ≡ client_phase who (logins k) c.client
 
 -- ---- what a step of the client is in the links
 
 -- it comes to this, and these are then the pipes; and these stanzas were put and handled, those that are awaited with a
 -- request behind them
-pub record ClientFollows (who : Identity) (logins : ℕ → Login) (d : ItemDevice) (wires : Table ItemWire) (v : View ItemOut) (done : List (Deed ItemOut)) : Type 0 where
+pub record ClientFollows (who : Identity) (logins : ℕ → Login) (d : ItemDevice) (wires : Table ItemWire) (v : View ItemOut) (done : List (Label ItemOut)) : Type 0 where
   pub moves : List (LinkMove ItemOut)
   pub next : View ItemOut
   pub leads : LinkReaches moves v next
-  pub does : deeds_of moves ≡ done
+  pub does : labels_of moves ≡ done
   pub prompt : ArePrompt moves
-  pub client : ClientShows who logins d next
-  pub pipes : PipesShow who logins wires next
+  pub client : ClientRepresents who logins d next
+  pub pipes : PipesRepresent who logins wires next
   pub server : SameServer v next

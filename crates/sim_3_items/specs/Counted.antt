@@ -1,10 +1,10 @@
 -- The stanzas between this project's own ends: those that the server takes of a session, and those that the client
 -- counts.
 use Rattle.std.specs.Prelude.{◌≡◌, ℕ, true, false, List, Option, Some, None, Result, Ok}
-use Rattle.srv_state.specs.State.{Hall}
+use Rattle.srv_state.specs.State.{ServerState}
 use Rattle.srv_state.specs.Words.{is_long, is_stanza}
 use Rattle.im_jid.specs.Cuts.{resource_of}
-use Rattle.sm_live.specs.declared.told.Told.{Told}
+use Rattle.sm_live.specs.declared.told.SessionInfo.{SessionInfo}
 use Rattle.im_stanza.specs.Readings.{stanza_of}
 use Rattle.im_stanza.specs.declared.fault.StanzaFault.{StanzaFault}
 use Rattle.im_stanza.specs.declared.stanzas.Stanza.{Stanza}
@@ -30,7 +30,7 @@ pub record IsForServer (z : ItemOut) : Type 0 where
   pub stanza : is_stanza elem ≡ true
   pub short : is_long elem ≡ false
   pub bare : IsForBare (stanza_of elem)
-  pub fair : (t : Told) (h : Hall ItemOut) → stanza_condition (stanza_of elem) t h ≡ None
+  pub fair : (t : SessionInfo) (h : ServerState ItemOut) → stanza_condition (stanza_of elem) t h ≡ None
 
 -- it is a stanza by its name
 pub record IsForClient (z : ItemOut) : Type 0 where

@@ -14,7 +14,7 @@ use Rattle.auth_scram.specs.declared.client_first.ClientFirst.{ClientFirst}
 -- domain
 -- and its password; and the device's resource
 pub record Identity : Type 0 where
-  pub place : ℕ
+  pub position : ℕ
   pub account : ℕ
   pub name : List ℕ
   pub domain : List ℕ

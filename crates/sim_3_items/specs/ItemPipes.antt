@@ -40,8 +40,8 @@ is_empty p = has_none p.items
 abbrev pub is_end_due : ItemPipe → Bool
 is_end_due p = is_empty p && p.ended && not p.told
 
-abbrev pub with_end_told : ItemPipe → ItemPipe
-with_end_told p = record p { told = true }
+abbrev pub with_end_reported : ItemPipe → ItemPipe
+with_end_reported p = record p { told = true }
 
 -- ---- both pipes of a connection
 
@@ -78,8 +78,8 @@ handed_up w = record w { up = handed w.up }
 abbrev pub handed_down : ItemWire → ItemWire
 handed_down w = record w { down = handed w.down }
 
-abbrev pub up_end_told : ItemWire → ItemWire
-up_end_told w = record w { up = with_end_told w.up }
+abbrev pub up_end_reported : ItemWire → ItemWire
+up_end_reported w = record w { up = with_end_reported w.up }
 
-abbrev pub down_end_told : ItemWire → ItemWire
-down_end_told w = record w { down = with_end_told w.down }
+abbrev pub down_end_reported : ItemWire → ItemWire
+down_end_reported w = record w { down = with_end_reported w.down }

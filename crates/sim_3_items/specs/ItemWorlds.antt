@@ -1,7 +1,7 @@
 -- A world of items: the server and the clients of devices, over items, and between them connections of two pipes each.
 use Rattle.std.specs.Prelude.{ℕ, List, [], Option}
-use Rattle.cl_handlers.specs.Clients.{ClientView, Turn}
-use Rattle.srv_state.specs.State.{Hall}
+use Rattle.cl_handlers.specs.Clients.{ClientStep, ClientView}
+use Rattle.srv_state.specs.State.{ServerState}
 use Rattle.xml_framer.specs.declared.items.Item.{Item}
 use Rattle.xml_framer.specs.declared.items.Item.TheVariants as item
 use Rattle.law_xml.specs.Spells.{as_written}
@@ -24,7 +24,7 @@ pub record Take : Type 0 where
 -- server took
 pub record ItemWorld : Type 0 where
   pub moment : ℕ
-  pub server : Hall ItemOut
+  pub server : ServerState ItemOut
   pub devices : List ItemDevice
   pub wires : List ItemWire
   pub takes : List Take
@@ -40,5 +40,5 @@ read_of (Whole e) = item.Element e
 read_of Closing = item.Footer
 
 -- a client that has put nothing and told nothing in this turn
-abbrev pub silent_turn : ClientView ItemOut → Turn ItemOut ItemOut
-silent_turn c = record { client = c; out = record { put = []; events = []; notes = [] } }
+abbrev pub silent_client_step : ClientView ItemOut → ClientStep ItemOut ItemOut
+silent_client_step c = record { client = c; out = record { put = []; events = []; notes = [] } }

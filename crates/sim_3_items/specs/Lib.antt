@@ -16,11 +16,11 @@ pub mod WordItems
 pub mod Counted
 pub mod Pipes
 pub mod Sent
-pub mod Deeds
+pub mod Labels
 pub mod Frames
 pub mod Servers
 pub mod Clients
-pub mod Shows
+pub mod Represents
 pub mod Reading
 -- law: what stands for what
 pub mod Built

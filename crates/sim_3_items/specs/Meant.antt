@@ -47,7 +47,7 @@ pub record IsSubmitted (m : MessageView) : Type 0 where
 
 pub record IsRequest (r : Request) : Type 0 where
   pub number_fits : Fits r.number
-  pub place : IfSome r.after IsEntryNumber
+  pub position : IfSome r.after IsEntryNumber
   pub max_fits : Fits r.max
 
 abbrev pub requested : Request → ItemOut

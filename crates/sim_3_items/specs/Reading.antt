@@ -3,18 +3,18 @@
 use Rattle.std.specs.Prelude.{◌≡◌, ℕ, ◌+◌, ◌++◌, ◌∷◌, List, [], Option, Some, None, nat_eq, true}
 use Rattle.std.specs.Option.{option_map}
 use Rattle.cl_core.specs.Steps.{item_step}
-use Rattle.cl_handlers.specs.Clients.{Turn}
+use Rattle.cl_handlers.specs.Clients.{ClientStep}
 use Rattle.cl_handlers.specs.Speech.{Acknowledged, Counted, Ended, Epoch, Handled, Note, Put, Stated, in_items}
-use Rattle.cl_handlers.specs.Turns.{is_apart}
-use Rattle.sim_3_items.specs.Clients.{ClientFollows, ClientShows}
-use Rattle.sim_3_items.specs.Deeds.{Deed, Drops, Enters, Learns, Names, Reads, Says}
+use Rattle.cl_handlers.specs.ClientSteps.{is_apart}
+use Rattle.sim_3_items.specs.Clients.{ClientFollows, ClientRepresents}
+use Rattle.sim_3_items.specs.Labels.{Drops, Enters, Label, Learns, Names, Reads, Says}
 use Rattle.sim_3_items.specs.Identities.{Identity, IsNormal, Login}
-use Rattle.sim_3_items.specs.Pipes.{PipesShow}
+use Rattle.sim_3_items.specs.Pipes.{PipesRepresent}
 use Rattle.sim_3_items.specs.Sent.{where_it}
-use Rattle.sim_3_items.specs.WordItems.{down_item, is_behind_login}
-use Rattle.sim_3_items.specs.ItemMoves.{here_behind, left_where}
-use Rattle.sim_3_items.specs.ItemPipes.{ItemWire, down_end_told, handed_down, left, put_up}
-use Rattle.sim_3_items.specs.ItemWorlds.{ItemDevice, read_of, silent_turn}
+use Rattle.sim_3_items.specs.WordItems.{down_item, is_after_login}
+use Rattle.sim_3_items.specs.ItemMoves.{here_after, left_where}
+use Rattle.sim_3_items.specs.ItemPipes.{ItemWire, down_end_reported, handed_down, left, put_up}
+use Rattle.sim_3_items.specs.ItemWorlds.{ItemDevice, read_of, silent_client_step}
 use Rattle.sim_2_links.specs.Machine.{LinkReached}
 use Rattle.sim_2_links.specs.Stages.{Conn}
 use Rattle.sim_2_links.specs.Views.{Table, View, with_at}
@@ -24,7 +24,7 @@ use Rattle.xml_writer.specs.Items.{ItemOut, Whole}
 
 -- ---- what a turn notes down of stanzas and of the session
 
-abbrev pub noted_by : Note ItemOut → List (Deed ItemOut)
+abbrev pub noted_by : Note ItemOut → List (Label ItemOut)
 noted_by (Epoch e) = Names ∷ []
 noted_by Counted = Enters ∷ []
 noted_by (Handled e) = Reads (Whole e) ∷ []
@@ -33,22 +33,22 @@ noted_by (Stated n) = []
 noted_by (Acknowledged n) = Learns ∷ []
 noted_by Ended = Drops ∷ []
 
-abbrev pub noted : List (Note ItemOut) → List (Deed ItemOut)
+abbrev pub noted : List (Note ItemOut) → List (Label ItemOut)
 noted [] = []
 noted (one ∷ notes) = noted_by one ++ noted notes
 
 -- ---- a device that is shown
 
 -- so far as its client goes
-pub record IsShownHere (who : Identity) (logins : ℕ → Login) (d : ItemDevice) (wires : Table ItemWire) (v : View ItemOut) : Type 0 where
+pub record IsRepresentedHere (who : Identity) (logins : ℕ → Login) (d : ItemDevice) (wires : Table ItemWire) (v : View ItemOut) : Type 0 where
   pub normal : IsNormal who
   pub reached : LinkReached v
-  pub client : ClientShows who logins d v
-  pub pipes : PipesShow who logins wires v
+  pub client : ClientRepresents who logins d v
+  pub pipes : PipesRepresent who logins wires v
 
 -- and the word is the first on its way down on the connection with this number, on which the client works
 pub record IsNextDown (who : Identity) (logins : ℕ → Login) (d : ItemDevice) (wires : Table ItemWire) (v : View ItemOut) (k : ℕ) (word : DownWord ItemOut) : Type 0 where
-  pub shown : IsShownHere who logins d wires v
+  pub shown : IsRepresentedHere who logins d wires v
   pub here : v.here ≡ Some k
   pub conn : Conn ItemOut
   pub is : v.conns k ≡ Some conn
@@ -60,51 +60,51 @@ pub record IsNextDown (who : Identity) (logins : ℕ → Login) (d : ItemDevice)
 -- ---- items
 
 -- what the client does on an item
-abbrev pub turn_on : ItemOut → ItemDevice → Turn ItemOut ItemOut
-turn_on i d = item_step in_items (silent_turn d.client) (read_of i)
+abbrev pub client_step_on : ItemOut → ItemDevice → ClientStep ItemOut ItemOut
+client_step_on i d = item_step in_items (silent_client_step d.client) (read_of i)
 
 -- the device and its connection behind the turn: where the client left, the device has no connection any more
-abbrev pub device_behind : Turn ItemOut ItemOut → ItemDevice → ItemDevice
-device_behind t d = record { client = t.client; here = here_behind (is_apart t.client.phase) d.here }
+abbrev pub device_after : ClientStep ItemOut ItemOut → ItemDevice → ItemDevice
+device_after t d = record { client = t.client; here = here_after (is_apart t.client.phase) d.here }
 
-abbrev pub wire_behind : Turn ItemOut ItemOut → ItemWire → ItemWire
-wire_behind t w = left_where (is_apart t.client.phase) (put_up t.out.put (handed_down w))
+abbrev pub wire_after : ClientStep ItemOut ItemOut → ItemWire → ItemWire
+wire_after t w = left_where (is_apart t.client.phase) (put_up t.out.put (handed_down w))
 
 -- behind a turn on an item of this connection the links have moved, and of stanzas as it noted down
-abbrev pub HearingFollows : Identity → (ℕ → Login) → ItemDevice → Table ItemWire → View ItemOut → ℕ → ItemWire → Turn ItemOut ItemOut → Type 0
-HearingFollows who logins d wires v k wire t = ClientFollows who logins (device_behind t d) (with_at k (wire_behind t wire) wires) v (noted t.out.notes)
+abbrev pub HearingFollows : Identity → (ℕ → Login) → ItemDevice → Table ItemWire → View ItemOut → ℕ → ItemWire → ClientStep ItemOut ItemOut → Type 0
+HearingFollows who logins d wires v k wire t = ClientFollows who logins (device_after t d) (with_at k (wire_after t wire) wires) v (noted t.out.notes)
 
 -- the word's item is read
 abbrev pub IsRead : Identity → (ℕ → Login) → ItemDevice → Table ItemWire → View ItemOut → ℕ → Conn ItemOut → ItemWire → DownWord ItemOut → Type 0
-IsRead who logins d wires v k conn wire word = HearingFollows who logins d wires v k wire (turn_on (down_item who (logins k) k (is_behind_login conn.client) word) d)
+IsRead who logins d wires v k conn wire word = HearingFollows who logins d wires v k wire (client_step_on (down_item who (logins k) k (is_after_login conn.client) word) d)
 
 -- ---- calls
 
 -- The connection that a device has is changed. Places of connections are from 0, and their numbers from 1.
 abbrev pub where_here : Option ℕ → (ItemWire → ItemWire) → Table ItemWire → Table ItemWire
 where_here None f wires = wires
-where_here (Some place) f wires = λ n. option_map (where_it (nat_eq (place + 1) n) f) (wires n)
+where_here (Some position) f wires = λ n. option_map (where_it (nat_eq (position + 1) n) f) (wires n)
 
 -- behind a turn of a call that submits, or asks for a page
-abbrev pub SpeakingFollows : Identity → (ℕ → Login) → ItemDevice → Table ItemWire → View ItemOut → Turn ItemOut ItemOut → Type 0
+abbrev pub SpeakingFollows : Identity → (ℕ → Login) → ItemDevice → Table ItemWire → View ItemOut → ClientStep ItemOut ItemOut → Type 0
 SpeakingFollows who logins d wires v t = ClientFollows who logins (record d { client = t.client }) (where_here d.here (put_up t.out.put) wires) v (noted t.out.notes)
 
 -- behind one that gives the session up, and the connection
-abbrev pub ForgettingFollows : Identity → (ℕ → Login) → ItemDevice → Table ItemWire → View ItemOut → Turn ItemOut ItemOut → Type 0
+abbrev pub ForgettingFollows : Identity → (ℕ → Login) → ItemDevice → Table ItemWire → View ItemOut → ClientStep ItemOut ItemOut → Type 0
 ForgettingFollows who logins d wires v t = ClientFollows who logins (record { client = t.client; here = None }) (where_here d.here left wires) v (noted t.out.notes)
 
 -- and behind one that puts a footer before
-abbrev pub ClosingFollows : Identity → (ℕ → Login) → ItemDevice → Table ItemWire → View ItemOut → Turn ItemOut ItemOut → Type 0
+abbrev pub ClosingFollows : Identity → (ℕ → Login) → ItemDevice → Table ItemWire → View ItemOut → ClientStep ItemOut ItemOut → Type 0
 ClosingFollows who logins d wires v t =
     ClientFollows who logins (record { client = t.client; here = None }) (where_here d.here left (where_here d.here (put_up t.out.put) wires)) v (noted t.out.notes)
 
 -- the end of the connection is told to a device that has it: nothing is under way to it, and nothing comes
-pub record IsOverHere (d : ItemDevice) (wires : Table ItemWire) (place : ℕ) : Type 0 where
-  pub here : d.here ≡ Some place
+pub record IsOverHere (d : ItemDevice) (wires : Table ItemWire) (position : ℕ) : Type 0 where
+  pub here : d.here ≡ Some position
   pub wire : ItemWire
-  pub there : wires (place + 1) ≡ Some wire
+  pub there : wires (position + 1) ≡ Some wire
   pub nothing : wire.down.items ≡ []
   pub ended : wire.down.ended ≡ true
 
-abbrev pub LeavingFollows : Identity → (ℕ → Login) → ItemDevice → Table ItemWire → View ItemOut → ℕ → ItemWire → Turn ItemOut ItemOut → Type 0
-LeavingFollows who logins d wires v place wire t = ClientFollows who logins (record d { client = t.client }) (with_at (place + 1) (down_end_told wire) wires) v (noted t.out.notes)
+abbrev pub LeavingFollows : Identity → (ℕ → Login) → ItemDevice → Table ItemWire → View ItemOut → ℕ → ItemWire → ClientStep ItemOut ItemOut → Type 0
+LeavingFollows who logins d wires v position wire t = ClientFollows who logins (record d { client = t.client }) (with_at (position + 1) (down_end_reported wire) wires) v (noted t.out.notes)

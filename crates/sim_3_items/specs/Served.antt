@@ -2,7 +2,7 @@
 use Rattle.std.specs.Prelude.{◌≡◌, ◌≢◌, ◌&&◌, ℕ, List, Some, length, pos, slice_get}
 use Rattle.std.specs.List.{AllByRecursion}
 use Rattle.mam_archive.specs.Entries.{newest}
-use Rattle.srv_state.specs.State.{Hall, archive_at}
+use Rattle.srv_state.specs.State.{ServerState, archive_at}
 use Rattle.sim_3_items.specs.ItemWorlds.{Take as Told}
 use Rattle.sm_live.specs.Sessions.{Session, session_named}
 use Rattle.cmd_network.specs.Starting.{accounts_at_start}
@@ -14,8 +14,8 @@ use Rattle.sim_1_applications.specs.Reported.{history_at, name_at}
 use Rattle.xml_writer.specs.Items.{ItemOut}
 
 -- a take as the server tells of it
-abbrev pub take_told : List Owned → Take → Told
-take_told owned t = record {
+abbrev pub take_reported : List Owned → Take → Told
+take_reported owned t = record {
   moment = t.moment;
   from = full_address t.account (name_at owned t.device);
   to = bare_address t.said.to;
@@ -23,8 +23,8 @@ take_told owned t = record {
 }
 
 -- each account's archive keeps the newest of its history
-abbrev pub ArchivesShow : ℕ → List Owned → List (List ℕ) → List Take → Hall ItemOut → Type 0
-ArchivesShow keep owned names takes h = (place : ℕ) (name : List ℕ) → slice_get names place ≡ Some name → archive_at place h ≡ Some (record {
+abbrev pub ArchivesRepresent : ℕ → List Owned → List (List ℕ) → List Take → ServerState ItemOut → Type 0
+ArchivesRepresent keep owned names takes h = (position : ℕ) (name : List ℕ) → slice_get names position ≡ Some name → archive_at position h ≡ Some (record {
   owner = bare_address name;
   keep = keep;
   last = length (history_at owned takes name);
@@ -33,28 +33,28 @@ ArchivesShow keep owned names takes h = (place : ℕ) (name : List ℕ) → slic
 
 -- the session that the server has of a device is available, and wants copies, as the applications say; one of which the
 -- client hasn't read is and does neither
-abbrev pub FlagsShow : ℕ → List ℕ → Hall ItemOut → Sessions → Type 0
-FlagsShow account resource h d = d.row ≢ NoRow → (s : Session ItemOut) → session_named account resource h.sessions ≡ Some s
+abbrev pub FlagsRepresent : ℕ → List ℕ → ServerState ItemOut → Sessions → Type 0
+FlagsRepresent account resource h d = d.row ≢ NoRow → (s : Session ItemOut) → session_named account resource h.sessions ≡ Some s
     → (s.shown.available ≡ (is_present d.row && d.now.available)) × (s.shown.carbons ≡ (is_present d.row && d.now.carbons)) × (s.shown.priority ≡ pos 0)
 
 -- ---- the server
 
 -- the domain, and the accounts of a schedule in their order
-pub record IsConfigured (names : List (List ℕ)) (h : Hall ItemOut) : Type 0 where
+pub record IsConfigured (names : List (List ℕ)) (h : ServerState ItemOut) : Type 0 where
   pub domain : h.domain ≡ domain
   pub accounts : h.accounts ≡ accounts_at_start names
 
 -- each session is one of a device's, by its account and resource
 pub record IsOfDevice (owned : List Owned) (names : List (List ℕ)) (s : Session ItemOut) : Type 0 where
-  pub place : ℕ
+  pub position : ℕ
   pub device : Owned
-  pub there : slice_get owned place ≡ Some device
+  pub there : slice_get owned position ≡ Some device
   pub account : slice_get names s.shown.account ≡ Some device.account
   pub resource : s.shown.resource ≡ device.device
 
 -- what the server has: the archives are those of the takes
-pub record ServerRuns (keep : ℕ) (owned : List Owned) (names : List (List ℕ)) (takes : List Take) (h : Hall ItemOut) : Type 0 where
+pub record ServerSimulates (keep : ℕ) (owned : List Owned) (names : List (List ℕ)) (takes : List Take) (h : ServerState ItemOut) : Type 0 where
   pub configured : IsConfigured names h
-  pub archives : ArchivesShow keep owned names takes h
+  pub archives : ArchivesRepresent keep owned names takes h
   pub many : length h.archives ≡ length names
   pub sessions : AllByRecursion (IsOfDevice owned names) h.sessions

@@ -4,16 +4,16 @@ use Rattle.std.specs.Prelude.{◌≡◌, ℕ, ◌≤◌, Bool, true, false, All,
 use Rattle.std.specs.List.Sorted.{IsStrictlySortedBy}
 use Rattle.std.specs.Map.{keys_of}
 use Rattle.std.specs.Ordering.{nat_cmp}
-use Rattle.srv_state.specs.State.{Hall, archive_at, conn_at}
+use Rattle.srv_state.specs.State.{ServerState, archive_at, conn_at}
 use Rattle.srv_state.specs.declared.connection.Connection.{Connection}
-use Rattle.srv_state.specs.declared.connection.Phase.{Phase as DeskPhase}
+use Rattle.srv_state.specs.declared.connection.Phase.{Phase as ServerPhase}
 use Rattle.srv_state.specs.declared.connection.Phase.TheVariants as phase
 use Rattle.srv_state.specs.declared.connection.Tries.TheVariants as tries
 use Rattle.sim_3_items.specs.Counted.{IsForClient}
-use Rattle.sim_3_items.specs.Deeds.{Deed, deeds_of}
+use Rattle.sim_3_items.specs.Labels.{Label, labels_of}
 use Rattle.sim_3_items.specs.Frames.{SameClient}
 use Rattle.sim_3_items.specs.Identities.{Identity, Login, exchange_of, served_account}
-use Rattle.sim_3_items.specs.Pipes.{PipesShow}
+use Rattle.sim_3_items.specs.Pipes.{PipesRepresent}
 use Rattle.sim_3_items.specs.WordItems.{told_count}
 use Rattle.sim_3_items.specs.ItemPipes.{ItemWire}
 use Rattle.sim_2_links.specs.Machine.{LinkMove, LinkReaches}
@@ -29,7 +29,7 @@ use Rattle.xml_writer.specs.Items.{ItemOut}
 -- ---- connections
 
 -- how far the server is
-abbrev pub phase_shown : Identity → Login → Phase → DeskPhase
+abbrev pub phase_shown : Identity → Login → Phase → ServerPhase
 phase_shown who x Start = phase.Start
 phase_shown who x Sasl = phase.Login
 phase_shown who x Challenge = phase.Challenge (record { account = who.account; exchange = exchange_of who x })
@@ -59,32 +59,32 @@ pub record IsRow (r : Row ItemOut) (s : Session ItemOut) : Type 0 where
   pub quiet : r.counted ≡ false → (s.shown.available ≡ false) × (s.shown.carbons ≡ false)
   pub for_client : All IsForClient r.queue
 
-abbrev pub IsRowShown : Option (Row ItemOut) → Option (Session ItemOut) → Type 0
-IsRowShown None None = Unit {0}
-IsRowShown (Some r) (Some s) = IsRow r s
-IsRowShown _ _ = ⊥
+abbrev pub IsRowRepresented : Option (Row ItemOut) → Option (Session ItemOut) → Type 0
+IsRowRepresented None None = Unit {0}
+IsRowRepresented (Some r) (Some s) = IsRow r s
+IsRowRepresented _ _ = ⊥
 
 -- ---- the server
 
 -- the device's account is there, with its archive
-pub record IsServed (who : Identity) (h : Hall ItemOut) : Type 0 where
+pub record IsDeviceServed (who : Identity) (h : ServerState ItemOut) : Type 0 where
   pub domain : h.domain ≡ who.domain
   pub account : slice_get h.accounts who.account ≡ Some (served_account who)
-  pub found : account_named who.name h.accounts ≡ Some (record { place = who.account; credentials = (served_account who).credentials })
+  pub found : account_named who.name h.accounts ≡ Some (record { position = who.account; credentials = (served_account who).credentials })
   pub archive : IsSome (archive_at who.account h)
 
 -- its sessions keep their rule, and its connections ascend
-pub record IsHall (h : Hall ItemOut) : Type 0 where
+pub record IsServerState (h : ServerState ItemOut) : Type 0 where
   pub sessions : IsRule h.sessions h.next
   pub conns : IsStrictlySortedBy nat_cmp (keys_of h.conns)
 
 -- On the device's connections and under its numbers no session is but its own, and the next number is above all of
 -- these.
-pub record ServerShows (who : Identity) (logins : ℕ → Login) (h : Hall ItemOut) (v : View ItemOut) : Type 0 where
-  pub served : IsServed who h
-  pub hall : IsHall h
+pub record ServerRepresents (who : Identity) (logins : ℕ → Login) (h : ServerState ItemOut) (v : View ItemOut) : Type 0 where
+  pub served : IsDeviceServed who h
+  pub server_state : IsServerState h
   pub conns : (k : ℕ) (c : Conn ItemOut) → v.conns k ≡ Some c → conn_at k h ≡ conn_shown who (logins k) c
-  pub row : IsRowShown v.row (session_named who.account who.resource h.sessions)
+  pub row : IsRowRepresented v.row (session_named who.account who.resource h.sessions)
   pub seated : (k : ℕ) (c : Conn ItemOut) (s : Session ItemOut) → v.conns k ≡ Some c → session_at k h.sessions ≡ Some s → is_named who.account who.resource s ≡ true
   pub owned : (q : ℕ) (t : links.Session ItemOut) (s : Session ItemOut) → v.sessions q ≡ Some t → session_of q h.sessions ≡ Some s → is_named who.account who.resource s ≡ true
   pub free : v.free ≤ h.next
@@ -92,11 +92,11 @@ pub record ServerShows (who : Identity) (logins : ℕ → Login) (h : Hall ItemO
 -- ---- what a step of the server is in the links: a short list of moves
 
 -- it comes to this, and these are then the pipes; and these stanzas were put and handled
-pub record ServerFollows (who : Identity) (logins : ℕ → Login) (h : Hall ItemOut) (wires : Table ItemWire) (v : View ItemOut) (done : List (Deed ItemOut)) : Type 0 where
+pub record ServerFollows (who : Identity) (logins : ℕ → Login) (h : ServerState ItemOut) (wires : Table ItemWire) (v : View ItemOut) (done : List (Label ItemOut)) : Type 0 where
   pub moves : List (LinkMove ItemOut)
   pub next : View ItemOut
   pub leads : LinkReaches moves v next
-  pub does : deeds_of moves ≡ done
-  pub server : ServerShows who logins h next
-  pub pipes : PipesShow who logins wires next
+  pub does : labels_of moves ≡ done
+  pub server : ServerRepresents who logins h next
+  pub pipes : PipesRepresent who logins wires next
   pub client : SameClient v next

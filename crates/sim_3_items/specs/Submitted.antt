@@ -27,7 +27,7 @@ abbrev pub IsWaiting : Option (SessionView ItemOut) → SaidView → Sessions �
 IsWaiting None said d = said.waiting ≡ []
 IsWaiting (Some s) said d = (map said_line said.waiting ≡ map (reported.said_line Waiting) (messages (outstanding d))) × (s.waiting.submissions ≡ map is_message (outstanding d))
 
-pub record SubmissionsShow (c : ClientView ItemOut) (d : Sessions) : Type 0 where
+pub record SubmissionsRepresent (c : ClientView ItemOut) (d : Sessions) : Type 0 where
   pub epoch : c.epoch ≡ epoch_of d
   pub n : c.n ≡ d.n
   pub online : d.online ≡ is_some c.session

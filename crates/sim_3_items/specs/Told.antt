@@ -13,27 +13,27 @@ abbrev pub is_at : ℕ → Bool
 is_at c = c == 64
 
 -- the number that decimal digits spell
-abbrev pub number_told : List ℕ → ℕ
-number_told digits = digits_value 10 digits
+abbrev pub number_of_digits : List ℕ → ℕ
+number_of_digits digits = digits_value 10 digits
 
 -- an origin id has the epoch behind its first dot, and the number of the submission behind its second
-abbrev pub epoch_told : List ℕ → ℕ
-epoch_told id = number_told (before_first is_dot (after_first is_dot id))
+abbrev pub epoch_of_id : List ℕ → ℕ
+epoch_of_id id = number_of_digits (before_first is_dot (after_first is_dot id))
 
-abbrev pub n_told : List ℕ → ℕ
-n_told id = number_told (after_first is_dot (after_first is_dot id))
+abbrev pub number_of_id : List ℕ → ℕ
+number_of_id id = number_of_digits (after_first is_dot (after_first is_dot id))
 
 -- the id of a query has its number behind one letter
-abbrev pub query_told : List ℕ → ℕ
-query_told id = number_told (drop 1 id)
+abbrev pub query_of_id : List ℕ → ℕ
+query_of_id id = number_of_digits (drop 1 id)
 
 -- the number of the entry whose id a text is
-abbrev pub entry_told : List ℕ → ℕ
-entry_told id = unwrap_or (number_read id) 0
+abbrev pub entry_of_id : List ℕ → ℕ
+entry_of_id id = unwrap_or (number_read id) 0
 
 -- the local part of a bare address (RFC 7622, section 3.3)
-abbrev pub name_told : List ℕ → List ℕ
-name_told address = before_first is_at address
+abbrev pub local_part_of : List ℕ → List ℕ
+local_part_of address = before_first is_at address
 
 -- the type is that of an error
 abbrev pub is_error : Option (List ℕ) → Bool

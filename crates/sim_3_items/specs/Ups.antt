@@ -2,7 +2,7 @@
 use Rattle.std.specs.Prelude.{ℕ, List, [], Option, Some, None, codes, unwrap_or, if◌then◌else◌}
 use Rattle.std.specs.Option.{option_map}
 use Rattle.im_extensions.specs.Given.{is_private}
-use Rattle.sim_3_items.specs.Told.{entry_told, epoch_told, n_told, name_told, number_told, query_told}
+use Rattle.sim_3_items.specs.Told.{entry_of_id, epoch_of_id, local_part_of, number_of_digits, number_of_id, query_of_id}
 use Rattle.im_mam.specs.ResultSets.{set_text}
 use Rattle.im_payload.specs.Names.{archive}
 use Rattle.im_payload.specs.Shapes.{attr_or_empty, child_text_or_empty}
@@ -15,9 +15,9 @@ use Rattle.xml_writer.specs.Items.{Closing, ItemOut, Opening, Whole}
 
 abbrev pub submission_with : List ℕ → List ℕ → Elem → Submission
 submission_with id to e = record {
-  epoch = epoch_told id;
-  n = n_told id;
-  to = name_told to;
+  epoch = epoch_of_id id;
+  n = number_of_id id;
+  to = local_part_of to;
   text = child_text_or_empty client_ns (codes "body") e;
   private = is_private (nodes_of e);
 }
@@ -28,9 +28,9 @@ submission_of e = submission_with (attr_or_empty (codes "id") e) (attr_or_empty 
 -- a request by the id of its `iq`, and its query
 abbrev pub request_of : List ℕ → Elem → Request
 request_of id query = record {
-  number = query_told id;
-  after = option_map entry_told (set_text (codes "after") query);
-  max = number_told (unwrap_or (set_text (codes "max") query) []);
+  number = query_of_id id;
+  after = option_map entry_of_id (set_text (codes "after") query);
+  max = number_of_digits (unwrap_or (set_text (codes "max") query) []);
 }
 
 abbrev pub asked : List ℕ → Option Elem → Up

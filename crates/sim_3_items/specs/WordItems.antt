@@ -36,12 +36,12 @@ up_item who x (Up (Ack h)) = ack_item (told_count h)
 up_item who x Foot = Closing
 
 -- the client is behind its login: the features that it awaits, or has read, are those of the second stream
-abbrev pub is_behind_login : Client → Bool
-is_behind_login InHeader1 = false
-is_behind_login InFeatures1 = false
-is_behind_login InAuth = false
-is_behind_login InResponse = false
-is_behind_login _ = true
+abbrev pub is_after_login : Client → Bool
+is_after_login InHeader1 = false
+is_after_login InFeatures1 = false
+is_after_login InAuth = false
+is_after_login InResponse = false
+is_after_login _ = true
 
 abbrev pub features_item : Bool → ItemOut
 features_item true = session_features_item
@@ -51,18 +51,18 @@ features_item false = login_features_item
 -- alone
 -- that the client left, where nothing comes to it: that word stands for no item in particular.
 abbrev pub down_item : Identity → Login → ℕ → Bool → DownWord ItemOut → ItemOut
-down_item who x k behind Head = header_item who.domain k x.yours
-down_item who x k behind Feat = features_item behind
-down_item who x k behind Chal = challenge_item (exchange_of who x).message
-down_item who x k behind Succ = success_item (server_final_message x.reply.verifier)
-down_item who x k behind Failed = refused_item ItemNotFound
-down_item who x k behind (Resumed p h) = resumed_item p (told_count h)
-down_item who x k behind (Bound m) = bound_item (codes "bind") (full_of who)
-down_item who x k behind (Enabled m) = resumable_item m RESUMABLE_SECONDS
-down_item who x k behind (Down (St z)) = z
-down_item who x k behind (Down Req) = request_item
-down_item who x k behind (Down (Ack h)) = ack_item (told_count h)
-down_item who x k behind (Err Conflict) = error_item stream.Conflict
-down_item who x k behind (Err Constraint) = error_item stream.ResourceConstraint
-down_item who x k behind (Err TooHigh) = too_high_item 0 0
-down_item who x k behind End = Closing
+down_item who x k following Head = header_item who.domain k x.yours
+down_item who x k following Feat = features_item following
+down_item who x k following Chal = challenge_item (exchange_of who x).message
+down_item who x k following Succ = success_item (server_final_message x.reply.verifier)
+down_item who x k following Failed = refused_item ItemNotFound
+down_item who x k following (Resumed p h) = resumed_item p (told_count h)
+down_item who x k following (Bound m) = bound_item (codes "bind") (full_of who)
+down_item who x k following (Enabled m) = resumable_item m RESUMABLE_SECONDS
+down_item who x k following (Down (St z)) = z
+down_item who x k following (Down Req) = request_item
+down_item who x k following (Down (Ack h)) = ack_item (told_count h)
+down_item who x k following (Err Conflict) = error_item stream.Conflict
+down_item who x k following (Err Constraint) = error_item stream.ResourceConstraint
+down_item who x k following (Err TooHigh) = too_high_item 0 0
+down_item who x k following End = Closing

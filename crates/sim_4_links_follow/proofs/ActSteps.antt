@@ -7,14 +7,14 @@ use Rattle.std.specs.List.{AllByRecursion}
 use Rattle.std.specs.Prelude.{ℤ, slice_get, slice_set}
 use Rattle.mam_archive.specs.Entries.{EntryView}
 use Rattle.base_lemmas.proofs.Lists.{AllByRecursion-weaker}
-use Rattle.srv_state.specs.State.{Hall, Kept, Step, Took, archive_at}
+use Rattle.srv_state.specs.State.{Kept, ServerState, Step, Took, archive_at}
 use Rattle.srv_state.specs.Steps.{Act, Archive, Copy, Handle, Present, Send, Tell, act, acted, appended, archived_in}
-use Rattle.sim_3_items.specs.Deeds.{Deed, Gives, gives_all}
+use Rattle.sim_3_items.specs.Labels.{Gives, Label, gives_all}
 use Rattle.sim_3_items.specs.Frames.{SameClient}
 use Rattle.sim_3_items.specs.Identities.{Identity, Login}
-use Rattle.sim_3_items.specs.Pipes.{PipesShow}
+use Rattle.sim_3_items.specs.Pipes.{PipesRepresent}
 use Rattle.sim_3_items.specs.Sent.{sent}
-use Rattle.sim_3_items.specs.Servers.{ServerFollows, ServerShows}
+use Rattle.sim_3_items.specs.Servers.{ServerFollows, ServerRepresents}
 use Rattle.sim_3_items.specs.ItemPipes.{ItemWire}
 use Rattle.sim_3_items.specs.ItemWorlds.{itself}
 use Rattle.sim_2_links.proofs.Entries.{same_number}
@@ -89,29 +89,29 @@ written_over (y ∷ ys) (suc i) zero x is = is
 written_over (y ∷ ys) (suc i) (suc j) x is = written_over ys i j x is
 
 module _ (who : Identity) (logins : ℕ → Login) where
-  archived_shows : (v : View ItemOut) (e : EntryView) (account : ℕ) (o : Option Kept) (h : Hall ItemOut) → ServerShows who logins h v → ServerShows who logins (archived_in e account o h) v
-  archived_shows v e account None h shows = shows
-  archived_shows v e account (Some kept) h shows = record {
-    served = record { domain = shows.served.domain; account = shows.served.account; found = shows.served.found; archive = written_over h.archives account who.account (appended e kept) shows.served.archive };
-    hall = record { sessions = shows.hall.sessions; conns = shows.hall.conns };
-    conns = shows.conns;
-    row = shows.row;
-    seated = shows.seated;
-    owned = shows.owned;
-    free = shows.free;
+  archived_represents : (v : View ItemOut) (e : EntryView) (account : ℕ) (o : Option Kept) (h : ServerState ItemOut) → ServerRepresents who logins h v → ServerRepresents who logins (archived_in e account o h) v
+  archived_represents v e account None h represents = represents
+  archived_represents v e account (Some kept) h represents = record {
+    served = record { domain = represents.served.domain; account = represents.served.account; found = represents.served.found; archive = written_over h.archives account who.account (appended e kept) represents.served.archive };
+    server_state = record { sessions = represents.server_state.sessions; conns = represents.server_state.conns };
+    conns = represents.conns;
+    row = represents.row;
+    seated = represents.seated;
+    owned = represents.owned;
+    free = represents.free;
   }
 
   module _ (wires : Table ItemWire) where
     -- nothing moves
-    stays_still : (acts : List (Act ItemOut)) (s : Step ItemOut) (v : View ItemOut) → ServerShows who logins s.hall v → PipesShow who logins (sent s.outs wires) v → ((r : Row ItemOut) → v.row ≡ Some r → sends_to r.number acts ≡ []) → Goes who logins wires v acts s
-    stays_still acts s v shows pipes none = record {
+    stays_still : (acts : List (Act ItemOut)) (s : Step ItemOut) (v : View ItemOut) → ServerRepresents who logins s.server_state v → PipesRepresent who logins (sent s.outs wires) v → ((r : Row ItemOut) → v.row ≡ Some r → sends_to r.number acts ≡ []) → Goes who logins wires v acts s
+    stays_still acts s v represents pipes none = record {
       given = [];
       follows = record {
         moves = [];
         next = v;
         leads = refl;
         does = refl;
-        server = shows;
+        server = represents;
         pipes = pipes;
         client = record { here = refl; own = refl; epoch = refl; conns = λ k. keeps_all (v.conns k) };
       };
@@ -119,10 +119,10 @@ module _ (who : Identity) (logins : ℕ → Login) where
       kept = row_same v.row;
     }
 
-    module _ (s : Step ItemOut) (v : View ItemOut) (reached : LinkReached v) (shows : ServerShows who logins s.hall v) (pipes : PipesShow who logins (sent s.outs wires) v) where
+    module _ (s : Step ItemOut) (v : View ItemOut) (reached : LinkReached v) (represents : ServerRepresents who logins s.server_state v) (pipes : PipesRepresent who logins (sent s.outs wires) v) where
       goes_elsewhere : (n : ℕ) (z : ItemOut) → IsNotOf v.row n → Goes who logins wires v (Send n z ∷ []) (act itself (Send n z) s)
       goes_elsewhere n z apart =
-          let stands = send_stands who logins wires v (link_kept v reached) n z apart s (shows, pipes) in
+          let stands = send_stands who logins wires v (link_kept v reached) n z apart s (represents, pipes) in
           stays_still (Send n z ∷ []) (act itself (Send n z) s) v stands.0 stands.1 (sends_elsewhere v.row n z apart)
 
       send_goes : (n : ℕ) (z : ItemOut) → IsFair v.row (Send n z) → Goes who logins wires v (Send n z ∷ []) (act itself (Send n z) s)
@@ -135,7 +135,7 @@ module _ (who : Identity) (logins : ℕ → Login) where
                 | inl same ↦
                     let number : r.number ≡ n = eqb-true r.number n same in
                     subst (λ m. Goes who logins wires v (Send m z ∷ []) (act itself (Send m z) s)) number
-                    (own_goes who logins wires v (link_kept v reached) s shows pipes r is (fair.1 r is number) z fair.0)
+                    (own_goes who logins wires v (link_kept v reached) s represents pipes r is (fair.1 r is number) z fair.0)
                 | inr other ↦ goes_elsewhere n z (number_apart v.row r n is other)
               ]
 
@@ -143,19 +143,19 @@ module _ (who : Identity) (logins : ℕ → Login) where
       act_goes (Send n z) fair = send_goes n z fair
       act_goes (Present n available priority) fair =
           stays_still (Present n available priority ∷ []) (act itself (Present n available priority) s) v
-          (session_kept who logins s.hall v shows n (presents available priority) (presents_keeps available priority) (λ t is. shows.hall.sessions.few n t is) (fair_row who logins s.hall v shows n (presents available priority) (presents_leaves available priority) fair)) pipes
+          (session_kept who logins s.server_state v represents n (presents available priority) (presents_keeps available priority) (λ t is. represents.server_state.sessions.few n t is) (fair_row who logins s.server_state v represents n (presents available priority) (presents_leaves available priority) fair)) pipes
           (λ r is. refl)
       act_goes (Copy n on) fair =
           stays_still (Copy n on ∷ []) (act itself (Copy n on) s) v
-          (session_kept who logins s.hall v shows n (copies on) (copies_keeps on) (λ t is. shows.hall.sessions.few n t is) (fair_row who logins s.hall v shows n (copies on) (copies_leaves on) fair)) pipes
+          (session_kept who logins s.server_state v represents n (copies on) (copies_keeps on) (λ t is. represents.server_state.sessions.few n t is) (fair_row who logins s.server_state v represents n (copies on) (copies_leaves on) fair)) pipes
           (λ r is. refl)
       act_goes (Handle n) fair =
           stays_still (Handle n ∷ []) (act itself (Handle n) s) v
-          (session_kept who logins s.hall v shows n handles handles_keeps (λ t is. shows.hall.sessions.few n t is) (apart_row who logins s.hall v shows n handles fair)) pipes
+          (session_kept who logins s.server_state v represents n handles handles_keeps (λ t is. represents.server_state.sessions.few n t is) (apart_row who logins s.server_state v represents n handles fair)) pipes
           (λ r is. refl)
-      act_goes (Archive account e) fair = stays_still (Archive account e ∷ []) (act itself (Archive account e) s) v (archived_shows v e account (archive_at account s.hall) s.hall shows) pipes (λ r is. refl)
+      act_goes (Archive account e) fair = stays_still (Archive account e ∷ []) (act itself (Archive account e) s) v (archived_represents v e account (archive_at account s.server_state) s.server_state represents) pipes (λ r is. refl)
       act_goes (Tell from to origin) fair =
-          stays_still (Tell from to origin ∷ []) (act itself (Tell from to origin) s) v shows
+          stays_still (Tell from to origin ∷ []) (act itself (Tell from to origin) s) v represents
           (more_put_out who logins wires v s.outs (Took from to origin ∷ []) (told_out who logins (sent s.outs wires) v from to origin pipes)) (λ r is. refl)
       act_goes _ fair = absurd fair
 
@@ -169,8 +169,8 @@ module _ (who : Identity) (logins : ℕ → Login) where
       conns = λ k. keeps_both (v.conns k) (u.conns k) (w.conns k) (first.conns k) (then_so.conns k);
     }
 
-    abbrev pub follows_both : (v : View ItemOut) (first last : Step ItemOut) (done more all : List (Deed ItemOut)) → done ++ more ≡ all → (f : ServerFollows who logins first.hall (sent first.outs wires) v done)
-        → ServerFollows who logins last.hall (sent last.outs wires) f.next more → ServerFollows who logins last.hall (sent last.outs wires) v all
+    abbrev pub follows_both : (v : View ItemOut) (first last : Step ItemOut) (done more all : List (Label ItemOut)) → done ++ more ≡ all → (f : ServerFollows who logins first.server_state (sent first.outs wires) v done)
+        → ServerFollows who logins last.server_state (sent last.outs wires) f.next more → ServerFollows who logins last.server_state (sent last.outs wires) v all
     follows_both v first last done more all same f g = record {
       moves = f.moves ++ g.moves;
       next = g.next;
@@ -192,10 +192,10 @@ module _ (who : Identity) (logins : ℕ → Login) where
       kept = row_both v.row f.follows.next.row g.follows.next.row f.kept g.kept;
     }
 
-    pub acts_go : (acts : List (Act ItemOut)) (s : Step ItemOut) (v : View ItemOut) → LinkReached v → ServerShows who logins s.hall v → PipesShow who logins (sent s.outs wires) v → AllByRecursion (IsFair v.row) acts → Goes who logins wires v acts (acted itself acts s)
-    acts_go [] s v reached shows pipes fair = stays_still [] s v shows pipes (λ r is. refl)
-    acts_go (a ∷ acts) s v reached shows pipes fair =
-        let one = act_goes s v reached shows pipes a fair.0 in
+    pub acts_go : (acts : List (Act ItemOut)) (s : Step ItemOut) (v : View ItemOut) → LinkReached v → ServerRepresents who logins s.server_state v → PipesRepresent who logins (sent s.outs wires) v → AllByRecursion (IsFair v.row) acts → Goes who logins wires v acts (acted itself acts s)
+    acts_go [] s v reached represents pipes fair = stays_still [] s v represents pipes (λ r is. refl)
+    acts_go (a ∷ acts) s v reached represents pipes fair =
+        let one = act_goes s v reached represents pipes a fair.0 in
         goes_both a acts v (act itself a s) (acted itself (a ∷ acts) s) one
         (acts_go acts (act itself a s) one.follows.next (reached_more one.follows.moves v one.follows.next reached one.follows.leads) one.follows.server one.follows.pipes
         (AllByRecursion-weaker (IsFair v.row) (IsFair one.follows.next.row) (λ b. fair_still v.row one.follows.next.row b one.kept) acts fair.1))

@@ -4,17 +4,17 @@ use Rattle.std.proofs.lemmas.Bool.{cases_Bool, eqb-true}
 use Rattle.std.proofs.lemmas.Option.{same_Some}
 use Rattle.sm_acks.specs.Counters.{ahead}
 use Rattle.sm_acks.specs.declared.end.TheConstants.{MOST_UNACKNOWLEDGED}
-use Rattle.srv_state.specs.State.{Hall, Put, Shut, Step, with_sessions, without_conn}
+use Rattle.srv_state.specs.State.{Put, ServerState, Shut, Step, with_sessions, without_conn}
 use Rattle.srv_state.specs.Steps.{Act, Ask, Close, Say, act, acted, put, shut}
 use Rattle.srv_state.specs.Streams.{parting_where}
 use Rattle.sim_3_items.specs.Identities.{Identity, Login}
-use Rattle.sim_3_items.specs.Servers.{ServerShows}
+use Rattle.sim_3_items.specs.Servers.{ServerRepresents}
 use Rattle.sim_3_items.specs.ItemWorlds.{itself}
 use Rattle.sim_2_links.specs.Links.{LinkKept}
 use Rattle.sim_2_links.specs.Views.{View}
 use Rattle.sm_live.specs.Sessions.{Session, asks, is_at, parked, resumes, session_at, session_named, with_session, without}
 use Rattle.sim_4_links_follow.proofs.OthersElsewhere.{AreElsewhere, both_elsewhere, put_elsewhere, shut_elsewhere}
-use Rattle.sim_4_links_follow.proofs.OthersHalls.{Carries, IsNotOf, changed_stays, conn_apart, conn_stays, number_apart, thinned_stays}
+use Rattle.sim_4_links_follow.proofs.OthersServerStates.{Carries, IsNotOf, changed_stays, conn_apart, conn_stays, number_apart, thinned_stays}
 use Rattle.im_replies.specs.Management.{request_item}
 use Rattle.sim_3_images.proofs.RuleKept.{seat_is}
 use Rattle.sim_4_links_follow.proofs.SessionRows.{fewer}
@@ -44,7 +44,7 @@ resumes_carry n k = record {
 module _ (whom : Identity) (others : ℕ → Login) (u : View ItemOut) (kept : LinkKept u) where
   -- the device is shown behind these steps, of which nothing went to it
   pub record Stays (s : Step ItemOut) : Type 0 where
-    pub server : ServerShows whom others s.hall u
+    pub server : ServerRepresents whom others s.server_state u
     pub outs : AreElsewhere u s.outs
 
   abbrev pub Leave : List (Act ItemOut) → Type 0
@@ -54,18 +54,18 @@ module _ (whom : Identity) (others : ℕ → Login) (u : View ItemOut) (kept : L
   put_stays k i s none stays = record { server = stays.server; outs = both_elsewhere u s.outs (Put k i ∷ []) stays.outs (put_elsewhere u k i none) }
 
   -- one that isn't on a connection of another device
-  not_on : (k : ℕ) (h : Hall ItemOut) (t : Session ItemOut) → u.conns k ≡ None → ServerShows whom others h u → session_named whom.account whom.resource h.sessions ≡ Some t → not (is_at k t) ≡ true
-  not_on k h t none shows named =
+  not_on : (k : ℕ) (h : ServerState ItemOut) (t : Session ItemOut) → u.conns k ≡ None → ServerRepresents whom others h u → session_named whom.account whom.resource h.sessions ≡ Some t → not (is_at k t) ≡ true
+  not_on k h t none represents named =
       elim (cases_Bool (is_at k t)) [
-        | inl on ↦ absurd (conn_apart whom others h u shows k t kept none named (seat_is t.shown.conn k on))
+        | inl on ↦ absurd (conn_apart whom others h u represents k t kept none named (seat_is t.shown.conn k on))
         | inr off ↦ ap not off
       ]
 
   shut_stays : (k : ℕ) (s : Step ItemOut) → u.conns k ≡ None → Stays s → Stays (shut k s)
   shut_stays k s none stays =
-      let left = conn_stays whom others s.hall u stays.server k none in
+      let left = conn_stays whom others s.server_state u stays.server k none in
       record {
-        server = thinned_stays whom others (without_conn k s.hall) u left (λ t. not (is_at k t)) (λ t named. not_on k s.hall t none stays.server named);
+        server = thinned_stays whom others (without_conn k s.server_state) u left (λ t. not (is_at k t)) (λ t named. not_on k s.server_state t none stays.server named);
         outs = both_elsewhere u s.outs (Shut k ∷ []) stays.outs (shut_elsewhere u k none);
       }
 
@@ -78,16 +78,16 @@ module _ (whom : Identity) (others : ℕ → Login) (u : View ItemOut) (kept : L
   not_numbered n t apart = elim (cases_Bool (t.shown.number == n)) [ inl same ↦ absurd (apart (eqb-true t.shown.number n same)) | inr other ↦ ap not other ]
 
   -- it ends
-  pub ended_stays : (n : ℕ) (h : Hall ItemOut) → IsNotOf u n → ServerShows whom others h u → ServerShows whom others (with_sessions (without n h.sessions) h) u
-  ended_stays n h not_of shows = thinned_stays whom others h u shows (left_out n) (λ t named. not_numbered n t (number_apart whom others h u shows n t not_of named))
+  pub ended_stays : (n : ℕ) (h : ServerState ItemOut) → IsNotOf u n → ServerRepresents whom others h u → ServerRepresents whom others (with_sessions (without n h.sessions) h) u
+  ended_stays n h not_of represents = thinned_stays whom others h u represents (left_out n) (λ t named. not_numbered n t (number_apart whom others h u represents n t not_of named))
 
   -- it is parked
-  pub parked_stays : (n now : ℕ) (h : Hall ItemOut) → IsNotOf u n → ServerShows whom others h u → ServerShows whom others (with_sessions (with_session n (parked now) h.sessions) h) u
-  parked_stays n now h not_of shows = changed_stays whom others h u shows n Nowhere (parked now) (parked_carry now) (λ j is. absurd is) not_of
+  pub parked_stays : (n now : ℕ) (h : ServerState ItemOut) → IsNotOf u n → ServerRepresents whom others h u → ServerRepresents whom others (with_sessions (with_session n (parked now) h.sessions) h) u
+  parked_stays n now h not_of represents = changed_stays whom others h u represents n Nowhere (parked now) (parked_carry now) (λ j is. absurd is) not_of
 
   -- it comes to a connection that has no session
-  pub resumed_stays : (n m k : ℕ) (h : Hall ItemOut) → IsNotOf u n → u.conns k ≡ None → session_at k h.sessions ≡ None → ServerShows whom others h u → ServerShows whom others (with_sessions (with_session n (resumes m k) h.sessions) h) u
-  resumed_stays n m k h not_of none nobody shows = changed_stays whom others h u shows n (λ j. k ≡ j) (resumes m k) (resumes_carry m k) free not_of
+  pub resumed_stays : (n m k : ℕ) (h : ServerState ItemOut) → IsNotOf u n → u.conns k ≡ None → session_at k h.sessions ≡ None → ServerRepresents whom others h u → ServerRepresents whom others (with_sessions (with_session n (resumes m k) h.sessions) h) u
+  resumed_stays n m k h not_of none nobody represents = changed_stays whom others h u represents n (λ j. k ≡ j) (resumes m k) (resumes_carry m k) free not_of
     where
       free : (j : ℕ) → k ≡ j → (u.conns j ≡ None) × (session_at j h.sessions ≡ None)
       free j same = subst (λ i. (u.conns i ≡ None) × (session_at i h.sessions ≡ None)) same (none, nobody)
@@ -105,7 +105,7 @@ module _ (whom : Identity) (others : ℕ → Login) (u : View ItemOut) (kept : L
 
   pub leave_ask : (n : ℕ) (on : Bool) (more : List (Act ItemOut)) → IsNotOf u n → Leave more → Leave (Ask n on ∷ more)
   leave_ask n on more not_of rest s stays =
-      rest (act itself (Ask n on) s) (record { server = changed_stays whom others s.hall u stays.server n Nowhere (asks on) (asks_carry on) (λ j is. absurd is) not_of; outs = stays.outs })
+      rest (act itself (Ask n on) s) (record { server = changed_stays whom others s.server_state u stays.server n Nowhere (asks on) (asks_carry on) (λ j is. absurd is) not_of; outs = stays.outs })
 
   pub leave_parting : (o : Option ℕ) (error : ItemOut) (more : List (Act ItemOut)) → ((k : ℕ) → o ≡ Some k → u.conns k ≡ None) → Leave more → Leave (parting_where itself o error more)
   leave_parting None error more none rest = rest

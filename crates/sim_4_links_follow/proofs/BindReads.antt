@@ -1,11 +1,11 @@
 -- What the server reads of a binding (RFC 6120, section 7), and what it answers.
 use Rattle.std.proofs.Common.{◌≡◌, ◌≢◌, ℕ, List, [], ◌∷◌, ◌++◌, None, Ok, codes, refl, ap, ◌∙◌}
 use Rattle.std.proofs.lemmas.List.{append-nil}
-use Rattle.srv_state.specs.State.{Hall, full_address, name_of}
+use Rattle.srv_state.specs.State.{ServerState, full_address, name_of}
 use Rattle.srv_state.specs.Words.{is_long, word_of}
 use Rattle.srv_state.specs.declared.word.Word.TheVariants as word
 use Rattle.sim_3_items.specs.Identities.{Identity, full_of}
-use Rattle.sim_3_items.specs.Servers.{IsServed}
+use Rattle.sim_3_items.specs.Servers.{IsDeviceServed}
 use Rattle.im_extensions.specs.Bind.{bind_request_elem}
 use Rattle.im_jid.specs.Forms.{resource_form}
 use Rattle.srv_login.specs.Accounts.{bare_text}
@@ -39,6 +39,6 @@ pub resource_chosen : (number : ℕ) (resource : List ℕ) → resource ≢ [] �
 resource_chosen number [] some form = absurd (some refl)
 resource_chosen number (b ∷ bs) some form = form
 
-pub address_is : (who : Identity) (h : Hall ItemOut) → IsServed who h → full_address who.account who.resource h ≡ full_of who
+pub address_is : (who : Identity) (h : ServerState ItemOut) → IsDeviceServed who h → full_address who.account who.resource h ≡ full_of who
 address_is who h served =
     ap (λ o. bare_text (name_of o) h.domain ++ 47 ∷ who.resource) served.account ∙ ap (λ d. bare_text who.name d ++ 47 ∷ who.resource) served.domain

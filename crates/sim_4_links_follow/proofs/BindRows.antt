@@ -7,7 +7,7 @@ use Rattle.std.proofs.lemmas.Option.{same_Some}
 use Rattle.std.specs.List.{filter}
 use Rattle.std.specs.Option.{option_map}
 use Rattle.std.specs.Result.{result_ok}
-use Rattle.srv_state.specs.State.{Hall, Step, conn_at, full_address, without_conn}
+use Rattle.srv_state.specs.State.{ServerState, Step, conn_at, full_address, without_conn}
 use Rattle.srv_state.specs.Steps.{Say, acted}
 use Rattle.srv_state.specs.Streams.{parting_where, standing_of}
 use Rattle.srv_state.specs.Words.{is_long}
@@ -16,10 +16,10 @@ use Rattle.srv_state.specs.declared.connection.Standing.{Standing}
 use Rattle.srv_state.specs.declared.connection.Tries.TheVariants as tries
 use Rattle.srv_state.specs.declared.word.Word.TheVariants as word
 use Rattle.sim_3_items.specs.Counted.{IsForClient}
-use Rattle.sim_3_items.specs.Deeds.{deeds_of}
+use Rattle.sim_3_items.specs.Labels.{labels_of}
 use Rattle.sim_3_items.specs.Frames.{KeepsClient}
 use Rattle.sim_3_items.specs.Identities.{Identity, Login, full_of}
-use Rattle.sim_3_items.specs.Servers.{IsRowShown, ServerShows, conn_shown, open_conn}
+use Rattle.sim_3_items.specs.Servers.{IsRowRepresented, ServerRepresents, conn_shown, open_conn}
 use Rattle.sim_3_items.specs.WordItems.{up_item}
 use Rattle.xml_framer.specs.declared.items.Item.TheVariants as item
 use Rattle.sim_3_items.specs.ItemMoves.{step_of}
@@ -42,10 +42,10 @@ use Rattle.mam_pages.proofs.Tallying.{filter_kept}
 use Rattle.im_replies.specs.Requests.{bound_item}
 use Rattle.im_replies.specs.Streams.{error_item}
 use Rattle.im_replies.specs.declared.conditions.StreamCondition.TheVariants as stream
-use Rattle.sim_4_links_follow.proofs.Binding.{bound_hall, bound_shows, new_row}
+use Rattle.sim_4_links_follow.proofs.Binding.{bound_represents, bound_server_state, new_row}
 use Rattle.sim_4_links_follow.proofs.BindReads.{address_is, bind_elem, bind_word, resource_asked, resource_chosen}
 use Rattle.sim_4_links_follow.proofs.Former.{keeps_both, shut_then_taken}
-use Rattle.sim_4_links_follow.proofs.HallsLeft.{without_apart, without_here, without_sorted}
+use Rattle.sim_4_links_follow.proofs.ServerStatesLeft.{without_apart, without_here, without_sorted}
 use Rattle.sim_4_links_follow.proofs.HandMoves.{kept_here, open_here, row_here}
 use Rattle.sim_4_links_follow.proofs.Leavings.{unseated}
 use Rattle.sim_3_images.proofs.RuleKept.{named_gone, none_left, of_left, rule_left}
@@ -63,11 +63,11 @@ use Rattle.sim_4_links_follow.proofs.Placed.{keeps_at}
 use Rattle.sim_4_links_follow.proofs.Servings.{IsLive, Known, known_altered, known_same, live_of}
 use Rattle.xml_writer.specs.Items.{Closing, ItemOut}
 
-no_row_named : (who : Identity) (h : Hall ItemOut) (o : Option (Session ItemOut)) → IsRowShown None o → o ≡ None
+no_row_named : (who : Identity) (h : ServerState ItemOut) (o : Option (Session ItemOut)) → IsRowRepresented None o → o ≡ None
 no_row_named who h None shown = refl
 no_row_named who h (Some s) shown = absurd shown
 
-module _ (who : Identity) (logins : ℕ → Login) (h : Hall ItemOut) (wires : Table ItemWire) (v : View ItemOut) (k : ℕ) (p : IsFirst who logins h wires v k Bind) (fits : h.next + 1 < 2 ^ 64) where
+module _ (who : Identity) (logins : ℕ → Login) (h : ServerState ItemOut) (wires : Table ItemWire) (v : View ItemOut) (k : ℕ) (p : IsFirst who logins h wires v k Bind) (fits : h.next + 1 < 2 ^ 64) where
   kept : LinkKept v
   kept = kept_here who logins h wires v k Bind p
 
@@ -127,8 +127,8 @@ module _ (who : Identity) (logins : ℕ → Login) (h : Hall ItemOut) (wires : T
 
   module _ (left : List (Session ItemOut)) (rule : IsRule left h.next) (was : (m : ℕ) (s : Session ItemOut) → session_of m left ≡ Some s → session_of m h.sessions ≡ Some s) (seat : session_at k left ≡ None)
       (name : session_named who.account who.resource left ≡ None) where
-    abbrev after : Hall ItemOut
-    after = bound_hall who logins h v p.server k left h.conns rule was seat name fits
+    abbrev after : ServerState ItemOut
+    after = bound_server_state who logins h v p.server k left h.conns rule was seat name fits
 
     abbrev sessions : Table (links.Session ItemOut)
     sessions = with_at h.next unread v.sessions
@@ -136,33 +136,33 @@ module _ (who : Identity) (logins : ℕ → Login) (h : Hall ItemOut) (wires : T
     abbrev last : View ItemOut
     last = record v { conns = with_at k attached v.conns; row = Some (new_row h.next k); sessions = sessions; free = h.next + 1 }
 
-    after_shows : ServerShows who logins after last
-    after_shows =
-        bound_shows who logins h v p.server k left h.conns rule was seat name fits (with_at k attached v.conns) sessions (known_bound v.sessions (λ q s is. (s, is))) p.server.hall.conns
+    after_represents : ServerRepresents who logins after last
+    after_represents =
+        bound_represents who logins h v p.server k left h.conns rule was seat name fits (with_at k attached v.conns) sessions (known_bound v.sessions (λ q s is. (s, is))) p.server.server_state.conns
         (λ j e there. shown j e (entry k attached v.conns j e there)) (λ j e there. mine j e (entry k attached v.conns j e there))
 
   -- where this is the older session with the device's name, before it is told so
   abbrev bound_so : Option (Session ItemOut) → Step ItemOut
   bound_so o =
       acted itself (parting_where itself (former_of (option_map ended_of o)) (error_item stream.Conflict) (Say k (bound_item (codes "bind") (full_address who.account who.resource h)) ∷ []))
-      (record { hall = record h { sessions = less o h.sessions ++ fresh h.next who.account who.resource k ∷ []; next = h.next + 1 }; outs = [] })
+      (record { server_state = record h { sessions = less o h.sessions ++ fresh h.next who.account who.resource k ∷ []; next = h.next + 1 }; outs = [] })
 
   -- no session has the device's name
   bind_new : v.row ≡ None → IsTaken who logins h wires v k p.wire Bind
   bind_new no_row =
-      let name : session_named who.account who.resource h.sessions ≡ None = no_row_named who h (session_named who.account who.resource h.sessions) (subst (λ o. IsRowShown o (session_named who.account who.resource h.sessions)) no_row p.server.row) in
-      let rule = p.server.hall.sessions in
+      let name : session_named who.account who.resource h.sessions ≡ None = no_row_named who h (session_named who.account who.resource h.sessions) (subst (λ o. IsRowRepresented o (session_named who.account who.resource h.sessions)) no_row p.server.row) in
+      let rule = p.server.server_state.sessions in
       let was : (m : ℕ) (s : Session ItemOut) → session_of m h.sessions ≡ Some s → session_of m h.sessions ≡ Some s = λ m s is. is in
       let next : View ItemOut = last h.sessions rule was none_here name in
-      let done : Hall ItemOut = after h.sessions rule was none_here name in
-      let step : on_item k (up_item who (logins k) Bind) h ≡ record { hall = done; outs = puts_at k items } =
-      bind_step ∙ ap bound_so name ∙ ap (λ a. record { hall = done; outs = puts_at k (bound_item (codes "bind") a ∷ []) }) (address_is who h p.server.served) in
+      let done : ServerState ItemOut = after h.sessions rule was none_here name in
+      let step : on_item k (up_item who (logins k) Bind) h ≡ record { server_state = done; outs = puts_at k items } =
+      bind_step ∙ ap bound_so name ∙ ap (λ a. record { server_state = done; outs = puts_at k (bound_item (codes "bind") a ∷ []) }) (address_is who h p.server.served) in
       subst (λ t. StepFollows who logins wires v k p.wire t []) (sym step) (record {
         moves = TakesBind k h.next ∷ [];
         next = next;
         leads = (next, record { conn = p.conn; is = p.is; rest = p.rest; first = p.first; phase = ready; none = no_row; fresh = new_number; rises = p.server.free; gives = refl }, refl);
         does = refl;
-        server = after_shows h.sessions rule was none_here name;
+        server = after_represents h.sessions rule was none_here name;
         pipes = taken_pipes who logins h wires v k Bind p (AtSession h.next) (Bound h.next ∷ []) items next (λ j. refl) refl (All-nil IsForClient);
         client = taken_client who logins h wires v k Bind p (AtSession h.next) (Bound h.next ∷ []) next refl refl refl refl;
       })
@@ -175,18 +175,18 @@ module _ (who : Identity) (logins : ℕ → Login) (h : Hall ItemOut) (wires : T
       let stays : Session ItemOut → Bool = λ t. not (t.shown.number == s.shown.number) in
       let out : stays s ≡ false = ap not (eq-eqb s.shown.number s.shown.number refl) in
       let left : List (Session ItemOut) = filter stays h.sessions in
-      let rule : IsRule left h.next = rule_left stays h.next h.sessions p.server.hall.sessions in
-      let was : (m : ℕ) (t : Session ItemOut) → session_of m left ≡ Some t → session_of m h.sessions ≡ Some t = λ m t is. (of_left stays h.next 1 m h.sessions t p.server.hall.sessions.ascending is).0 in
+      let rule : IsRule left h.next = rule_left stays h.next h.sessions p.server.server_state.sessions in
+      let was : (m : ℕ) (t : Session ItemOut) → session_of m left ≡ Some t → session_of m h.sessions ≡ Some t = λ m t is. (of_left stays h.next 1 m h.sessions t p.server.server_state.sessions.ascending is).0 in
       let seat : session_at k left ≡ None = none_left (is_at k) stays h.sessions none_here in
-      let name : session_named who.account who.resource left ≡ None = named_gone stays who.account who.resource h.next h.sessions s p.server.hall.sessions live.named out in
+      let name : session_named who.account who.resource left ≡ None = named_gone stays who.account who.resource h.next h.sessions s p.server.server_state.sessions live.named out in
       let ended : View ItemOut = record v { row = None } in
       let next : View ItemOut = last left rule was seat name in
-      let done : Hall ItemOut = after left rule was seat name in
+      let done : ServerState ItemOut = after left rule was seat name in
       let off_it : s.shown.conn ≡ None = live.row.conn ∙ parked in
-      let step : on_item k (up_item who (logins k) Bind) h ≡ record { hall = done; outs = puts_at k items } =
+      let step : on_item k (up_item who (logins k) Bind) h ≡ record { server_state = done; outs = puts_at k items } =
       bind_step ∙ ap bound_so live.named
-      ∙ ap (λ o. acted itself (parting_where itself o (error_item stream.Conflict) (Say k (bound_item (codes "bind") (full_address who.account who.resource h)) ∷ [])) (record { hall = done; outs = [] })) off_it
-      ∙ ap (λ a. record { hall = done; outs = puts_at k (bound_item (codes "bind") a ∷ []) }) (address_is who h p.server.served) in
+      ∙ ap (λ o. acted itself (parting_where itself o (error_item stream.Conflict) (Say k (bound_item (codes "bind") (full_address who.account who.resource h)) ∷ [])) (record { server_state = done; outs = [] })) off_it
+      ∙ ap (λ a. record { server_state = done; outs = puts_at k (bound_item (codes "bind") a ∷ []) }) (address_is who h p.server.served) in
       subst (λ t. StepFollows who logins wires v k p.wire t []) (sym step) (record {
         moves = EndsRow ∷ TakesBind k h.next ∷ [];
         next = next;
@@ -196,7 +196,7 @@ module _ (who : Identity) (logins : ℕ → Login) (h : Hall ItemOut) (wires : T
           (next, record { conn = p.conn; is = p.is; rest = p.rest; first = p.first; phase = ready; none = refl; fresh = new_number; rises = p.server.free; gives = refl }, refl),
         );
         does = refl;
-        server = after_shows left rule was seat name;
+        server = after_represents left rule was seat name;
         pipes = taken_pipes who logins h wires v k Bind p (AtSession h.next) (Bound h.next ∷ []) items next (λ j. refl) refl (All-nil IsForClient);
         client = taken_client who logins h wires v k Bind p (AtSession h.next) (Bound h.next ∷ []) next refl refl refl refl;
       })
@@ -236,13 +236,13 @@ module _ (who : Identity) (logins : ℕ → Login) (h : Hall ItemOut) (wires : T
     out = ap not (eq-eqb live.session.shown.number live.session.shown.number refl)
 
     rule_fewer : IsRule fewer h.next
-    rule_fewer = rule_left numbered_so h.next h.sessions p.server.hall.sessions
+    rule_fewer = rule_left numbered_so h.next h.sessions p.server.server_state.sessions
 
     rule : IsRule left h.next
     rule = rule_left elsewhere h.next fewer rule_fewer
 
     was : (m : ℕ) (t : Session ItemOut) → session_of m left ≡ Some t → session_of m h.sessions ≡ Some t
-    was m t is = (of_left numbered_so h.next 1 m h.sessions t p.server.hall.sessions.ascending (of_left elsewhere h.next 1 m fewer t rule_fewer.ascending is).0).0
+    was m t is = (of_left numbered_so h.next 1 m h.sessions t p.server.server_state.sessions.ascending (of_left elsewhere h.next 1 m fewer t rule_fewer.ascending is).0).0
 
     seat : session_at k left ≡ None
     seat = none_left (is_at k) elsewhere fewer (none_left (is_at k) numbered_so h.sessions none_here)
@@ -250,7 +250,7 @@ module _ (who : Identity) (logins : ℕ → Login) (h : Hall ItemOut) (wires : T
     name : session_named who.account who.resource left ≡ None
     name =
         none_left (is_named who.account who.resource) elsewhere fewer
-        (named_gone numbered_so who.account who.resource h.next h.sessions live.session p.server.hall.sessions live.named out)
+        (named_gone numbered_so who.account who.resource h.next h.sessions live.session p.server.server_state.sessions live.named out)
 
     abbrev closed : Conn ItemOut
     closed = shut_conn (Errs Conflict) former
@@ -264,28 +264,28 @@ module _ (who : Identity) (logins : ℕ → Login) (h : Hall ItemOut) (wires : T
     abbrev words : List ItemOut
     words = error_item stream.Conflict ∷ Closing ∷ []
 
-    abbrev done : Hall ItemOut
-    done = bound_hall who logins h v p.server k left (without_conn f h).conns rule was seat name fits
+    abbrev done : ServerState ItemOut
+    done = bound_server_state who logins h v p.server k left (without_conn f h).conns rule was seat name fits
 
     elsewhere_new : elsewhere (fresh h.next who.account who.resource k) ≡ true
     elsewhere_new = ap not (other_number k f (λ same. apart (sym same)))
 
-    step : on_item k (up_item who (logins k) Bind) h ≡ record { hall = done; outs = shuts_at f words ++ puts_at k items }
+    step : on_item k (up_item who (logins k) Bind) h ≡ record { server_state = done; outs = shuts_at f words ++ puts_at k items }
     step =
         bind_step ∙ ap bound_so live.named
         ∙ ap (λ o. acted itself (parting_where itself o (error_item stream.Conflict) (Say k (bound_item (codes "bind") (full_address who.account who.resource h)) ∷ []))
-        (record { hall = record h { sessions = fewer ++ fresh h.next who.account who.resource k ∷ []; next = h.next + 1 }; outs = [] })) (live.row.conn ∙ on)
-        ∙ ap (λ ss. record { hall = record h { sessions = ss; next = h.next + 1; conns = (without_conn f h).conns }; outs = shuts_at f words ++ puts_at k (bound_item (codes "bind") (full_address who.account who.resource h) ∷ []) })
+        (record { server_state = record h { sessions = fewer ++ fresh h.next who.account who.resource k ∷ []; next = h.next + 1 }; outs = [] })) (live.row.conn ∙ on)
+        ∙ ap (λ ss. record { server_state = record h { sessions = ss; next = h.next + 1; conns = (without_conn f h).conns }; outs = shuts_at f words ++ puts_at k (bound_item (codes "bind") (full_address who.account who.resource h) ∷ []) })
         (filter_kept elsewhere fewer (fresh h.next who.account who.resource k) elsewhere_new)
-        ∙ ap (λ a. record { hall = done; outs = shuts_at f words ++ puts_at k (bound_item (codes "bind") a ∷ []) }) (address_is who h p.server.served)
+        ∙ ap (λ a. record { server_state = done; outs = shuts_at f words ++ puts_at k (bound_item (codes "bind") a ∷ []) }) (address_is who h p.server.served)
 
     shown_last : (j : ℕ) (e : Conn ItemOut) → Entry k attached first_conns j e → conn_at j done ≡ conn_shown who (logins j) e
-    shown_last j e (New same it) = subst (λ n. conn_at n done ≡ conn_shown who (logins n) e) same (without_apart f h p.server.hall.conns k apart ∙ shown k attached (entry k attached v.conns k attached (at_same k attached v.conns)) ∙ ap (conn_shown who (logins k)) it)
+    shown_last j e (New same it) = subst (λ n. conn_at n done ≡ conn_shown who (logins n) e) same (without_apart f h p.server.server_state.conns k apart ∙ shown k attached (entry k attached v.conns k attached (at_same k attached v.conns)) ∙ ap (conn_shown who (logins k)) it)
     shown_last j e (Old other at) = shown_first (entry f closed v.conns j e at)
       where
         shown_first : Entry f closed v.conns j e → conn_at j done ≡ conn_shown who (logins j) e
-        shown_first (New same it) = subst (λ n. conn_at n done ≡ conn_shown who (logins n) e) same (without_here f h p.server.hall.conns ∙ ap (conn_shown who (logins f)) it)
-        shown_first (Old away there) = without_apart f h p.server.hall.conns j away ∙ p.server.conns j e there
+        shown_first (New same it) = subst (λ n. conn_at n done ≡ conn_shown who (logins n) e) same (without_here f h p.server.server_state.conns ∙ ap (conn_shown who (logins f)) it)
+        shown_first (Old away there) = without_apart f h p.server.server_state.conns j away ∙ p.server.conns j e there
 
     mine_last : (j : ℕ) (e : Conn ItemOut) → Entry k attached first_conns j e → (d : Conn ItemOut) × (v.conns j ≡ Some d)
     mine_last j e (New same it) = (p.conn, subst (λ n. v.conns n ≡ Some p.conn) same p.is)
@@ -295,22 +295,22 @@ module _ (who : Identity) (logins : ℕ → Login) (h : Hall ItemOut) (wires : T
         mine_first (New same it) = (former, subst (λ n. v.conns n ≡ Some former) same placed.1)
         mine_first (Old away there) = (e, there)
 
-    module _ (ss : Table (links.Session ItemOut)) (known : Known ss v) (none_yet : ss h.next ≡ None) (moves : List (LinkMove ItemOut)) (nothing : deeds_of moves ≡ []) (to : LinkReaches moves v (record v { conns = first_conns; row = None; sessions = ss })) where
+    module _ (ss : Table (links.Session ItemOut)) (known : Known ss v) (none_yet : ss h.next ≡ None) (moves : List (LinkMove ItemOut)) (nothing : labels_of moves ≡ []) (to : LinkReaches moves v (record v { conns = first_conns; row = None; sessions = ss })) where
       abbrev middle : View ItemOut
       middle = record v { conns = first_conns; row = None; sessions = ss }
 
       abbrev end : View ItemOut
       end = record v { conns = last_conns; row = Some (new_row h.next k); sessions = with_at h.next unread ss; free = h.next + 1 }
 
-      bound_behind : IsTaken who logins h wires v k p.wire Bind
-      bound_behind =
+      bound_after : IsTaken who logins h wires v k p.wire Bind
+      bound_after =
           subst (λ t. StepFollows who logins wires v k p.wire t []) (sym step) (record {
             moves = moves ++ TakesBind k h.next ∷ [];
             next = end;
             leads = then_reaches moves (TakesBind k h.next ∷ []) v middle end to (end, record { conn = p.conn; is = at_other f closed v.conns k apart ∙ p.is; rest = p.rest; first = p.first; phase = ready; none = refl; fresh = none_yet; rises = p.server.free; gives = refl }, refl);
             does = does_both moves (TakesBind k h.next ∷ []) [] [] nothing refl;
             server =
-                bound_shows who logins h v p.server k left (without_conn f h).conns rule was seat name fits last_conns (with_at h.next unread ss) (known_bound ss known) (without_sorted f h p.server.hall.conns)
+                bound_represents who logins h v p.server k left (without_conn f h).conns rule was seat name fits last_conns (with_at h.next unread ss) (known_bound ss known) (without_sorted f h p.server.server_state.conns)
                 (λ j e there. shown_last j e (entry k attached first_conns j e there)) (λ j e there. mine_last j e (entry k attached first_conns j e there));
             pipes =
                 shut_then_taken who logins wires v p.pipes f k apart former (Errs Conflict) words p.conn p.wire Bind p.rest (AtSession h.next) (Bound h.next ∷ []) items end placed.1 p.is p.there p.first refl refl (All-nil IsForClient) refl;
@@ -327,12 +327,12 @@ module _ (who : Identity) (logins : ℕ → Login) (h : Hall ItemOut) (wires : T
     bind_detached counted =
         let g : ℕ → links.Session ItemOut → links.Session ItemOut = λ q s. lost_if (has (Some row.number) q) (s.counted && (has v.here f && has (carries former) q)) s in
         let parked : View ItemOut = record v { conns = first_conns; row = Some (record row { on = None }); sessions = alter g v.sessions } in
-        bound_behind (alter g v.sessions) (known_altered g v) (ap (changed (g h.next)) new_number) (Detaches f (Errs Conflict) ∷ EndsRow ∷ []) refl
+        bound_after (alter g v.sessions) (known_altered g v) (ap (changed (g h.next)) new_number) (Detaches f (Errs Conflict) ∷ EndsRow ∷ []) refl
         (parked, record { conn = former; is = placed.1; row = row; is_row = is_row; on = on; counted = counted; reason = tt; gives = refl }, (record parked { row = None }, record { row = record row { on = None }; is_row = refl; off = refl; gives = refl }, refl))
 
     bind_shut : row.counted ≡ false → IsTaken who logins h wires v k p.wire Bind
     bind_shut uncounted =
-        bound_behind v.sessions (known_same v) new_number (Shuts f (Errs Conflict) ∷ []) refl
+        bound_after v.sessions (known_same v) new_number (Shuts f (Errs Conflict) ∷ []) refl
         (record v { conns = first_conns; row = None }, record { conn = former; is = placed.1; row = row; is_row = is_row; on = on; uncounted = uncounted; reason = tt; gives = refl }, refl)
 
     bind_on : IsTaken who logins h wires v k p.wire Bind

@@ -3,7 +3,7 @@ use Rattle.std.proofs.Common.{◌≡◌, ℕ, ◌+◌, ◌<◌, ◌^◌, not, []
 use Rattle.std.proofs.lemmas.Bool.{eq-eqb}
 use Rattle.std.specs.Option.{option_map}
 use Rattle.std.specs.Result.{result_ok}
-use Rattle.srv_state.specs.State.{Hall, Step, full_address, with_sessions}
+use Rattle.srv_state.specs.State.{ServerState, Step, full_address, with_sessions}
 use Rattle.srv_state.specs.Steps.{Say, acted}
 use Rattle.srv_state.specs.Streams.{parting_where, standing_of}
 use Rattle.srv_state.specs.Words.{is_long}
@@ -28,7 +28,7 @@ use Rattle.sim_4_links_follow.proofs.Acts.{Stays, ended_stays, leave_nothing, le
 use Rattle.sim_4_links_follow.proofs.OthersElsewhere.{none_elsewhere}
 use Rattle.sim_4_links_follow.proofs.Parted.{conn_not, former_not, kept_beside, session_not, stays_follow}
 use Rattle.sim_4_links_follow.proofs.Pushing.{pushed_stays}
-use Rattle.sim_4_links_follow.specs.Beside.{IsBeside}
+use Rattle.sim_4_links_follow.specs.OtherDevices.{IsOtherDevice}
 use Rattle.im_replies.specs.Requests.{bound_item}
 use Rattle.im_replies.specs.Streams.{error_item}
 use Rattle.im_replies.specs.declared.conditions.StreamCondition.TheVariants as stream
@@ -42,7 +42,7 @@ use Rattle.im_stanza.specs.Readings.{stanza_of}
 use Rattle.srv_core.specs.Ready.{at_ready_or_bound}
 use Rattle.xml_writer.specs.Items.{ItemOut}
 
-module _ (who : Identity) (logins : ℕ → Login) (h : Hall ItemOut) (wires : Table ItemWire) (v : View ItemOut) (k : ℕ) (p : IsFirst who logins h wires v k Bind) where
+module _ (who : Identity) (logins : ℕ → Login) (h : ServerState ItemOut) (wires : Table ItemWire) (v : View ItemOut) (k : ℕ) (p : IsFirst who logins h wires v k Bind) where
   kept : LinkKept v
   kept = kept_here who logins h wires v k Bind p
 
@@ -64,7 +64,7 @@ module _ (who : Identity) (logins : ℕ → Login) (h : Hall ItemOut) (wires : T
       ∙ ap (λ r. acted itself (binding_as itself k who.account (codes "bind") (result_ok (chosen h.next r)) h) (step_of h)) (resource_asked who.resource)
       ∙ ap (λ r. acted itself (binding_as itself k who.account (codes "bind") (result_ok r) h) (step_of h)) (resource_chosen h.next who.resource p.normal.chosen p.normal.resource)
 
-  module _ (whom : Identity) (others : ℕ → Login) (u : View ItemOut) (fits : h.next + 1 < 2 ^ 64) (beside : IsBeside who whom others h wires u) where
+  module _ (whom : Identity) (others : ℕ → Login) (u : View ItemOut) (fits : h.next + 1 < 2 ^ 64) (beside : IsOtherDevice who whom others h wires u) where
     linked : LinkKept u
     linked = kept_beside who whom logins others h wires v u p.server p.pipes beside
 
@@ -73,25 +73,25 @@ module _ (who : Identity) (logins : ℕ → Login) (h : Hall ItemOut) (wires : T
 
     -- where this is the older session with the device's name
     abbrev bound_so : Option (Session ItemOut) → Step ItemOut
-    bound_so o = record { hall = record h { sessions = less o h.sessions ++ fresh h.next who.account who.resource k ∷ []; next = h.next + 1 }; outs = [] }
+    bound_so o = record { server_state = record h { sessions = less o h.sessions ++ fresh h.next who.account who.resource k ∷ []; next = h.next + 1 }; outs = [] }
 
     bound_stays : (o : Option (Session ItemOut)) → session_named who.account who.resource h.sessions ≡ o → Stays whom others u linked (bound_so o)
     bound_stays None is = record { server = pushed_stays who whom others h u beside.apart beside.reached beside.server k off none_here is fits; outs = none_elsewhere u }
     bound_stays (Some s) is =
         let n = s.shown.number in
-        let numbered = numbered_here (is_named who.account who.resource) h.next 1 h.sessions s p.server.hall.sessions.ascending is in
+        let numbered = numbered_here (is_named who.account who.resource) h.next 1 h.sessions s p.server.server_state.sessions.ascending is in
         let named = found_is (is_named who.account who.resource) h.sessions s is in
         let not_of = session_not who whom logins others h wires v u p.server p.pipes beside s numbered named in
         let ended = ended_stays whom others u linked n h not_of beside.server in
         let seat = none_left (is_at k) (left_out whom others u linked n) h.sessions none_here in
-        let name = named_gone (left_out whom others u linked n) who.account who.resource h.next h.sessions s p.server.hall.sessions is (ap not (eq-eqb n n refl)) in
+        let name = named_gone (left_out whom others u linked n) who.account who.resource h.next h.sessions s p.server.server_state.sessions is (ap not (eq-eqb n n refl)) in
         record { server = pushed_stays who whom others (with_sessions (without n h.sessions) h) u beside.apart beside.reached ended k off seat name fits; outs = none_elsewhere u }
 
-    abbrev behind : Option (Session ItemOut) → Step ItemOut
-    behind o = acted itself (parting_where itself (former_of (option_map ended_of o)) (error_item stream.Conflict) (Say k (bound_item (codes "bind") (full_address who.account who.resource h)) ∷ [])) (bound_so o)
+    abbrev following : Option (Session ItemOut) → Step ItemOut
+    following o = acted itself (parting_where itself (former_of (option_map ended_of o)) (error_item stream.Conflict) (Say k (bound_item (codes "bind") (full_address who.account who.resource h)) ∷ [])) (bound_so o)
 
-    behind_stays : (o : Option (Session ItemOut)) → session_named who.account who.resource h.sessions ≡ o → Stays whom others u linked (behind o)
-    behind_stays o is =
+    after_stays : (o : Option (Session ItemOut)) → session_named who.account who.resource h.sessions ≡ o → Stays whom others u linked (following o)
+    after_stays o is =
         leave_parting whom others u linked (former_of (option_map ended_of o)) (error_item stream.Conflict) (Say k (bound_item (codes "bind") (full_address who.account who.resource h)) ∷ []) (former o is)
         (leave_say whom others u linked k (bound_item (codes "bind") (full_address who.account who.resource h)) [] off (leave_nothing whom others u linked)) (bound_so o) (bound_stays o is)
       where
@@ -101,6 +101,6 @@ module _ (who : Identity) (logins : ℕ → Login) (h : Hall ItemOut) (wires : T
 
     pub bind_stays : IsLeft who whom logins others h wires u k p.wire Bind
     bind_stays =
-        subst (λ (s : Step ItemOut). ServerFollows whom others s.hall (sent s.outs (with_at k (handed_up p.wire) wires)) u []) (sym bind_step)
-        (stays_follow whom others wires u linked k p.wire (behind (session_named who.account who.resource h.sessions)) beside.pipes off (λ its. beside.apart.place (sym its ∙ (wire_here who logins h wires v k Bind p).of))
-        (behind_stays (session_named who.account who.resource h.sessions) refl))
+        subst (λ (s : Step ItemOut). ServerFollows whom others s.server_state (sent s.outs (with_at k (handed_up p.wire) wires)) u []) (sym bind_step)
+        (stays_follow whom others wires u linked k p.wire (following (session_named who.account who.resource h.sessions)) beside.pipes off (λ its. beside.apart.position (sym its ∙ (wire_here who logins h wires v k Bind p).of))
+        (after_stays (session_named who.account who.resource h.sessions) refl))

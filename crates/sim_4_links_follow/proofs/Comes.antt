@@ -4,7 +4,7 @@ use Rattle.std.proofs.Common.{◌≡◌, ◌≢◌, ℕ, ◌+◌, ◌≤◌, Boo
 use Rattle.std.proofs.lemmas.Bool.{cases_Bool, cases_eq}
 use Rattle.std.specs.List.{filter, find}
 use Rattle.cl_core.specs.UserCalls.{dials}
-use Rattle.cl_handlers.specs.Clients.{Turn}
+use Rattle.cl_handlers.specs.Clients.{ClientStep}
 use Rattle.cl_handlers.specs.Speech.{in_items}
 use Rattle.sim_3_images.proofs.UserMoves.{get_set_same, length_where}
 use Rattle.sim_4_links_follow.proofs.CutPipes.{none_there}
@@ -14,15 +14,15 @@ use Rattle.sim_4_links_follow.proofs.Former.{pipes_as}
 use Rattle.sim_4_links_follow.proofs.Inserted.{sorted_inserted}
 use Rattle.sim_4_links_follow.proofs.MoreMoves.{then_reaches}
 use Rattle.sim_4_links_follow.proofs.Numbered.{here_changed, set_elsewhere, under_more, under_none}
-use Rattle.sim_4_links_follow.proofs.Stays.{client_stays, no_deeds, reached_along}
+use Rattle.sim_4_links_follow.proofs.Stays.{client_stays, no_labels, reached_along}
 use Rattle.sim_4_links_follow.specs.Following.{AreDialled, IsDrawn, WorldFollows, with_login}
 use Rattle.srv_state.specs.Moments.{at_moment, fresh_conn, with_fresh}
-use Rattle.srv_state.specs.State.{Hall}
+use Rattle.srv_state.specs.State.{ServerState}
 use Rattle.sim_3_items.specs.Identities.{Identity, Login}
-use Rattle.sim_3_items.specs.Pipes.{IsShown, PipesShow, by_number, under}
+use Rattle.sim_3_items.specs.Pipes.{IsShown, PipesRepresent, by_number, under}
 use Rattle.sim_3_items.specs.Reading.{where_here}
-use Rattle.sim_3_items.specs.Servers.{ServerFollows, ServerShows}
-use Rattle.sim_3_items.specs.Shows.{Shows}
+use Rattle.sim_3_items.specs.Servers.{ServerFollows, ServerRepresents}
+use Rattle.sim_3_items.specs.Represents.{Represents}
 use Rattle.sim_3_items.specs.ItemMoves.{Dial, dialed_by, fed_of, moved}
 use Rattle.sim_3_items.specs.ItemPipes.{ItemWire, fresh_wire, left, put_up}
 use Rattle.sim_3_items.specs.ItemWorlds.{ItemDevice, ItemWorld}
@@ -33,7 +33,7 @@ use Rattle.sim_2_links.specs.Views.{Table, View, with_at}
 use Rattle.sm_live.specs.Sessions.{Session, session_at}
 use Rattle.sim_4_links_follow.proofs.Placed.{shown_as}
 use Rattle.sim_4_links_follow.proofs.PromptMoves.{prompt_both, silent_as}
-use Rattle.cmd_network.specs.Places.{changed_where}
+use Rattle.cmd_network.specs.Positions.{changed_where}
 use Rattle.xml_writer.specs.Items.{ItemOut}
 
 -- ---- moments
@@ -48,7 +48,7 @@ was_there {A = A} p q (x ∷ ss) s is =
           (rest.0, rw other rest.1)
     ]
 
-moment_below : (n now : ℕ) (h : Hall ItemOut) → AreDialled n h → AreDialled n (at_moment now h)
+moment_below : (n now : ℕ) (h : ServerState ItemOut) → AreDialled n h → AreDialled n (at_moment now h)
 moment_below n now h below = record { conns = below.conns; seats = seats }
   where
     seats : (k : ℕ) (s : Session ItemOut) → session_at k (at_moment now h).sessions ≡ Some s → k ≤ n
@@ -67,31 +67,31 @@ one_more here x wires j =
 
 -- ---- this device
 
-module _ (who : Identity) (logins : ℕ → Login) (w : ItemWorld) (v : View ItemOut) (s : Shows who logins w v) (moment : ServerFollows who logins (at_moment w.moment w.server) (by_number w.wires) v []) where
+module _ (who : Identity) (logins : ℕ → Login) (w : ItemWorld) (v : View ItemOut) (s : Represents who logins w v) (moment : ServerFollows who logins (at_moment w.moment w.server) (by_number w.wires) v []) where
   pub dial_lifts : (x : Login) (mine yours : List ℕ) → LinkReached v → IsDrawn who x mine yours → AreDialled (length w.wires) w.server
-      → WorldFollows who (with_login (length w.wires + 1) x logins) (moved (Dial who.place mine yours) w) v []
+      → WorldFollows who (with_login (length w.wires + 1) x logins) (moved (Dial who.position mine yours) w) v []
   dial_lifts x mine yours reached drawn below =
       let d : ItemDevice = s.device in
       let n : ℕ = length w.wires in
-      let t : Turn ItemOut ItemOut = (dials in_items mine (fed_of d.client)).turn in
+      let t : ClientStep ItemOut ItemOut = (dials in_items mine (fed_of d.client)).turn in
       let f =
       dial_follows who logins x n mine yours drawn (at_moment w.moment w.server) d (by_number w.wires) moment.next
       (record { normal = s.normal; reached = reached_along moment.moves v moment.next reached moment.leads; client = client_stays who logins d v moment.next moment.client s.client; pipes = moment.pipes }) moment.server (under_none w.wires)
       (moment_below n w.moment w.server below) in
-      subst (λ o. WorldFollows who (with_login (n + 1) x logins) (dialed_by who.place mine yours o w) v []) (sym s.there)
+      subst (λ o. WorldFollows who (with_login (n + 1) x logins) (dialed_by who.position mine yours o w) v []) (sym s.there)
       (record {
         moves = moment.moves ++ f.moves;
         next = f.next;
         leads = then_reaches moment.moves f.moves v moment.next f.next moment.leads f.leads;
-        does = no_deeds moment.moves f.moves moment.does f.does;
+        does = no_labels moment.moves f.moves moment.does f.does;
         prompt = prompt_both moment.moves f.moves (silent_as moment.moves [] moment.does tt) f.prompt;
-        shows = record {
+        represents = record {
           normal = s.normal;
           device = record { client = t.client; here = Some n };
-          there = get_set_same w.devices who.place d (record { client = t.client; here = Some n }) s.there;
+          there = get_set_same w.devices who.position d (record { client = t.client; here = Some n }) s.there;
           pipes =
-              pipes_as who (with_login (n + 1) x logins) (with_at (n + 1) (put_up t.out.put (fresh_wire who.place)) (where_here d.here left (by_number w.wires))) (by_number (dialed_by who.place mine yours (Some d) w).wires) f.next
-              (one_more d.here (put_up t.out.put (fresh_wire who.place)) w.wires) f.pipes;
+              pipes_as who (with_login (n + 1) x logins) (with_at (n + 1) (put_up t.out.put (fresh_wire who.position)) (where_here d.here left (by_number w.wires))) (by_number (dialed_by who.position mine yours (Some d) w).wires) f.next
+              (one_more d.here (put_up t.out.put (fresh_wire who.position)) w.wires) f.pipes;
           server = f.server;
           client = f.client;
         };
@@ -100,21 +100,21 @@ module _ (who : Identity) (logins : ℕ → Login) (w : ItemWorld) (v : View Ite
 -- ---- another one
 
 module _ (whom : Identity) (others : ℕ → Login) (u : View ItemOut) (k : ℕ) where
-  beside_server : (h : Hall ItemOut) (entropy : List ℕ) → u.conns k ≡ None → ServerShows whom others h u → ServerShows whom others (with_fresh k entropy h) u
-  beside_server h entropy none shows = record {
-    served = record { domain = shows.served.domain; account = shows.served.account; found = shows.served.found; archive = shows.served.archive };
-    hall = record { sessions = shows.hall.sessions; conns = sorted_inserted k (fresh_conn entropy) h.conns shows.hall.conns };
-    conns = λ j c is. fresh_beside k j entropy h (λ same. not_there j c is same) ∙ shows.conns j c is;
-    row = shows.row;
-    seated = shows.seated;
-    owned = shows.owned;
-    free = shows.free;
+  beside_server : (h : ServerState ItemOut) (entropy : List ℕ) → u.conns k ≡ None → ServerRepresents whom others h u → ServerRepresents whom others (with_fresh k entropy h) u
+  beside_server h entropy none represents = record {
+    served = record { domain = represents.served.domain; account = represents.served.account; found = represents.served.found; archive = represents.served.archive };
+    server_state = record { sessions = represents.server_state.sessions; conns = sorted_inserted k (fresh_conn entropy) h.conns represents.server_state.conns };
+    conns = λ j c is. fresh_beside k j entropy h (λ same. not_there j c is same) ∙ represents.conns j c is;
+    row = represents.row;
+    seated = represents.seated;
+    owned = represents.owned;
+    free = represents.free;
   }
     where
       not_there : (j : ℕ) (c : Conn ItemOut) → u.conns j ≡ Some c → j ≡ k → ⊥
       not_there j c is same = let there : u.conns k ≡ Some c = subst (λ n. u.conns n ≡ Some c) same is in let no_way : ⊥ = cc in no_way
 
-  beside_pipes : (x : ItemWire) (wires : Table ItemWire) → x.device ≢ whom.place → u.conns k ≡ None → PipesShow whom others wires u → PipesShow whom others (with_at k x wires) u
+  beside_pipes : (x : ItemWire) (wires : Table ItemWire) → x.device ≢ whom.position → u.conns k ≡ None → PipesRepresent whom others wires u → PipesRepresent whom others (with_at k x wires) u
   beside_pipes x wires apart none pipes = record { each = each }
     where
       each : (j : ℕ) → IsShown whom (others j) j (u.conns j) (with_at k x wires j)
@@ -124,15 +124,15 @@ module _ (whom : Identity) (others : ℕ → Login) (u : View ItemOut) (k : ℕ)
             | inr other ↦ shown_as whom (others j) j (u.conns j) (u.conns j) (wires j) (with_at k x wires j) refl (at_other k x wires j other) (pipes.each j)
           ]
 
-module _ (whom : Identity) (others : ℕ → Login) (w : ItemWorld) (u : View ItemOut) (s : Shows whom others w u) (moment : ServerFollows whom others (at_moment w.moment w.server) (by_number w.wires) u []) where
-  pub dial_leaves : (at : ℕ) → whom.place ≢ at → (d : ItemDevice) → slice_get w.devices at ≡ Some d → IsOfOther whom.place d.here w.wires → (mine yours : List ℕ) → WorldFollows whom others (moved (Dial at mine yours) w) u []
+module _ (whom : Identity) (others : ℕ → Login) (w : ItemWorld) (u : View ItemOut) (s : Represents whom others w u) (moment : ServerFollows whom others (at_moment w.moment w.server) (by_number w.wires) u []) where
+  pub dial_leaves : (at : ℕ) → whom.position ≢ at → (d : ItemDevice) → slice_get w.devices at ≡ Some d → IsOfOther whom.position d.here w.wires → (mine yours : List ℕ) → WorldFollows whom others (moved (Dial at mine yours) w) u []
   dial_leaves at apart d is strange_here mine yours =
       let n : ℕ = length w.wires in
-      let t : Turn ItemOut ItemOut = (dials in_items mine (fed_of d.client)).turn in
+      let t : ClientStep ItemOut ItemOut = (dials in_items mine (fed_of d.client)).turn in
       let x : ItemWire = put_up t.out.put (fresh_wire at) in
       let none : moment.next.conns (n + 1) ≡ None =
       none_there whom (others (n + 1)) (n + 1) (moment.next.conns (n + 1)) (subst (IsShown whom (others (n + 1)) (n + 1) (moment.next.conns (n + 1))) (under_none w.wires) (moment.pipes.each (n + 1))) in
-      let stays : PipesShow whom others (where_here d.here left (by_number w.wires)) moment.next =
+      let stays : PipesRepresent whom others (where_here d.here left (by_number w.wires)) moment.next =
       pipes_as whom others (by_number (changed_where d.here left w.wires)) (where_here d.here left (by_number w.wires)) moment.next (λ j. sym (here_changed d.here left w.wires j))
       (other_pipes whom others moment.next d.here left w.wires (λ y. refl) strange_here moment.pipes) in
       subst (λ o. WorldFollows whom others (dialed_by at mine yours o w) u []) (sym is)
@@ -142,10 +142,10 @@ module _ (whom : Identity) (others : ℕ → Login) (w : ItemWorld) (u : View It
         leads = moment.leads;
         does = moment.does;
         prompt = silent_as moment.moves [] moment.does tt;
-        shows = record {
+        represents = record {
           normal = s.normal;
           device = s.device;
-          there = set_elsewhere w.devices at whom.place (record { client = t.client; here = Some n }) apart ∙ s.there;
+          there = set_elsewhere w.devices at whom.position (record { client = t.client; here = Some n }) apart ∙ s.there;
           pipes =
               pipes_as whom others (with_at (n + 1) x (where_here d.here left (by_number w.wires))) (by_number (dialed_by at mine yours (Some d) w).wires) moment.next (one_more d.here x w.wires)
               (beside_pipes whom others moment.next (n + 1) x (where_here d.here left (by_number w.wires)) (λ e. apart (sym e)) none stays);

@@ -9,16 +9,16 @@ use Rattle.sim_4_links_follow.proofs.Stays.{keeps_server, same_servers}
 use Rattle.sim_4_links_follow.proofs.Working.{client_leaves, client_works, same_server}
 use Rattle.cl_handlers.specs.Clients.{ClientView}
 use Rattle.cl_handlers.specs.Speech.{Note, Put}
-use Rattle.cl_handlers.specs.Turns.{is_apart, is_online}
+use Rattle.cl_handlers.specs.ClientSteps.{is_apart, is_online}
 use Rattle.cl_handlers.specs.declared.phase.Phase.{Phase}
 use Rattle.cl_handlers.specs.declared.phase.Phase.TheVariants as phase
 use Rattle.sim_4_links_follow.proofs.Outcomes.{IsGone, IsQueued, IsQuiet, IsSaid, T, said_put}
-use Rattle.sim_3_items.specs.Clients.{ClientFollows, ClientShows, IsOwn, IsOwnShown, client_phase}
+use Rattle.sim_3_items.specs.Clients.{ClientFollows, ClientRepresents, IsOwn, IsOwnRepresented, client_phase}
 use Rattle.sim_3_items.specs.Counted.{IsForServer}
-use Rattle.sim_3_items.specs.Deeds.{ArePrompt, IsAskedAt, Says, awaits, deed_of, deeds_of}
+use Rattle.sim_3_items.specs.Labels.{ArePrompt, IsAskedAt, Says, awaits, label_of, labels_of}
 use Rattle.sim_3_items.specs.Frames.{SameServer}
 use Rattle.sim_3_items.specs.Identities.{Identity, Login}
-use Rattle.sim_3_items.specs.Pipes.{IsShown, IsWire, PipesShow}
+use Rattle.sim_3_items.specs.Pipes.{IsShown, IsWire, PipesRepresent}
 use Rattle.sim_3_items.specs.Reading.{noted, noted_by}
 use Rattle.sim_3_items.specs.ItemPipes.{ItemWire, left, put_up}
 use Rattle.sim_3_items.specs.ItemWorlds.{ItemDevice}
@@ -39,7 +39,7 @@ use Rattle.sim_2_links.specs.Words.{Client, InAuth, InBind, InEnable, InFeatures
 use Rattle.sm_outbox.specs.Sessions.{SessionView}
 use Rattle.sm_outbox.specs.Waiting.{is_full}
 use Rattle.im_replies.specs.Management.{request_item}
-use Rattle.sim_4_links_follow.proofs.MoreMoves.{deeds_both, then_reaches}
+use Rattle.sim_4_links_follow.proofs.MoreMoves.{labels_both, then_reaches}
 use Rattle.sim_4_links_follow.proofs.Placed.{shown_at}
 use Rattle.sim_4_links_follow.proofs.PromptMoves.{prompt_both}
 use Rattle.sim_4_links_follow.proofs.Servings.{known_altered, known_same}
@@ -109,17 +109,17 @@ online_own v k p c o kept here is client own =
 
 -- ---- the session
 
-pub own_shown : (o : Option (Own ItemOut)) (p : Option (SessionView ItemOut)) (s : SessionView ItemOut) → p ≡ Some s → IsOwnShown o p → (w : Own ItemOut) × (o ≡ Some w) × IsOwn w s
+pub own_shown : (o : Option (Own ItemOut)) (p : Option (SessionView ItemOut)) (s : SessionView ItemOut) → p ≡ Some s → IsOwnRepresented o p → (w : Own ItemOut) × (o ≡ Some w) × IsOwn w s
 own_shown None None s is shown = absurd (let no_way : ⊥ = cc in no_way)
 own_shown None (Some q) s is shown = absurd shown
 own_shown (Some w) None s is shown = absurd shown
 own_shown (Some w) (Some q) s is shown = let same : q ≡ s = cc in (w, refl, subst (IsOwn w) same shown)
 
 room : (n : ℕ) → n ≤ 10000 → (n == 10000) ≡ false → n + 1 ≤ 10000
-room n few place = grind (arith, nat_tests)
+room n few position = grind (arith, nat_tests)
 
 queued_own : (t u : T) (s : SessionView ItemOut) (z : ItemOut) (o : Own ItemOut) → IsOwn o s → is_full s.waiting ≡ false → IsForServer z → (q : IsQueued t u s z) → IsOwn (record o { queue = o.queue ++ z ∷ [] }) q.session
-queued_own t u s z o old place good q = record {
+queued_own t u s z o old position good q = record {
   previd = q.previd ∙ old.previd;
   acked = q.acked ∙ old.acked;
   handled = q.handled ∙ old.handled;
@@ -127,7 +127,7 @@ queued_own t u s z o old place good q = record {
   for_server = All-append IsForServer o.queue (z ∷ []) old.for_server (All-cons IsForServer z [] good (All-nil IsForServer));
   few =
       subst (λ n. n ≤ 10000) (sym (length_push o.queue z))
-      (room (length o.queue) old.few (subst (λ (l : List ItemOut). (length l == 10000) ≡ false) old.queue place));
+      (room (length o.queue) old.few (subst (λ (l : List ItemOut). (length l == 10000) ≡ false) old.queue position));
 }
 
 -- ---- pipes
@@ -151,16 +151,16 @@ pub record IsOut (who : Identity) (logins : ℕ → Login) (d : ItemDevice) (v :
   pub moves : List (LinkMove ItemOut)
   pub next : View ItemOut
   pub leads : LinkReaches moves v next
-  pub does : deeds_of moves ≡ noted t.out.notes
-  pub client : ClientShows who logins (record d { client = t.client }) next
-  pub pipes : PipesShow who logins (table t.out.put) next
+  pub does : labels_of moves ≡ noted t.out.notes
+  pub client : ClientRepresents who logins (record d { client = t.client }) next
+  pub pipes : PipesRepresent who logins (table t.out.put) next
   pub server : SameServer v next
   pub p : ℕ
   pub conn : Conn ItemOut
   pub here : next.here ≡ Some k
   pub is : next.conns k ≡ Some conn
   pub online : conn.client ≡ InOnline p
-  pub behind : (more : List (LinkMove ItemOut)) → (awaits z ≡ false) ⊎ IsAskedAt k more → ArePrompt more → ArePrompt (moves ++ more)
+  pub following : (more : List (LinkMove ItemOut)) → (awaits z ≡ false) ⊎ IsAskedAt k more → ArePrompt more → ArePrompt (moves ++ more)
 
 module _ (who : Identity) (logins : ℕ → Login) (d : ItemDevice) (v : View ItemOut) (table : List ItemOut → Table ItemWire) where
   -- so far moves lead to a view that shows the device with this turn's client, and with what it put in the pipes
@@ -178,23 +178,23 @@ module _ (who : Identity) (logins : ℕ → Login) (d : ItemDevice) (v : View It
     client = record {
       account = q.account ∙ c.client.account;
       epoch = q.epoch ∙ c.client.epoch;
-      own = subst (IsOwnShown c.next.own) (sym q.session) c.client.own;
+      own = subst (IsOwnRepresented c.next.own) (sym q.session) c.client.own;
       apart = ap is_apart q.phase ∙ c.client.apart;
       here = c.client.here;
       has = c.client.has;
       phase = λ k conn at is. q.phase ∙ c.client.phase k conn at is;
     };
-    pipes = subst (λ put. PipesShow who logins (table put) c.next) (sym q.put) c.pipes;
+    pipes = subst (λ put. PipesRepresent who logins (table put) c.next) (sym q.put) c.pipes;
     server = c.server;
   }
 
-  module _ (kept : LinkKept v) (enters : (place : ℕ) → d.here ≡ Some place → Enters (place + 1) table) where
+  module _ (kept : LinkKept v) (enters : (position : ℕ) → d.here ≡ Some position → Enters (position + 1) table) where
     kept_so : (t : T) (c : Course t) → LinkKept c.next
     kept_so t c = kept_along c.moves v c.next kept c.leads
 
     -- the pipes of the connection that the client works on take what is put
-    enters_at : (a : ClientView ItemOut) (next : View ItemOut) → ClientShows who logins (record d { client = a }) next → (k : ℕ) → next.here ≡ Some k → Enters k table
-    enters_at a next shows k at = let had = shows.here k at in subst (λ n. Enters n table) (sym had.1) (enters had.0 had.2)
+    enters_at : (a : ClientView ItemOut) (next : View ItemOut) → ClientRepresents who logins (record d { client = a }) next → (k : ℕ) → next.here ≡ Some k → Enters k table
+    enters_at a next represents k at = let had = represents.here k at in subst (λ n. Enters n table) (sym had.1) (enters had.0 had.2)
 
     -- the connection on which it is online
     works_online : (t : T) (c : Course t) → is_online t.client.phase ≡ true → IsOnlineHere c.next
@@ -214,16 +214,16 @@ module _ (who : Identity) (logins : ℕ → Login) (d : ItemDevice) (v : View It
     away : (t : T) (c : Course t) → is_online t.client.phase ≡ false → (k : ℕ) (conn : Conn ItemOut) → c.next.here ≡ Some k → c.next.conns k ≡ Some conn → is_client_online conn.client ≡ false
     away t c off k conn at is = sym (same_online who (logins k) conn.client) ∙ ap is_online (sym (c.client.phase k conn at is)) ∙ off
 
-    -- the deeds with one stanza more
-    more_said : (t u : T) (c : Course t) (z : ItemOut) (move : LinkMove ItemOut) → deed_of move ≡ Says z ∷ [] → u.out.notes ≡ t.out.notes ++ Put z ∷ [] → deeds_of (c.moves ++ move ∷ []) ≡ noted u.out.notes
-    more_said t u c z move deed notes =
-        deeds_both c.moves (move ∷ []) ∙ (λ i. c.does i ++ (deed i ++ [])) ∙ sym (noted_on t.out.notes (Put z ∷ [])) ∙ ap noted (sym notes)
+    -- the labels with one stanza more
+    more_said : (t u : T) (c : Course t) (z : ItemOut) (move : LinkMove ItemOut) → label_of move ≡ Says z ∷ [] → u.out.notes ≡ t.out.notes ++ Put z ∷ [] → labels_of (c.moves ++ move ∷ []) ≡ noted u.out.notes
+    more_said t u c z move label notes =
+        labels_both c.moves (move ∷ []) ∙ (λ i. c.does i ++ (label i ++ [])) ∙ sym (noted_on t.out.notes (Put z ∷ [])) ∙ ap noted (sym notes)
 
     -- ---- a stanza is put where the client isn't online: it waits
 
     queue_course : (t u : T) (c : Course t) (s : SessionView ItemOut) (z : ItemOut) → t.client.session ≡ Some s → is_full s.waiting ≡ false → IsForServer z → IsQueued t u s z → u.out.put ≡ t.out.put
         → ((k : ℕ) (conn : Conn ItemOut) → c.next.here ≡ Some k → c.next.conns k ≡ Some conn → is_client_online conn.client ≡ false) → Course u
-    queue_course t u c s z stands place good q put away =
+    queue_course t u c s z stands position good q put away =
         record {
           moves = c.moves ++ Queues z ∷ [];
           next = next;
@@ -233,13 +233,13 @@ module _ (who : Identity) (logins : ℕ → Login) (d : ItemDevice) (v : View It
           client = record {
             account = q.account ∙ c.client.account;
             epoch = q.epoch ∙ c.client.epoch;
-            own = subst (IsOwnShown next.own) (sym q.is) (queued_own t u s z o.0 o.2 place good q);
+            own = subst (IsOwnRepresented next.own) (sym q.is) (queued_own t u s z o.0 o.2 position good q);
             apart = ap is_apart q.phase ∙ c.client.apart;
             here = c.client.here;
             has = c.client.has;
             phase = λ k conn at is. q.phase ∙ c.client.phase k conn at is;
           };
-          pipes = subst (λ items. PipesShow who logins (table items) next) (sym put) (record { each = c.pipes.each });
+          pipes = subst (λ items. PipesRepresent who logins (table items) next) (sym put) (record { each = c.pipes.each });
           server = same_servers v c.next next c.server (record { row = refl; free = refl; known = known_altered _ c.next; conns = λ k. keeps_server (c.next.conns k) });
         }
       where
@@ -256,7 +256,7 @@ module _ (who : Identity) (logins : ℕ → Login) (d : ItemDevice) (v : View It
 
     put_course : (t u : T) (c : Course t) (s : SessionView ItemOut) (z : ItemOut) → t.client.session ≡ Some s → is_full s.waiting ≡ false → IsForServer z → IsQueued t u s z → u.out.put ≡ t.out.put ++ z ∷ []
         → (k p : ℕ) (conn : Conn ItemOut) → c.next.here ≡ Some k → c.next.conns k ≡ Some conn → conn.client ≡ InOnline p → IsOut who logins d v table z k u
-    put_course t u c s z stands place good q put k p conn at is online =
+    put_course t u c s z stands position good q put k p conn at is online =
         record {
           moves = c.moves ++ Puts k z ∷ [];
           next = next;
@@ -266,9 +266,9 @@ module _ (who : Identity) (logins : ℕ → Login) (d : ItemDevice) (v : View It
           does = more_said t u c z (Puts k z) refl q.notes;
           client =
               client_works who logins (record d { client = t.client }) c.next c.client next k after u.client at refl (at_same k after c.next.conns) q.account (q.epoch ∙ c.client.epoch)
-              (subst (IsOwnShown next.own) (sym q.is) (queued_own t u s z o.0 o.2 place good q)) (q.phase ∙ c.client.phase k conn at is);
+              (subst (IsOwnRepresented next.own) (sym q.is) (queued_own t u s z o.0 o.2 position good q)) (q.phase ∙ c.client.phase k conn at is);
           pipes =
-              subst (λ items. PipesShow who logins (table items) next) (sym put)
+              subst (λ items. PipesRepresent who logins (table items) next) (sym put)
               (shown_at who logins (table t.out.put) (table (t.out.put ++ z ∷ [])) c.next next k after (put_up (z ∷ []) w.0) c.pipes (λ j. refl) (way.here t.out.put (z ∷ []) w.0 w.1) (way.apart t.out.put (z ∷ []))
               (wire_said who (logins k) k conn w.0 w.2 (Up (St z) ∷ []) (All-cons IsForServer z [] good (All-nil IsForServer))));
           server = same_servers v c.next next c.server (same_server c.next next k conn after is (λ j. refl) refl refl (known_altered _ c.next) refl refl refl);
@@ -277,7 +277,7 @@ module _ (who : Identity) (logins : ℕ → Login) (d : ItemDevice) (v : View It
           here = at;
           is = at_same k after c.next.conns;
           online = online;
-          behind = λ more asked rest. subst ArePrompt (sym (append_assoc c.moves (Puts k z ∷ []) more)) (prompt_both c.moves (Puts k z ∷ more) c.prompt (asked, rest));
+          following = λ more asked rest. subst ArePrompt (sym (append_assoc c.moves (Puts k z ∷ []) more)) (prompt_both c.moves (Puts k z ∷ more) c.prompt (asked, rest));
         }
       where
         o : (w : Own ItemOut) × (c.next.own ≡ Some w) × IsOwn w s
@@ -309,13 +309,13 @@ module _ (who : Identity) (logins : ℕ → Login) (d : ItemDevice) (v : View It
           leads =
               then_reaches c.moves (Requests k ∷ []) v c.next next c.leads
               (next, record { conn = c.conn; here = c.here; is = c.is; own = o.0; is_own = o.1; client = online_own c.next k c.p c.conn o.0 (kept_along c.moves v c.next kept c.leads) c.here c.is c.online o.1; gives = refl }, refl);
-          does = deeds_both c.moves (Requests k ∷ []) ∙ append-nil (deeds_of c.moves) ∙ c.does ∙ ap noted (sym notes);
-          prompt = c.behind (Requests k ∷ []) (inr ([], refl)) (tt, tt);
+          does = labels_both c.moves (Requests k ∷ []) ∙ append-nil (labels_of c.moves) ∙ c.does ∙ ap noted (sym notes);
+          prompt = c.following (Requests k ∷ []) (inr ([], refl)) (tt, tt);
           client =
-              subst (λ a. ClientShows who logins (record d { client = a }) next) (sym same)
+              subst (λ a. ClientRepresents who logins (record d { client = a }) next) (sym same)
               (client_works who logins (record d { client = t.client }) c.next c.client next k after t.client c.here refl (at_same k after c.next.conns) refl c.client.epoch c.client.own (c.client.phase k c.conn c.here c.is));
           pipes =
-              subst (λ items. PipesShow who logins (table items) next) (sym put)
+              subst (λ items. PipesRepresent who logins (table items) next) (sym put)
               (shown_at who logins (table t.out.put) (table (t.out.put ++ request_item ∷ [])) c.next next k after (put_up (request_item ∷ []) w.0) c.pipes (λ j. refl) (way.here t.out.put (request_item ∷ []) w.0 w.1)
               (way.apart t.out.put (request_item ∷ []))
               (wire_said who (logins k) k c.conn w.0 w.2 (Up Req ∷ []) (All-nil IsForServer)));
@@ -345,7 +345,7 @@ module _ (who : Identity) (logins : ℕ → Login) (d : ItemDevice) (v : View It
       next = c.next;
       leads = c.leads;
       does = c.does;
-      prompt = subst ArePrompt (append-nil c.moves) (c.behind [] (inl other) tt);
+      prompt = subst ArePrompt (append-nil c.moves) (c.following [] (inl other) tt);
       client = c.client;
       pipes = c.pipes;
       server = c.server;
@@ -356,10 +356,10 @@ module _ (who : Identity) (logins : ℕ → Login) (d : ItemDevice) (v : View It
     both_course : (t u : T) (c : Course t) (m : IsSaid t u) → is_online t.client.phase ≡ true → (asks : Bool) → m.asks ≡ asks → u.out.put ≡ said_put asks t.out.put m.stanza → Course u
     both_course t u c m on false silent put =
         let at = works_online t c on in
-        out_course u m.stanza at.k (put_course t u c m.session m.stanza m.stands m.place m.good m.queued put at.k at.p at.conn at.here at.is at.online) (m.other silent)
+        out_course u m.stanza at.k (put_course t u c m.session m.stanza m.stands m.position m.good m.queued put at.k at.p at.conn at.here at.is at.online) (m.other silent)
     both_course t u c m on true asks put =
         let at = works_online t c on in
-        let said : IsOut who logins d v table m.stanza at.k middle = put_course t middle c m.session m.stanza m.stands m.place m.good queued refl at.k at.p at.conn at.here at.is at.online in
+        let said : IsOut who logins d v table m.stanza at.k middle = put_course t middle c m.session m.stanza m.stands m.position m.good queued refl at.k at.p at.conn at.here at.is at.online in
         ask_course middle u m.queued.session m.stanza at.k said m.queued.is refl refl put
       where
         middle : T
@@ -383,7 +383,7 @@ module _ (who : Identity) (logins : ℕ → Login) (d : ItemDevice) (v : View It
     said_course t u m c =
         elim (cases_Bool (is_online t.client.phase)) [
           | inl on ↦ both_course t u c m on m.asks refl (m.put ∙ ap (λ b. if b then said_put m.asks t.out.put m.stanza else t.out.put) on)
-          | inr off ↦ queue_course t u c m.session m.stanza m.stands m.place m.good m.queued (m.put ∙ ap (λ b. if b then said_put m.asks t.out.put m.stanza else t.out.put) off) (away t c off)
+          | inr off ↦ queue_course t u c m.session m.stanza m.stands m.position m.good m.queued (m.put ∙ ap (λ b. if b then said_put m.asks t.out.put m.stanza else t.out.put) off) (away t c off)
         ]
 
     -- ---- the connection is left: what is on its way up stays, and all on its way down is lost
@@ -412,9 +412,9 @@ module _ (who : Identity) (logins : ℕ → Login) (d : ItemDevice) (v : View It
                 ),
               );
           prompt = prompt_both c.moves (Cuts k (length (up_words conn.wires)) 0 ∷ LetsGo k ∷ []) c.prompt (tt, (tt, tt));
-          does = deeds_both c.moves (Cuts k (length (up_words conn.wires)) 0 ∷ LetsGo k ∷ []) ∙ append-nil (deeds_of c.moves) ∙ c.does ∙ ap noted (sym g.notes);
+          does = labels_both c.moves (Cuts k (length (up_words conn.wires)) 0 ∷ LetsGo k ∷ []) ∙ append-nil (labels_of c.moves) ∙ c.does ∙ ap noted (sym g.notes);
           client =
-              client_leaves who logins (record d { client = t.client }) c.next c.client next u.client refl g.account (g.epoch ∙ c.client.epoch) (subst (IsOwnShown c.next.own) (sym g.session) c.client.own) (ap is_apart g.phase);
+              client_leaves who logins (record d { client = t.client }) c.next c.client next u.client refl g.account (g.epoch ∙ c.client.epoch) (subst (IsOwnRepresented c.next.own) (sym g.session) c.client.own) (ap is_apart g.phase);
           pipes =
               shown_at who logins (table t.out.put) after c.next next k ended (left w.0) c.pipes (λ j. refl) (here w.0 w.1) others
               (wire_left who (logins k) k conn w.0 w.2);

@@ -5,14 +5,14 @@ use Rattle.std.proofs.lemmas.List.Elements.{All-take}
 use Rattle.std.specs.List.{All}
 use Rattle.sim_4_links_follow.proofs.Stays.{client_stays, keeps_server_at}
 use Rattle.sim_4_links_follow.specs.Following.{CutFollows}
-use Rattle.srv_state.specs.State.{Hall}
-use Rattle.sim_3_items.specs.Clients.{ClientShows}
+use Rattle.srv_state.specs.State.{ServerState}
+use Rattle.sim_3_items.specs.Clients.{ClientRepresents}
 use Rattle.sim_3_items.specs.Counted.{IsForClient, IsForServer}
 use Rattle.sim_3_items.specs.Frames.{SameClient, SameServer}
 use Rattle.sim_3_items.specs.Identities.{Identity, Login}
-use Rattle.sim_3_items.specs.Pipes.{IsShown, IsWire, PipesShow}
-use Rattle.sim_3_items.specs.Servers.{ServerShows}
-use Rattle.sim_3_items.specs.WordItems.{down_item, is_behind_login, up_item}
+use Rattle.sim_3_items.specs.Pipes.{IsShown, IsWire, PipesRepresent}
+use Rattle.sim_3_items.specs.Servers.{ServerRepresents}
+use Rattle.sim_3_items.specs.WordItems.{down_item, is_after_login, up_item}
 use Rattle.sim_3_items.specs.ItemPipes.{ItemWire, cut_at}
 use Rattle.sim_3_items.specs.ItemWorlds.{ItemDevice}
 use Rattle.sim_2_links.proofs.Cuts.{down_front, up_front}
@@ -24,7 +24,7 @@ use Rattle.sim_2_links.specs.Views.{Table, View, alter, has, with_at}
 use Rattle.sim_2_links.specs.Wires.{cut, down_words, up_words}
 use Rattle.sim_2_links.specs.Words.{down_stanzas, up_stanzas}
 use Rattle.sim_4_links_follow.proofs.Placed.{keeps_at, shown_at}
-use Rattle.sim_4_links_follow.proofs.Servings.{known_altered, row_shows}
+use Rattle.sim_4_links_follow.proofs.Servings.{known_altered, row_represents}
 use Rattle.xml_writer.specs.Items.{ItemOut}
 
 abbrev pub cut_conn : ℕ → ℕ → Conn ItemOut → Conn ItemOut
@@ -40,8 +40,8 @@ wire_cut who x k i j c w is = record {
   up = ap (take i) is.up ∙ take-map (up_item who x) i (up_words c.wires) ∙ ap (map (up_item who x)) (sym (cut_up_words i j c.wires));
   down =
       ap (take j) is.down
-      ∙ take-map (down_item who x k (is_behind_login c.client)) j (down_words c.wires)
-      ∙ ap (map (down_item who x k (is_behind_login c.client))) (sym (cut_down_words i j c.wires));
+      ∙ take-map (down_item who x k (is_after_login c.client)) j (down_words c.wires)
+      ∙ ap (map (down_item who x k (is_after_login c.client))) (sym (cut_down_words i j c.wires));
   up_ended = ap not (sym (cut_stops i j c.wires));
   down_ended = ap not (sym (cut_stops i j c.wires));
   gone = is.gone;
@@ -54,11 +54,11 @@ wire_cut who x k i j c w is = record {
 }
 
 -- a connection of the device has its pipes
-pub wire_of : (who : Identity) (logins : ℕ → Login) (wires : Table ItemWire) (v : View ItemOut) (k : ℕ) (c : Conn ItemOut) (w : ItemWire) → PipesShow who logins wires v → v.conns k ≡ Some c → wires k ≡ Some w → IsWire who (logins k) k c w
+pub wire_of : (who : Identity) (logins : ℕ → Login) (wires : Table ItemWire) (v : View ItemOut) (k : ℕ) (c : Conn ItemOut) (w : ItemWire) → PipesRepresent who logins wires v → v.conns k ≡ Some c → wires k ≡ Some w → IsWire who (logins k) k c w
 wire_of who logins wires v k c w pipes is there = subst (IsShown who (logins k) k (Some c)) there (subst (λ o. IsShown who (logins k) k o (wires k)) is (pipes.each k))
 
 -- and a connection that it dialled is its own
-pub conn_of : (who : Identity) (logins : ℕ → Login) (wires : Table ItemWire) (v : View ItemOut) (k : ℕ) (w : ItemWire) → PipesShow who logins wires v → wires k ≡ Some w → w.device ≡ who.place → (c : Conn ItemOut) × (v.conns k ≡ Some c)
+pub conn_of : (who : Identity) (logins : ℕ → Login) (wires : Table ItemWire) (v : View ItemOut) (k : ℕ) (w : ItemWire) → PipesRepresent who logins wires v → wires k ≡ Some w → w.device ≡ who.position → (c : Conn ItemOut) × (v.conns k ≡ Some c)
 conn_of who logins wires v k w pipes there of = go (v.conns k) refl (subst (IsShown who (logins k) k (v.conns k)) there (pipes.each k))
   where
     go : (o : Option (Conn ItemOut)) → v.conns k ≡ o → IsShown who (logins k) k (v.conns k) (Some w) → (c : Conn ItemOut) × (v.conns k ≡ Some c)
@@ -71,7 +71,7 @@ none_there who x k None shown = refl
 none_there who x k (Some c) shown = absurd shown
 
 module _ (who : Identity) (logins : ℕ → Login) (wires : Table ItemWire) (v : View ItemOut) (k i j : ℕ) (c : Conn ItemOut) (w : ItemWire) (is : v.conns k ≡ Some c) where
-  pub cut_pipes : PipesShow who logins wires v → wires k ≡ Some w → PipesShow who logins (with_at k (cut_at i j w) wires) (cut_view k i j c v)
+  pub cut_pipes : PipesRepresent who logins wires v → wires k ≡ Some w → PipesRepresent who logins (with_at k (cut_at i j w) wires) (cut_view k i j c v)
   cut_pipes pipes there =
       shown_at who logins wires (with_at k (cut_at i j w) wires) v (cut_view k i j c v) k (cut_conn i j c) (cut_at i j w) pipes (λ n. refl) (at_same k (cut_at i j w) wires)
       (λ n apart. at_other k (cut_at i j w) wires n apart) (wire_cut who (logins k) k i j c w (wire_of who logins wires v k c w pipes is there))
@@ -82,18 +82,18 @@ module _ (who : Identity) (logins : ℕ → Login) (wires : Table ItemWire) (v :
   pub cut_client : SameClient v (cut_view k i j c v)
   cut_client = record { here = refl; own = refl; epoch = refl; conns = keeps_at v.conns k c (cut_conn i j c) is refl (λ e. cut_stops i j c.wires) }
 
-  cut_follows : (h : Hall ItemOut) (d : ItemDevice) → ServerShows who logins h v → ClientShows who logins d v → PipesShow who logins wires v → wires k ≡ Some w
+  cut_follows : (h : ServerState ItemOut) (d : ItemDevice) → ServerRepresents who logins h v → ClientRepresents who logins d v → PipesRepresent who logins wires v → wires k ≡ Some w
       → CutFollows who logins h d (with_at k (cut_at i j w) wires) v k i j
   cut_follows h d server client pipes there = record {
     next = cut_view k i j c v;
     cuts = record { conn = c; is = is; gives = refl };
-    server = row_shows who logins h v server k c is (cut_conn i j c) v.row (alter (ways_cut (has v.here k) c i j) v.sessions) (known_altered (ways_cut (has v.here k) c i j) v) refl server.row;
+    server = row_represents who logins h v server k c is (cut_conn i j c) v.row (alter (ways_cut (has v.here k) c i j) v.sessions) (known_altered (ways_cut (has v.here k) c i j) v) refl server.row;
     client = client_stays who logins d v (cut_view k i j c v) cut_client client;
     pipes = cut_pipes pipes there;
   }
 
-pub cut_of_device : (who : Identity) (logins : ℕ → Login) (h : Hall ItemOut) (d : ItemDevice) (wires : Table ItemWire) (v : View ItemOut) (k i j : ℕ) (w : ItemWire) → ServerShows who logins h v → ClientShows who logins d v → PipesShow who logins wires v
-    → wires k ≡ Some w → w.device ≡ who.place → CutFollows who logins h d (with_at k (cut_at i j w) wires) v k i j
+pub cut_of_device : (who : Identity) (logins : ℕ → Login) (h : ServerState ItemOut) (d : ItemDevice) (wires : Table ItemWire) (v : View ItemOut) (k i j : ℕ) (w : ItemWire) → ServerRepresents who logins h v → ClientRepresents who logins d v → PipesRepresent who logins wires v
+    → wires k ≡ Some w → w.device ≡ who.position → CutFollows who logins h d (with_at k (cut_at i j w) wires) v k i j
 cut_of_device who logins h d wires v k i j w server client pipes there of =
     let c = conn_of who logins wires v k w pipes there of in
     cut_follows who logins wires v k i j c.0 w c.1 h d server client pipes there

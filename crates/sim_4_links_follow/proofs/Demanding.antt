@@ -4,12 +4,12 @@ use Rattle.std.proofs.lemmas.List.{append-nil}
 use Rattle.std.proofs.lemmas.List.Elements.{All-nil}
 use Rattle.std.specs.Option.{option_map}
 use Rattle.sm_acks.specs.declared.end.TheConstants.{MOST_UNACKNOWLEDGED}
-use Rattle.srv_state.specs.State.{Hall, Out, Put, with_sessions}
+use Rattle.srv_state.specs.State.{Out, Put, ServerState, with_sessions}
 use Rattle.sim_3_items.specs.Counted.{IsForClient}
-use Rattle.sim_3_items.specs.Deeds.{Deed}
+use Rattle.sim_3_items.specs.Labels.{Label}
 use Rattle.sim_3_items.specs.Identities.{Identity, Login}
 use Rattle.sim_3_items.specs.Sent.{sent, sent_under}
-use Rattle.sim_3_items.specs.Servers.{ServerFollows, ServerShows}
+use Rattle.sim_3_items.specs.Servers.{ServerFollows, ServerRepresents}
 use Rattle.sim_3_items.specs.ItemPipes.{ItemWire, put_down}
 use Rattle.sim_2_links.proofs.Prompt.{same_flow_down}
 use Rattle.sim_2_links.specs.Machine.{Demands}
@@ -25,13 +25,13 @@ use Rattle.sim_4_links_follow.proofs.Emitted.{one_here, puts_are_for, sent_both}
 use Rattle.sim_3_images.proofs.RuleKept.{numbered_here}
 use Rattle.sim_4_links_follow.proofs.MoreMoves.{does_both, then_reaches}
 use Rattle.sim_4_links_follow.proofs.Placed.{keeps_at, shown_at}
-use Rattle.sim_4_links_follow.proofs.Servings.{known_same, live_of, row_shows, session_shows}
+use Rattle.sim_4_links_follow.proofs.Servings.{known_same, live_of, row_represents, session_represents}
 use Rattle.sim_4_links_follow.proofs.Taken.{wire_put}
 use Rattle.xml_writer.specs.Items.{ItemOut}
 
 -- the pipes are the same ones
-pub follows_on : (who : Identity) (logins : ℕ → Login) (hall : Hall ItemOut) (wires same : Table ItemWire) (v : View ItemOut) (done : List (Deed ItemOut)) → ((j : ℕ) → same j ≡ wires j) → ServerFollows who logins hall wires v done → ServerFollows who logins hall same v done
-follows_on who logins hall wires same v done alike f = record {
+pub follows_on : (who : Identity) (logins : ℕ → Login) (server_state : ServerState ItemOut) (wires same : Table ItemWire) (v : View ItemOut) (done : List (Label ItemOut)) → ((j : ℕ) → same j ≡ wires j) → ServerFollows who logins server_state wires v done → ServerFollows who logins server_state same v done
+follows_on who logins server_state wires same v done alike f = record {
   moves = f.moves;
   next = f.next;
   leads = f.leads;
@@ -49,10 +49,10 @@ sent_more outs more wires j = go (wires j)
     go None = refl
     go (Some u) = ap Some (sent_both j outs more u)
 
-module _ (who : Identity) (logins : ℕ → Login) (hall : Hall ItemOut) (wires : Table ItemWire) (v : View ItemOut) (done : List (Deed ItemOut)) (k : ℕ) (f : ServerFollows who logins hall wires v done) (row : Row ItemOut) (c : Conn ItemOut) (is_row : f.next.row ≡ Some row)
+module _ (who : Identity) (logins : ℕ → Login) (server_state : ServerState ItemOut) (wires : Table ItemWire) (v : View ItemOut) (done : List (Label ItemOut)) (k : ℕ) (f : ServerFollows who logins server_state wires v done) (row : Row ItemOut) (c : Conn ItemOut) (is_row : f.next.row ≡ Some row)
     (on : row.on ≡ Some k) (counted : row.counted ≡ true) (is : f.next.conns k ≡ Some c) where
-  abbrev asked : Hall ItemOut
-  asked = with_sessions (with_session row.number (asks true) hall.sessions) hall
+  abbrev asked : ServerState ItemOut
+  asked = with_sessions (with_session row.number (asks true) server_state.sessions) server_state
 
   abbrev d : Conn ItemOut
   d = record c { wires = send_down (Down Req ∷ []) c.wires }
@@ -62,14 +62,14 @@ module _ (who : Identity) (logins : ℕ → Login) (hall : Hall ItemOut) (wires 
 
   few : length row.queue ≤ MOST_UNACKNOWLEDGED
   few =
-      let live = live_of who logins hall f.next row f.server is_row in
-      let numbered = numbered_here (is_named who.account who.resource) hall.next 1 hall.sessions live.session f.server.hall.sessions.ascending live.named in
-      subst (λ q. length q ≤ MOST_UNACKNOWLEDGED) live.row.waiting (f.server.hall.sessions.few live.session.shown.number live.session numbered)
+      let live = live_of who logins server_state f.next row f.server is_row in
+      let numbered = numbered_here (is_named who.account who.resource) server_state.next 1 server_state.sessions live.session f.server.server_state.sessions.ascending live.named in
+      subst (λ q. length q ≤ MOST_UNACKNOWLEDGED) live.row.waiting (f.server.server_state.sessions.few live.session.shown.number live.session numbered)
 
-  asked_shows : ServerShows who logins asked f.next
-  asked_shows =
-      subst (λ o. ServerShows who logins asked (record f.next { row = o })) (sym is_row)
-      (session_shows who logins hall f.next row row (asks true) f.next.sessions (known_same f.next) f.server is_row (asks_keeps true) (asked_row true row) (λ s its. subst (λ q. length q ≤ MOST_UNACKNOWLEDGED) (sym its.waiting) few))
+  asked_represents : ServerRepresents who logins asked f.next
+  asked_represents =
+      subst (λ o. ServerRepresents who logins asked (record f.next { row = o })) (sym is_row)
+      (session_represents who logins server_state f.next row row (asks true) f.next.sessions (known_same f.next) f.server is_row (asks_keeps true) (asked_row true row) (λ s its. subst (λ q. length q ≤ MOST_UNACKNOWLEDGED) (sym its.waiting) few))
 
   pub demanded : ServerFollows who logins asked (sent (Put k request_item ∷ []) wires) v done
   demanded =
@@ -79,7 +79,7 @@ module _ (who : Identity) (logins : ℕ → Login) (hall : Hall ItemOut) (wires 
         next = last;
         leads = then_reaches f.moves (Demands k ∷ []) v f.next last f.leads (last, record { conn = c; is = is; row = row; is_row = is_row; on = on; counted = counted; gives = refl }, refl);
         does = does_both f.moves (Demands k ∷ []) done [] f.does refl ∙ append-nil done;
-        server = row_shows who logins asked f.next asked_shows k c is d f.next.row f.next.sessions (known_same f.next) refl asked_shows.row;
+        server = row_represents who logins asked f.next asked_represents k c is d f.next.row f.next.sessions (known_same f.next) refl asked_represents.row;
         pipes =
             shown_at who logins wires (sent (Put k request_item ∷ []) wires) f.next last k d (put_down (request_item ∷ []) has.wire) f.pipes (λ j. refl)
             (ap (option_map (sent_under k (Put k request_item ∷ []))) has.there ∙ ap Some (one_here k (put_down (request_item ∷ [])) has.wire)) (λ j other. left_so j other (wires j))

@@ -10,7 +10,7 @@ use Rattle.sim_3_items.specs.ItemMoves.{all_emitted, emitted}
 use Rattle.sim_3_items.specs.ItemPipes.{ItemWire, put_down, shut}
 use Rattle.sim_2_links.proofs.Entries.{other_number, same_number}
 use Rattle.sim_4_links_follow.proofs.Changes.{under_changed, under_other}
-use Rattle.cmd_network.specs.Places.{changed_under}
+use Rattle.cmd_network.specs.Positions.{changed_under}
 use Rattle.xml_writer.specs.Items.{ItemOut}
 
 pub mapped_same : {T : Type 0} (o : Option T) → option_map (λ t. t) o ≡ o

@@ -5,13 +5,13 @@ use Rattle.std.proofs.lemmas.Bool.Decides.{nat_tests}
 use Rattle.std.specs.Prelude.{nat_lt}
 use Rattle.cl_core.specs.PageRows.{answer_to}
 use Rattle.sim_4_links_follow.specs.Speaking.{IsBareAddress}
-use Rattle.srv_state.specs.State.{Hall}
+use Rattle.srv_state.specs.State.{ServerState}
 use Rattle.srv_state.specs.Words.{is_stanza}
 use Rattle.sim_3_items.specs.Counted.{IsBare, IsForBare, IsForServer}
-use Rattle.sim_3_items.specs.Deeds.{awaits}
+use Rattle.sim_3_items.specs.Labels.{awaits}
 use Rattle.xml_framer.specs.Limits.{server_limits}
 use Rattle.im_jid.specs.declared.fault.JidFault.{JidFault}
-use Rattle.sm_live.specs.declared.told.Told.{Told}
+use Rattle.sm_live.specs.declared.told.SessionInfo.{SessionInfo}
 use Rattle.sm_outbox.specs.Submissions.{origin_of}
 use Rattle.im_requests.specs.Messages.{page_elem, page_item, queryid_text, submission_item, submission_nodes}
 use Rattle.law_limits.proofs.Fitted as fitted
@@ -42,7 +42,7 @@ use Rattle.law_xml.specs.Puts.{OutFits}
 
 pub record IsFair (read : Result Stanza StanzaFault) : Type 0 where
   pub bare : IsForBare read
-  pub fair : (t : Told) (h : Hall ItemOut) → stanza_condition read t h ≡ None
+  pub fair : (t : SessionInfo) (h : ServerState ItemOut) → stanza_condition read t h ≡ None
 
 -- where its `to` is an address, and where it is none
 both_fair : (message reply : Bool) (id to : List ℕ) (stanza : Addresses → Stanza) (told : Result (Option (List ℕ)) JidFault) → ((given : Option (List ℕ)) → told ≡ Ok given → IsFair (Ok (stanza (None, given))))

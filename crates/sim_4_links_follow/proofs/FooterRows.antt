@@ -2,9 +2,9 @@
 use Rattle.std.proofs.Common.{◌≡◌, ℕ, Bool, true, false, not, ◌&&◌, [], ◌∷◌, Option, Some, None, refl, sym, ap, subst, ◌∙◌, inl, inr}
 use Rattle.std.proofs.lemmas.Bool.{cases_Bool, eq-eqb}
 use Rattle.std.specs.List.{filter}
-use Rattle.srv_state.specs.State.{Hall}
+use Rattle.srv_state.specs.State.{ServerState}
 use Rattle.sim_3_items.specs.Identities.{Identity, Login}
-use Rattle.sim_3_items.specs.Servers.{IsRowShown, ServerShows}
+use Rattle.sim_3_items.specs.Servers.{IsRowRepresented, ServerRepresents}
 use Rattle.sim_3_items.specs.WordItems.{up_item}
 use Rattle.xml_framer.specs.declared.items.Item.TheVariants as item
 use Rattle.sim_3_items.specs.ItemPipes.{ItemWire}
@@ -18,7 +18,7 @@ use Rattle.sim_2_links.specs.Words.{Foot}
 use Rattle.sm_live.specs.Sessions.{Session, is_at, session_named}
 use Rattle.sm_resumption.specs.Rows.{is_some_number}
 use Rattle.sim_4_links_follow.proofs.HandMoves.{kept_here, row_here, wire_here}
-use Rattle.sim_4_links_follow.proofs.Leavings.{left_hall, left_shows, unseated}
+use Rattle.sim_4_links_follow.proofs.Leavings.{left_represents, left_server_state, unseated}
 use Rattle.sim_4_links_follow.proofs.Removed.{all_left}
 use Rattle.sim_3_images.proofs.RuleKept.{named_gone}
 use Rattle.sim_4_links_follow.proofs.Shuts.{shut_client, shut_pipes, shuts_at}
@@ -26,7 +26,7 @@ use Rattle.sim_4_links_follow.specs.Taking.{IsFirst, IsTaken, StepFollows, on_it
 use Rattle.sim_4_links_follow.proofs.Servings.{Known, known_altered, known_same, live_of}
 use Rattle.xml_writer.specs.Items.{Closing, ItemOut}
 
-module _ (who : Identity) (logins : ℕ → Login) (h : Hall ItemOut) (wires : Table ItemWire) (v : View ItemOut) (k : ℕ) (p : IsFirst who logins h wires v k Foot) where
+module _ (who : Identity) (logins : ℕ → Login) (h : ServerState ItemOut) (wires : Table ItemWire) (v : View ItemOut) (k : ℕ) (p : IsFirst who logins h wires v k Foot) where
   pub kept : LinkKept v
   kept = kept_here who logins h wires v k Foot p
 
@@ -36,7 +36,7 @@ module _ (who : Identity) (logins : ℕ → Login) (h : Hall ItemOut) (wires : T
   abbrev closed : Conn ItemOut
   closed = shut_conn Closes p.conn
 
-  pub foot_step : on_item k (up_item who (logins k) Foot) h ≡ record { hall = left_hall who logins h v kept p.server k p.conn p.is stays; outs = shuts_at k (Closing ∷ []) }
+  pub foot_step : on_item k (up_item who (logins k) Foot) h ≡ record { server_state = left_server_state who logins h v kept p.server k p.conn p.is stays; outs = shuts_at k (Closing ∷ []) }
   foot_step = row_here who logins h wires v k Foot p p.conn.phase item.Footer refl
 
   -- without a session
@@ -49,7 +49,7 @@ module _ (who : Identity) (logins : ℕ → Login) (h : Hall ItemOut) (wires : T
         next = next;
         leads = (next, record { conn = p.conn; is = p.is; off = off; rest = p.rest; first = p.first; gives = refl }, refl);
         does = refl;
-        server = left_shows who logins h v kept p.server k p.conn p.is stays closed v.row v.sessions (known_same v) refl (subst (λ ss. IsRowShown v.row (session_named who.account who.resource ss)) (sym nobody) p.server.row);
+        server = left_represents who logins h v kept p.server k p.conn p.is stays closed v.row v.sessions (known_same v) refl (subst (λ ss. IsRowRepresented v.row (session_named who.account who.resource ss)) (sym nobody) p.server.row);
         pipes = shut_pipes who logins wires v next k p.conn p.wire Closes p.pipes (wire_here who logins h wires v k Foot p) (λ j. refl) (Closing ∷ []) refl;
         client = shut_client who logins wires v next k p.conn p.wire Closes p.is refl refl refl refl;
       })
@@ -60,10 +60,10 @@ module _ (who : Identity) (logins : ℕ → Login) (h : Hall ItemOut) (wires : T
     gone_named =
         let live = live_of who logins h v row p.server is_row in
         let there : is_at k live.session ≡ true = ap (is_some_number k) (live.row.conn ∙ on) ∙ eq-eqb k k refl in
-        named_gone stays who.account who.resource h.next h.sessions live.session p.server.hall.sessions live.named (ap not there)
+        named_gone stays who.account who.resource h.next h.sessions live.session p.server.server_state.sessions live.named (ap not there)
 
-    ends : (t : Table (links.Session ItemOut)) → Known t v → ServerShows who logins (left_hall who logins h v kept p.server k p.conn p.is stays) (record v { conns = with_at k closed v.conns; row = None; sessions = t })
-    ends t known = left_shows who logins h v kept p.server k p.conn p.is stays closed None t known refl (subst (IsRowShown None) (sym gone_named) tt)
+    ends : (t : Table (links.Session ItemOut)) → Known t v → ServerRepresents who logins (left_server_state who logins h v kept p.server k p.conn p.is stays) (record v { conns = with_at k closed v.conns; row = None; sessions = t })
+    ends t known = left_represents who logins h v kept p.server k p.conn p.is stays closed None t known refl (subst (IsRowRepresented None) (sym gone_named) tt)
 
     foot_detached : row.counted ≡ true → IsTaken who logins h wires v k p.wire Foot
     foot_detached counted =

@@ -7,9 +7,9 @@ use Rattle.srv_state.specs.State.{Out}
 use Rattle.sim_3_items.specs.Counted.{IsForClient}
 use Rattle.sim_3_items.specs.Frames.{KeepsClient}
 use Rattle.sim_3_items.specs.Identities.{Identity, Login}
-use Rattle.sim_3_items.specs.Pipes.{IsShown, IsWire, PipesShow}
+use Rattle.sim_3_items.specs.Pipes.{IsShown, IsWire, PipesRepresent}
 use Rattle.sim_3_items.specs.Sent.{sent, sent_under}
-use Rattle.sim_3_items.specs.WordItems.{down_item, is_behind_login}
+use Rattle.sim_3_items.specs.WordItems.{down_item, is_after_login}
 use Rattle.sim_3_items.specs.ItemPipes.{ItemWire, handed_up, put_down, shut}
 use Rattle.sim_2_links.proofs.Entries.{at_other, at_same}
 use Rattle.sim_2_links.specs.SessionMoves.{shut as shut_conn}
@@ -33,7 +33,7 @@ has_wire_in : (who : Identity) (x : Login) (k : ℕ) (c : Conn ItemOut) (m : Opt
 has_wire_in who x k c None shown = absurd shown
 has_wire_in who x k c (Some w) shown = record { wire = w; there = refl; is = shown }
 
-pub has_wire : (who : Identity) (logins : ℕ → Login) (wires : Table ItemWire) (v : View ItemOut) (k : ℕ) (c : Conn ItemOut) → PipesShow who logins wires v → v.conns k ≡ Some c → HasWire who (logins k) k c (wires k)
+pub has_wire : (who : Identity) (logins : ℕ → Login) (wires : Table ItemWire) (v : View ItemOut) (k : ℕ) (c : Conn ItemOut) → PipesRepresent who logins wires v → v.conns k ≡ Some c → HasWire who (logins k) k c (wires k)
 has_wire who logins wires v k c pipes is = has_wire_in who (logins k) k c (wires k) (subst (λ o. IsShown who (logins k) k o (wires k)) is (pipes.each k))
 
 pub keeps_both : (a b c : Option (Conn ItemOut)) → KeepsClient a b → KeepsClient b c → KeepsClient a c
@@ -44,10 +44,10 @@ keeps_both (Some a) None c first then_so = absurd first
 keeps_both (Some a) (Some b) None first then_so = absurd then_so
 keeps_both (Some a) (Some b) (Some c) first then_so = (then_so.0 ∙ first.0, λ ended. then_so.1 (first.1 ended))
 
-pub pipes_as : (who : Identity) (logins : ℕ → Login) (wires same : Table ItemWire) (v : View ItemOut) → ((j : ℕ) → same j ≡ wires j) → PipesShow who logins wires v → PipesShow who logins same v
+pub pipes_as : (who : Identity) (logins : ℕ → Login) (wires same : Table ItemWire) (v : View ItemOut) → ((j : ℕ) → same j ≡ wires j) → PipesRepresent who logins wires v → PipesRepresent who logins same v
 pipes_as who logins wires same v alike pipes = record { each = λ j. shown_as who (logins j) j (v.conns j) (v.conns j) (wires j) (same j) refl (alike j) (pipes.each j) }
 
-module _ (who : Identity) (logins : ℕ → Login) (wires : Table ItemWire) (v : View ItemOut) (pipes : PipesShow who logins wires v) (f k : ℕ) (apart : f ≢ k) where
+module _ (who : Identity) (logins : ℕ → Login) (wires : Table ItemWire) (v : View ItemOut) (pipes : PipesRepresent who logins wires v) (f k : ℕ) (apart : f ≢ k) where
   -- what was sent to the one first and then to the other
   pub sent_apart : (outs more : List (Out ItemOut)) (w : ItemWire) → wires k ≡ Some w → AreFor f outs → (j : ℕ) → sent (outs ++ more) (with_at k (handed_up w) wires) j ≡ sent more (with_at k (handed_up w) (sent outs wires)) j
   sent_apart outs more w there for j =
@@ -67,8 +67,8 @@ module _ (who : Identity) (logins : ℕ → Login) (wires : Table ItemWire) (v :
       both_sent n some others (Some u) = ap Some (sent_both n some others u)
 
   -- the one is shut
-  pub shut_first : (former : Conn ItemOut) (ending : Ending) (words : List ItemOut) → v.conns f ≡ Some former → words ≡ map (down_item who (logins f) f (is_behind_login former.client)) (tail_of ending)
-      → PipesShow who logins (sent (shuts_at f words) wires) (record v { conns = with_at f (shut_conn ending former) v.conns })
+  pub shut_first : (former : Conn ItemOut) (ending : Ending) (words : List ItemOut) → v.conns f ≡ Some former → words ≡ map (down_item who (logins f) f (is_after_login former.client)) (tail_of ending)
+      → PipesRepresent who logins (sent (shuts_at f words) wires) (record v { conns = with_at f (shut_conn ending former) v.conns })
   shut_first former ending words is_former same_words =
       let has = has_wire who logins wires v f former pipes is_former in
       let closed : IsWire who (logins f) f (shut_conn ending former) (sent_under f (shuts_at f words) has.wire) =
@@ -82,12 +82,12 @@ module _ (who : Identity) (logins : ℕ → Login) (wires : Table ItemWire) (v :
 
   pub shut_then_taken : (former : Conn ItemOut) (ending : Ending) (words : List ItemOut) (c : Conn ItemOut) (w : ItemWire) (word : UpWord ItemOut) (rest : List (UpWord ItemOut)) (at : Phase) (puts : List (DownWord ItemOut)) (items : List ItemOut) (next : View ItemOut)
       → v.conns f ≡ Some former → v.conns k ≡ Some c → wires k ≡ Some w → up_words c.wires ≡ word ∷ rest
-      → words ≡ map (down_item who (logins f) f (is_behind_login former.client)) (tail_of ending) → items ≡ map (down_item who (logins k) k (is_behind_login c.client)) puts → All IsForClient (down_stanzas puts)
+      → words ≡ map (down_item who (logins f) f (is_after_login former.client)) (tail_of ending) → items ≡ map (down_item who (logins k) k (is_after_login c.client)) puts → All IsForClient (down_stanzas puts)
       → next.conns ≡ with_at k (record c { phase = at; wires = send_down puts (left_up rest c.wires) }) (with_at f (shut_conn ending former) v.conns)
-      → PipesShow who logins (sent (shuts_at f words ++ puts_at k items) (with_at k (handed_up w) wires)) next
+      → PipesRepresent who logins (sent (shuts_at f words ++ puts_at k items) (with_at k (handed_up w) wires)) next
   shut_then_taken former ending words c w word rest at puts items next is_former is there first same_words same_items stanzas conns =
       let middle : View ItemOut = record v { conns = with_at f (shut_conn ending former) v.conns } in
-      let shut_so : PipesShow who logins (sent (shuts_at f words) wires) middle = shut_first former ending words is_former same_words in
+      let shut_so : PipesRepresent who logins (sent (shuts_at f words) wires) middle = shut_first former ending words is_former same_words in
       pipes_as who logins (sent (puts_at k items) (with_at k (handed_up w) (sent (shuts_at f words) wires))) (sent (shuts_at f words ++ puts_at k items) (with_at k (handed_up w) wires)) next
       (sent_apart (shuts_at f words) (puts_at k items) w there (shuts_are_for f words))
       (shown_sent who logins (sent (shuts_at f words) wires) middle next k (record c { phase = at; wires = send_down puts (left_up rest c.wires) }) w (handed_up w) (puts_at k items) shut_so (λ j. ap (λ t. t j) conns) (puts_are_for k items)

@@ -1,14 +1,14 @@
 -- What comes on a connection before its header was put is a header.
 use Rattle.std.proofs.Common.{◌≡◌, ℕ, Bool, false, List, ◌∷◌, ◌++◌, Some, refl, sym, ap, subst, ◌∙◌, ◌+◌, slice_get}
 use Rattle.std.specs.Option.{option_map}
-use Rattle.srv_state.specs.State.{Hall}
+use Rattle.srv_state.specs.State.{ServerState}
 use Rattle.sim_3_items.specs.Identities.{Identity, Login}
 use Rattle.sim_3_items.specs.Pipes.{by_number}
 use Rattle.sim_3_items.specs.Servers.{open_conn}
-use Rattle.sim_3_items.specs.Shows.{Shows}
+use Rattle.sim_3_items.specs.Represents.{Represents}
 use Rattle.sim_3_items.specs.WordItems.{up_item}
 use Rattle.xml_framer.specs.declared.states.Phase.TheVariants as framing
-use Rattle.sim_3_images.specs.ImagesCores.{IsOpening, MayCome, writer_at, writer_of}
+use Rattle.sim_3_images.specs.EncodingsCores.{IsOpening, MayCome, writer_at, writer_of}
 use Rattle.sim_3_items.specs.ItemMoves.{Up}
 use Rattle.sim_3_items.specs.ItemPipes.{ItemWire}
 use Rattle.sim_3_items.specs.ItemWorlds.{ItemWorld}
@@ -38,7 +38,7 @@ first_is_start who x Ready Stands false is = absurd (let no_way : ⊥ = cc in no
 first_is_start who x (AtSession p) Stands false is = absurd (let no_way : ⊥ = cc in no_way)
 first_is_start who x _ _ _ is = absurd (let no_way : ⊥ = cc in no_way)
 
-module _ (who : Identity) (logins : ℕ → Login) (h : Hall ItemOut) (wires : Table ItemWire) (v : View ItemOut) (k : ℕ) where
+module _ (who : Identity) (logins : ℕ → Login) (h : ServerState ItemOut) (wires : Table ItemWire) (v : View ItemOut) (k : ℕ) where
   word_opens : (word : UpWord ItemOut) (p : IsFirst who logins h wires v k word) → writer_at k h ≡ Some framing.First → IsOpening (up_item who (logins k) word)
   word_opens word p first =
       let conn = (link_kept v p.reached).conns k p.conn p.is in
@@ -51,6 +51,6 @@ module _ (who : Identity) (logins : ℕ → Login) (h : Hall ItemOut) (wires : T
   item_may_come w i has first = subst IsOpening has.is (word_opens has.word has.first first)
 
 -- in a world, where the connection is one of the device's
-pub item_may_go_up : (who : Identity) (logins : ℕ → Login) (w : ItemWorld) (v : View ItemOut) (place : ℕ) → Shows who logins w v → LinkReached v → ((wire : ItemWire) → slice_get w.wires place ≡ Some wire → wire.device ≡ who.place) → MayGoUp (Up place) w
-item_may_go_up who logins w v place s reached its wire i items there first =
-    item_may_come who logins w.server (by_number w.wires) v (place + 1) wire i (item_is_word who logins w v place wire i items s reached there (its wire there) first)
+pub item_may_go_up : (who : Identity) (logins : ℕ → Login) (w : ItemWorld) (v : View ItemOut) (position : ℕ) → Represents who logins w v → LinkReached v → ((wire : ItemWire) → slice_get w.wires position ≡ Some wire → wire.device ≡ who.position) → MayGoUp (Up position) w
+item_may_go_up who logins w v position s reached its wire i items there first =
+    item_may_come who logins w.server (by_number w.wires) v (position + 1) wire i (item_is_word who logins w v position wire i items s reached there (its wire there) first)

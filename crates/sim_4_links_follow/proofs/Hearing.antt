@@ -5,7 +5,7 @@ use Rattle.std.specs.List.{All}
 use Rattle.sim_3_items.specs.Counted.{IsForClient, IsForServer}
 use Rattle.sim_3_items.specs.Identities.{Identity, Login}
 use Rattle.sim_3_items.specs.Pipes.{IsWire}
-use Rattle.sim_3_items.specs.WordItems.{down_item, is_behind_login, up_item}
+use Rattle.sim_3_items.specs.WordItems.{down_item, is_after_login, up_item}
 use Rattle.sim_3_images.proofs.ItemsHeard.{nothing_entered}
 use Rattle.sim_3_images.proofs.PutSteps.{items_ended_entered, items_told_entered}
 use Rattle.sim_3_items.specs.ItemPipes.{ItemPipe, ItemWire, closed, emptied, handed_down, left, put_up}
@@ -55,12 +55,12 @@ module _ (who : Identity) (x : Login) (k : ℕ) (c : Conn ItemOut) (w : ItemWire
   -- the client takes the first word, puts others, and comes to a state: the items that are left are those of their
   -- words also behind it
   pub wire_heard_as : (word : DownWord ItemOut) (rest : List (DownWord ItemOut)) (puts : List (UpWord ItemOut)) (client : Client) → down_words c.wires ≡ word ∷ rest
-      → map (down_item who x k (is_behind_login c.client)) rest ≡ map (down_item who x k (is_behind_login client)) rest → All IsForServer (up_stanzas puts)
+      → map (down_item who x k (is_after_login c.client)) rest ≡ map (down_item who x k (is_after_login client)) rest → All IsForServer (up_stanzas puts)
       → IsWire who x k (record c { client = client; wires = send_up puts (left_down rest c.wires) }) (put_up (map (up_item who x) puts) (handed_down w))
   wire_heard_as word rest puts client first same more =
       let f : UpWord ItemOut → ItemOut = up_item who x in
-      let g : DownWord ItemOut → ItemOut = down_item who x k (is_behind_login c.client) in
-      let after : DownWord ItemOut → ItemOut = down_item who x k (is_behind_login client) in
+      let g : DownWord ItemOut → ItemOut = down_item who x k (is_after_login c.client) in
+      let after : DownWord ItemOut → ItemOut = down_item who x k (is_after_login client) in
       record {
         of = is.of;
         login = is.login;
@@ -77,7 +77,7 @@ module _ (who : Identity) (x : Login) (k : ℕ) (c : Conn ItemOut) (w : ItemWire
             (fewer_down IsForClient word rest (subst (λ ws. All IsForClient (down_stanzas ws)) first is.for_client));
       }
 
-  pub wire_heard : (word : DownWord ItemOut) (rest : List (DownWord ItemOut)) (puts : List (UpWord ItemOut)) (client : Client) → down_words c.wires ≡ word ∷ rest → is_behind_login client ≡ is_behind_login c.client
+  pub wire_heard : (word : DownWord ItemOut) (rest : List (DownWord ItemOut)) (puts : List (UpWord ItemOut)) (client : Client) → down_words c.wires ≡ word ∷ rest → is_after_login client ≡ is_after_login c.client
       → All IsForServer (up_stanzas puts) → IsWire who x k (record c { client = client; wires = send_up puts (left_down rest c.wires) }) (put_up (map (up_item who x) puts) (handed_down w))
   wire_heard word rest puts client first same more = wire_heard_as word rest puts client first (ap (λ b. map (down_item who x k b) rest) (sym same)) more
 
@@ -85,7 +85,7 @@ module _ (who : Identity) (x : Login) (k : ℕ) (c : Conn ItemOut) (w : ItemWire
   pub wire_said : (puts : List (UpWord ItemOut)) → All IsForServer (up_stanzas puts) → IsWire who x k (record c { wires = send_up puts c.wires }) (put_up (map (up_item who x) puts) w)
   wire_said puts more =
       let f : UpWord ItemOut → ItemOut = up_item who x in
-      let g : DownWord ItemOut → ItemOut = down_item who x k (is_behind_login c.client) in
+      let g : DownWord ItemOut → ItemOut = down_item who x k (is_after_login c.client) in
       record {
         of = is.of;
         login = is.login;
@@ -106,7 +106,7 @@ module _ (who : Identity) (x : Login) (k : ℕ) (c : Conn ItemOut) (w : ItemWire
         of = is.of;
         login = is.login;
         up = is.up ∙ ap (map (up_item who x)) (sym (all_stay ws));
-        down = ap (map (down_item who x k (is_behind_login c.client))) (sym (cut_down_words (length (up_words ws)) 0 ws));
+        down = ap (map (down_item who x k (is_after_login c.client))) (sym (cut_down_words (length (up_words ws)) 0 ws));
         up_ended = ap not (sym (cut_stops (length (up_words ws)) 0 ws));
         down_ended = ap not (sym (cut_stops (length (up_words ws)) 0 ws));
         gone = is.gone;

@@ -10,11 +10,11 @@ use Rattle.sim_4_links_follow.proofs.Former.{pipes_as as pipes_same}
 use Rattle.sim_4_links_follow.proofs.Numbered.{at_itself}
 use Rattle.sim_4_links_follow.proofs.Stays.{keeps_server, keeps_server_at, same_servers}
 use Rattle.sim_3_items.specs.Counted.{IsForClient, IsForServer}
-use Rattle.sim_3_items.specs.Deeds.{deeds_of}
+use Rattle.sim_3_items.specs.Labels.{labels_of}
 use Rattle.sim_3_items.specs.Frames.{SameServer}
 use Rattle.sim_3_items.specs.Identities.{Identity, Login}
-use Rattle.sim_3_items.specs.Pipes.{IsWire, PipesShow}
-use Rattle.sim_3_items.specs.WordItems.{down_item, is_behind_login, up_item}
+use Rattle.sim_3_items.specs.Pipes.{IsWire, PipesRepresent}
+use Rattle.sim_3_items.specs.WordItems.{down_item, is_after_login, up_item}
 use Rattle.sim_3_items.specs.ItemPipes.{ItemPipe, ItemWire, closed, cut_at, emptied, entered, left, put_up}
 use Rattle.sim_2_links.proofs.Entries.{at_other, at_same, is_has}
 use Rattle.sim_2_links.proofs.Tables.{cut_down_words, cut_stops}
@@ -35,11 +35,11 @@ pub record HasLeft (who : Identity) (logins : ℕ → Login) (wires : Table Item
   pub moves : List (LinkMove ItemOut)
   pub next : View ItemOut
   pub leads : LinkReaches moves v next
-  pub does : deeds_of moves ≡ []
+  pub does : labels_of moves ≡ []
   pub idle : next.here ≡ None
   pub own : next.own ≡ v.own
   pub epoch : next.epoch ≡ v.epoch
-  pub pipes : PipesShow who logins wires next
+  pub pipes : PipesRepresent who logins wires next
   pub server : SameServer v next
 
 pub left_same : (who : Identity) (logins : ℕ → Login) (wires same : Table ItemWire) (v : View ItemOut) → ((j : ℕ) → same j ≡ wires j) → HasLeft who logins wires v → HasLeft who logins same v
@@ -56,7 +56,7 @@ left_same who logins wires same v alike l = record {
 }
 
 -- where it has none nothing is left
-pub none_left : (who : Identity) (logins : ℕ → Login) (wires : Table ItemWire) (v : View ItemOut) → PipesShow who logins wires v → v.here ≡ None → HasLeft who logins wires v
+pub none_left : (who : Identity) (logins : ℕ → Login) (wires : Table ItemWire) (v : View ItemOut) → PipesRepresent who logins wires v → v.here ≡ None → HasLeft who logins wires v
 none_left who logins wires v pipes idle = record {
   moves = [];
   next = v;
@@ -87,13 +87,13 @@ put_ended : (items : List ItemOut) (w : ItemWire) → w.up.ended ≡ true → le
 put_ended items w ended = ap (λ p. left (record w { up = p })) (entered_ended items w.up ended)
 
 -- what is put before
-abbrev behind : List ItemOut → ItemWire → ItemWire
-behind items w = record w { up = record w.up { items = w.up.items ++ items } }
+abbrev following : List ItemOut → ItemWire → ItemWire
+following items w = record w { up = record w.up { items = w.up.items ++ items } }
 
 entered_as : (items : List ItemOut) (p : ItemPipe) → p.ended ≡ false → entered items p ≡ record p { items = p.items ++ items }
 entered_as items p flows = rw flows refl
 
-put_flowing : (items : List ItemOut) (w : ItemWire) → w.up.ended ≡ false → left (put_up items w) ≡ behind items (left w)
+put_flowing : (items : List ItemOut) (w : ItemWire) → w.up.ended ≡ false → left (put_up items w) ≡ following items (left w)
 put_flowing items w flows = ap (λ p. left (record w { up = p })) (entered_as items w.up flows)
 
 -- ---- a footer
@@ -126,12 +126,12 @@ foot_stanzas (Foot ∷ ws) = foot_stanzas ws
 abbrev footed_conn : Conn ItemOut → Conn ItemOut
 footed_conn c = record c { footed = true; wires = with_foot c.wires }
 
-wire_footed : (who : Identity) (x : Login) (k : ℕ) (c : Conn ItemOut) (w : ItemWire) → IsWire who x k c w → IsWire who x k (footed_conn c) (behind (Closing ∷ []) w)
+wire_footed : (who : Identity) (x : Login) (k : ℕ) (c : Conn ItemOut) (w : ItemWire) → IsWire who x k c w → IsWire who x k (footed_conn c) (following (Closing ∷ []) w)
 wire_footed who x k c w is = record {
   of = is.of;
   login = is.login;
   up = ap (λ l. l ++ Closing ∷ []) is.up ∙ sym (map-append (up_item who x) (up_words c.wires) (Foot ∷ [])) ∙ ap (map (up_item who x)) (sym (foot_up c.wires));
-  down = is.down ∙ ap (map (down_item who x k (is_behind_login c.client))) (sym (foot_down c.wires));
+  down = is.down ∙ ap (map (down_item who x k (is_after_login c.client))) (sym (foot_down c.wires));
   up_ended = is.up_ended ∙ ap not (sym (foot_flows c.wires));
   down_ended = is.down_ended ∙ ap not (sym (foot_flows c.wires));
   gone = is.gone;
@@ -145,7 +145,7 @@ none_lost i j (Stop us ds lu ld) flows all = absurd (let no_way : ⊥ = cc in no
 
 -- ---- on the connection that the device has
 
-module _ (who : Identity) (logins : ℕ → Login) (wires : Table ItemWire) (v : View ItemOut) (pipes : PipesShow who logins wires v) (k : ℕ) (c : Conn ItemOut) (is : v.conns k ≡ Some c) (w : ItemWire) (there : wires k ≡ Some w) (piped : ArePiped (has v.here k) c) where
+module _ (who : Identity) (logins : ℕ → Login) (wires : Table ItemWire) (v : View ItemOut) (pipes : PipesRepresent who logins wires v) (k : ℕ) (c : Conn ItemOut) (is : v.conns k ≡ Some c) (w : ItemWire) (there : wires k ≡ Some w) (piped : ArePiped (has v.here k) c) where
   wire : IsWire who (logins k) k c w
   wire = wire_of who logins wires v k c w pipes is there
 
@@ -164,7 +164,7 @@ module _ (who : Identity) (logins : ℕ → Login) (wires : Table ItemWire) (v :
   all_stay : drop all (up_words c.wires) ≡ []
   all_stay = ap (λ n. drop n (up_words c.wires)) (ap length wire.up ∙ length-map (up_words c.wires) (up_item who (logins k))) ∙ drop-length (up_words c.wires)
 
-  left_pipes : PipesShow who logins (with_at k (left w) wires) middle
+  left_pipes : PipesRepresent who logins (with_at k (left w) wires) middle
   left_pipes = pipes_same who logins (with_at k (cut_at all 0 w) wires) (with_at k (left w) wires) middle (λ j. ap (λ u. with_at k u wires j) (left_is_cut w)) (cut_pipes who logins wires v k all 0 c w is pipes there)
 
   plainly : v.here ≡ Some k → HasLeft who logins (with_at k (left w) wires) v
@@ -183,8 +183,8 @@ module _ (who : Identity) (logins : ℕ → Login) (wires : Table ItemWire) (v :
   abbrev footed : Conn ItemOut
   footed = footed_conn stopped
 
-  abbrev behind_foot : View ItemOut
-  behind_foot = record gone_from { conns = with_at k footed gone_from.conns }
+  abbrev after_foot : View ItemOut
+  after_foot = record gone_from { conns = with_at k footed gone_from.conns }
 
   with_footer : v.here ≡ Some k → is_flowing c.wires ≡ true → HasLeft who logins (with_at k (left (put_up (Closing ∷ []) w)) wires) v
   unfolding plainly
@@ -196,7 +196,7 @@ module _ (who : Identity) (logins : ℕ → Login) (wires : Table ItemWire) (v :
       let two : IsWire who (logins k) k footed (left (put_up (Closing ∷ []) w)) = subst (IsWire who (logins k) k footed) (sym (put_flowing (Closing ∷ []) w open_up)) (wire_footed who (logins k) k stopped (left w) one) in
       record {
         moves = Cuts k all 0 ∷ LetsGo k ∷ Foots k ∷ [];
-        next = behind_foot;
+        next = after_foot;
         leads = (
           middle,
           record { conn = c; is = is; gives = refl },
@@ -204,7 +204,7 @@ module _ (who : Identity) (logins : ℕ → Login) (wires : Table ItemWire) (v :
             gone_from,
             record { conn = stopped; here = here; is = at_same k stopped v.conns; ended = cut_stops all 0 c.wires; empty = cut_down_words all 0 c.wires; gives = refl },
             (
-              behind_foot,
+              after_foot,
               record { conn = stopped; left = refl; is = at_same k stopped v.conns; unfooted = piped.unfooted works; stands = stands.1; untold = stands.2; whole = none_lost all 0 c.wires flows all_stay; gives = refl },
               refl,
             ),
@@ -215,9 +215,9 @@ module _ (who : Identity) (logins : ℕ → Login) (wires : Table ItemWire) (v :
         own = refl;
         epoch = refl;
         pipes =
-            shown_at who logins (with_at k (left w) wires) (with_at k (left (put_up (Closing ∷ []) w)) wires) middle behind_foot k footed (left (put_up (Closing ∷ []) w)) left_pipes (λ j. refl)
+            shown_at who logins (with_at k (left w) wires) (with_at k (left (put_up (Closing ∷ []) w)) wires) middle after_foot k footed (left (put_up (Closing ∷ []) w)) left_pipes (λ j. refl)
             (at_same k (left (put_up (Closing ∷ []) w)) wires) (λ j apart. at_other k (left (put_up (Closing ∷ []) w)) wires j apart ∙ sym (at_other k (left w) wires j apart)) two;
-        server = same_servers v gone_from behind_foot (plainly here).server
+        server = same_servers v gone_from after_foot (plainly here).server
             (record { row = refl; free = refl; known = known_same gone_from; conns = keeps_server_at gone_from.conns k stopped footed (at_same k stopped v.conns) refl refl refl });
       }
 
@@ -225,7 +225,7 @@ module _ (who : Identity) (logins : ℕ → Login) (wires : Table ItemWire) (v :
   apart : v.here ≡ None → is_flowing c.wires ≡ false → HasLeft who logins (with_at k (left w) wires) v
   apart idle ended =
       let away : has v.here k ≡ false = ap (λ o. has o k) idle in
-      let nothing : w.down.items ≡ [] = wire.down ∙ ap (map (down_item who (logins k) k (is_behind_login c.client))) (piped.left away) in
+      let nothing : w.down.items ≡ [] = wire.down ∙ ap (map (down_item who (logins k) k (is_after_login c.client))) (piped.left away) in
       let same : left w ≡ w = left_still w (wire.up_ended ∙ ap not ended) nothing (wire.down_ended ∙ ap not ended) in
       none_left who logins (with_at k (left w) wires) v (pipes_same who logins wires (with_at k (left w) wires) v (λ j. ap (λ u. with_at k u wires j) same ∙ at_itself k w wires there j) pipes) idle
 

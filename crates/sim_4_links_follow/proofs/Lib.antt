@@ -9,7 +9,7 @@ pub mod MoreMoves
 pub mod PromptMoves
 -- ---- the server
 pub mod Found
-pub mod WireStepsHalls
+pub mod WireStepsServerStates
 pub mod Servings
 -- ---- what the rows of the table of the handshake determine
 pub mod Standing
@@ -23,7 +23,7 @@ pub mod Sessions
 pub mod SessionRows
 -- ---- ends
 pub mod Removed
-pub mod HallsLeft
+pub mod ServerStatesLeft
 pub mod Leavings
 pub mod Shuts
 pub mod FooterRows
@@ -74,7 +74,7 @@ pub mod Comes
 pub mod Nobody
 -- ---- what stays of a device, by small steps
 pub mod OthersElsewhere
-pub mod OthersHalls
+pub mod OthersServerStates
 pub mod Pushing
 pub mod Acts
 -- ---- what is of the one is not of the other

@@ -8,7 +8,7 @@ use Rattle.std.specs.Prelude.{int_le, pos}
 use Rattle.std.specs.Str.{bytes_eq}
 use Rattle.mam_archive.specs.Entries.{EntryView, entry_numbered}
 use Rattle.base_lemmas.proofs.Lists.{AllByRecursion-weaker}
-use Rattle.srv_state.specs.State.{Hall, Kept, archive_at, bare_address, session_address}
+use Rattle.srv_state.specs.State.{Kept, ServerState, archive_at, bare_address, session_address}
 use Rattle.srv_state.specs.Steps.{Act, Archive, Copy, Present, Send, Tell}
 use Rattle.sim_3_items.specs.Counted.{IsBare, IsForBare, IsForClient}
 use Rattle.im_forwarding.specs.Passed.{addressed}
@@ -17,8 +17,8 @@ use Rattle.im_forwarding.specs.Results.{AskerView}
 use Rattle.sim_3_items.specs.ItemWorlds.{itself}
 use Rattle.im_jid.specs.Cuts.{domain_of, resource_of}
 use Rattle.sm_live.specs.Rule.{RisesTo}
-use Rattle.sm_live.specs.Sessions.{Session, is_of, number_of, session_of, sessions_of, told_of}
-use Rattle.sm_live.specs.declared.told.Told.{Told}
+use Rattle.sm_live.specs.Sessions.{Session, info_of, is_of, number_of, session_of, sessions_of}
+use Rattle.sm_live.specs.declared.told.SessionInfo.{SessionInfo}
 use Rattle.srv_login.specs.declared.account.Account.{Account}
 use Rattle.im_mam.specs.declared.archive_query.MamQuery.{MamQuery}
 use Rattle.srv_handlers.specs.Messages.{archiving, at_message, bouncing, carrying, copying, copying_to, delivering, delivering_to, is_full_in, messaging, no_room, telling}
@@ -148,11 +148,11 @@ module _ (ss : List (Session ItemOut)) where
     refused_heard : (c : Condition) (kind : MessageKind) → PlanHeard (refused c kind)
     refused_heard c kind = either_plan (answers_message kind) (Bounced _) dropped tt (tt, tt, tt)
 
-    routed_heard : (m : MessageView) (t : Told) (account : ℕ) (deliver : List (Session ItemOut)) → AllByRecursion IsReached deliver → PlanHeard (routed m t account deliver ss)
+    routed_heard : (m : MessageView) (t : SessionInfo) (account : ℕ) (deliver : List (Session ItemOut)) → AllByRecursion IsReached deliver → PlanHeard (routed m t account deliver ss)
     routed_heard m t account deliver heard =
         (heard, either_list (is_copied m) _ (copied_heard t.account (t.number ∷ map number_of deliver)), either_list (is_copied m && not (t.account == account)) _ (copied_heard account (t.number ∷ map number_of deliver)))
 
-    bare_heard : (m : MessageView) (t : Told) (account : ℕ) → PlanHeard (to_user m t account (ready_of account ss) ss)
+    bare_heard : (m : MessageView) (t : SessionInfo) (account : ℕ) → PlanHeard (to_user m t account (ready_of account ss) ss)
     bare_heard m t account =
         either_plan (is_for_users m.kind) (routed m t account (ready_of account ss) ss) (refused ServiceUnavailable m.kind) (routed_heard m t account (ready_of account ss) (ready_heard account)) (refused_heard ServiceUnavailable m.kind)
 
@@ -160,7 +160,7 @@ module _ (ss : List (Session ItemOut)) where
     IsBareDestination (Full account resource) = ⊥
     IsBareDestination d = Unit {0}
 
-    planned_heard : (d : Destination) (m : MessageView) (t : Told) → IsBareDestination d → PlanHeard (planned d m t ss)
+    planned_heard : (d : Destination) (m : MessageView) (t : SessionInfo) → IsBareDestination d → PlanHeard (planned d m t ss)
     planned_heard RemoteDomain m t is = refused_heard RemoteServerNotFound m.kind
     planned_heard NoUser m t is = refused_heard ServiceUnavailable m.kind
     planned_heard (Bare account) m t is = bare_heard m t account
@@ -179,7 +179,7 @@ module _ (ss : List (Session ItemOut)) where
     destination_bare domain accounts sender (Some to) is =
         either_destination (bytes_eq (domain_of to) domain) (at_user (account_in to accounts) (resource_of to)) RemoteDomain (at_user_bare (account_in to accounts) (resource_of to) is) tt
 
-    plan_heard : (domain : List ℕ) (accounts : List Account) (m : MessageView) (t : Told) → IsBare m.to → PlanHeard (plan_of domain accounts ss m t)
+    plan_heard : (domain : List ℕ) (accounts : List Account) (m : MessageView) (t : SessionInfo) → IsBare m.to → PlanHeard (plan_of domain accounts ss m t)
     plan_heard domain accounts m t is = planned_heard (destination_of domain accounts t.account m.to) m t (destination_bare domain accounts t.account m.to is)
 
   -- the same by numbers
@@ -193,7 +193,7 @@ module _ (ss : List (Session ItemOut)) where
 
 -- ---- messages
 
-module _ (h : Hall ItemOut) where
+module _ (h : ServerState ItemOut) where
   archiving_heard : (e : EntryView) (accounts : List ℕ) (more : List (Act ItemOut)) → AreHeard h.sessions more → AreHeard h.sessions (archiving e accounts more)
   archiving_heard e [] more heard = heard
   archiving_heard e (account ∷ accounts) more heard = (tt, archiving_heard e accounts more heard)
@@ -202,27 +202,27 @@ module _ (h : Hall ItemOut) where
   telling_heard m [] more heard = heard
   telling_heard m (account ∷ accounts) more heard = (tt, heard)
 
-  delivered : (m : MessageView) (accounts : List ℕ) (n : ℕ) (o : Option Told) (more : List (Act ItemOut)) → IsHeardBy h.sessions n → AreHeard h.sessions more → AreHeard h.sessions (delivering_to itself m accounts n o h more)
+  delivered : (m : MessageView) (accounts : List ℕ) (n : ℕ) (o : Option SessionInfo) (more : List (Act ItemOut)) → IsHeardBy h.sessions n → AreHeard h.sessions more → AreHeard h.sessions (delivering_to itself m accounts n o h more)
   delivered m accounts n None more its heard = heard
   delivered m accounts n (Some t) more its heard = ((record { elem = _; whole = refl; stanza = refl }, its), heard)
 
   delivering_heard : (m : MessageView) (accounts numbers : List ℕ) (more : List (Act ItemOut)) → AllByRecursion (IsHeardBy h.sessions) numbers → AreHeard h.sessions more → AreHeard h.sessions (delivering itself m accounts numbers h more)
   delivering_heard m accounts [] more all heard = heard
-  delivering_heard m accounts (n ∷ numbers) more all heard = delivered m accounts n (told_of n h.sessions) (delivering itself m accounts numbers h more) all.0 (delivering_heard m accounts numbers more all.1 heard)
+  delivering_heard m accounts (n ∷ numbers) more all heard = delivered m accounts n (info_of n h.sessions) (delivering itself m accounts numbers h more) all.0 (delivering_heard m accounts numbers more all.1 heard)
 
-  copied : (way : Bool) (m : MessageView) (accounts : List ℕ) (n : ℕ) (o : Option Told) (more : List (Act ItemOut)) → IsHeardBy h.sessions n → AreHeard h.sessions more → AreHeard h.sessions (copying_to itself way m accounts n o h more)
+  copied : (way : Bool) (m : MessageView) (accounts : List ℕ) (n : ℕ) (o : Option SessionInfo) (more : List (Act ItemOut)) → IsHeardBy h.sessions n → AreHeard h.sessions more → AreHeard h.sessions (copying_to itself way m accounts n o h more)
   copied way m accounts n None more its heard = heard
   copied way m accounts n (Some t) more its heard = ((record { elem = _; whole = refl; stanza = refl }, its), heard)
 
   copying_heard : (way : Bool) (m : MessageView) (accounts numbers : List ℕ) (more : List (Act ItemOut)) → AllByRecursion (IsHeardBy h.sessions) numbers → AreHeard h.sessions more → AreHeard h.sessions (copying itself way m accounts numbers h more)
   copying_heard way m accounts [] more all heard = heard
-  copying_heard way m accounts (n ∷ numbers) more all heard = copied way m accounts n (told_of n h.sessions) (copying itself way m accounts numbers h more) all.0 (copying_heard way m accounts numbers more all.1 heard)
+  copying_heard way m accounts (n ∷ numbers) more all heard = copied way m accounts n (info_of n h.sessions) (copying itself way m accounts numbers h more) all.0 (copying_heard way m accounts numbers more all.1 heard)
 
   carrying_heard : (m : MessageView) (accounts : List ℕ) (r : RouteOf ℕ) → NumbersHeard h.sessions (Routed r) → AreHeard h.sessions (carrying itself m accounts r h)
   carrying_heard m accounts r all =
       archiving_heard (entry_of 0 h.moment m) accounts _ (telling_heard m accounts _ (delivering_heard m accounts r.deliver _ all.0 (copying_heard true m accounts r.sent _ all.1 (copying_heard false m accounts r.received [] all.2 tt))))
 
-  module _ (t : Told) (own : IsHeardBy h.sessions t.number) where
+  module _ (t : SessionInfo) (own : IsHeardBy h.sessions t.number) where
     bouncing_heard : (m : MessageView) (to : List ℕ) (e : StanzaError) → AreHeard h.sessions (bouncing itself m to e t)
     bouncing_heard m to e = ((record { elem = _; whole = refl; stanza = refl }, own), tt)
 

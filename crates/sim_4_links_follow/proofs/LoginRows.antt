@@ -3,18 +3,18 @@ use Rattle.std.proofs.Common.{◌≡◌, ℕ, Bool, true, false, List, [], ◌�
 use Rattle.std.proofs.lemmas.List.Elements.{All-nil}
 use Rattle.std.specs.Option.{option_and_then, option_map}
 use Rattle.srv_state.specs.Logins.{answering, beginning, finishing, negotiation_at, negotiation_of}
-use Rattle.srv_state.specs.State.{Hall, Step, with_conn}
+use Rattle.srv_state.specs.State.{ServerState, Step, with_conn}
 use Rattle.srv_state.specs.Steps.{acted, in_phase}
 use Rattle.srv_state.specs.Streams.{answering_header, standing_of}
-use Rattle.srv_state.specs.declared.connection.Phase.{Phase as DeskPhase}
+use Rattle.srv_state.specs.declared.connection.Phase.{Phase as ServerPhase}
 use Rattle.srv_state.specs.declared.connection.Phase.TheVariants as phase
 use Rattle.srv_state.specs.declared.connection.Stage.TheVariants as stage
 use Rattle.srv_state.specs.declared.connection.Standing.{Standing}
 use Rattle.srv_state.specs.declared.connection.Tries.TheVariants as tries
 use Rattle.sim_3_items.specs.Counted.{IsForClient}
 use Rattle.sim_3_items.specs.Identities.{Identity, IsLogin, Login, exchange_of}
-use Rattle.sim_3_items.specs.Servers.{IsServed, phase_shown}
-use Rattle.sim_3_items.specs.WordItems.{down_item, features_item, is_behind_login, up_item}
+use Rattle.sim_3_items.specs.Servers.{IsDeviceServed, phase_shown}
+use Rattle.sim_3_items.specs.WordItems.{down_item, features_item, is_after_login, up_item}
 use Rattle.xml_framer.specs.declared.items.Item.TheVariants as item
 use Rattle.law_xml.specs.Spells.{as_written}
 use Rattle.cl_login.specs.LoginRows.{client_header}
@@ -49,7 +49,7 @@ use Rattle.xml_writer.specs.Items.{ItemOut}
 
 -- ---- what the server answers
 
-auth_is : (who : Identity) (x : Login) (h : Hall ItemOut) → IsLogin who x → IsServed who h
+auth_is : (who : Identity) (x : Login) (h : ServerState ItemOut) → IsLogin who x → IsDeviceServed who h
     → auth_answer (auth_of (codes "SCRAM-SHA-256") x.client.message) x.yours h.accounts ≡ auth.Begins (record { account = who.account; exchange = exchange_of who x })
 unfolding sasl
 auth_is who x h login served =
@@ -66,15 +66,15 @@ final_is who x login =
 
 -- ---- the rows
 
-module _ (who : Identity) (logins : ℕ → Login) (h : Hall ItemOut) (wires : Table ItemWire) (v : View ItemOut) (k : ℕ) where
+module _ (who : Identity) (logins : ℕ → Login) (h : ServerState ItemOut) (wires : Table ItemWire) (v : View ItemOut) (k : ℕ) where
   abbrev standing : Phase → Standing
   standing at = standing_of (record { entropy = (logins k).yours; phase = phase_shown who (logins k) at; tries = tries.Three })
 
   abbrev hello : Header
   hello = as_written (client_header who.domain)
 
-  abbrev pub goes : DeskPhase → List ItemOut → Step ItemOut
-  goes at items = record { hall = with_conn k (in_phase at) h; outs = puts_at k items }
+  abbrev pub goes : ServerPhase → List ItemOut → Step ItemOut
+  goes at items = record { server_state = with_conn k (in_phase at) h; outs = puts_at k items }
 
   module _ (p : IsFirst who logins h wires v k Hdr) where
     opens_here : header_answer h.domain hello ≡ Opens
@@ -92,21 +92,21 @@ module _ (who : Identity) (logins : ℕ → Login) (h : Hall ItemOut) (wires : T
         ∙ ap (λ a. acted itself (answering_header itself k (standing Restart) a h) (step_of h)) opens_here
         ∙ ap (λ d. goes (phase.Ready who.account) (header_item d k (logins k).yours ∷ features_item true ∷ [])) p.server.served.domain
 
-    headers : (b : Bool) → is_behind_login p.conn.client ≡ b
-        → (header_item who.domain k (logins k).yours ∷ features_item b ∷ []) ≡ map (down_item who (logins k) k (is_behind_login p.conn.client)) (Head ∷ Feat ∷ [])
-    headers b behind = ap (λ c. header_item who.domain k (logins k).yours ∷ features_item c ∷ []) (sym behind)
+    headers : (b : Bool) → is_after_login p.conn.client ≡ b
+        → (header_item who.domain k (logins k).yours ∷ features_item b ∷ []) ≡ map (down_item who (logins k) k (is_after_login p.conn.client)) (Head ∷ Feat ∷ [])
+    headers b following = ap (λ c. header_item who.domain k (logins k).yours ∷ features_item c ∷ []) (sym following)
 
     start_follows : p.conn.phase ≡ Start → IsTaken who logins h wires v k p.wire Hdr
     start_follows is =
         subst (λ t. StepFollows who logins wires v k p.wire t []) (sym (start_step is))
         (hand_follows who logins h wires v k Hdr p Sasl (Head ∷ Feat ∷ []) phase.Login (header_item who.domain k (logins k).yours ∷ features_item false ∷ []) (ap (λ q. server_hand q Hdr) is) refl
-        (headers false (ap is_behind_login (client_at_start v k p.conn (kept_here who logins h wires v k Hdr p) p.is is))) (All-nil IsForClient))
+        (headers false (ap is_after_login (client_at_start v k p.conn (kept_here who logins h wires v k Hdr p) p.is is))) (All-nil IsForClient))
 
     restart_follows : p.conn.phase ≡ Restart → IsTaken who logins h wires v k p.wire Hdr
     restart_follows is =
         subst (λ t. StepFollows who logins wires v k p.wire t []) (sym (restart_step is))
         (hand_follows who logins h wires v k Hdr p Ready (Head ∷ Feat ∷ []) (phase.Ready who.account) (header_item who.domain k (logins k).yours ∷ features_item true ∷ []) (ap (λ q. server_hand q Hdr) is) refl
-        (headers true (ap is_behind_login (client_at_restart v k p.conn (kept_here who logins h wires v k Hdr p) p.is p.rest is p.first))) (All-nil IsForClient))
+        (headers true (ap is_after_login (client_at_restart v k p.conn (kept_here who logins h wires v k Hdr p) p.is p.rest is p.first))) (All-nil IsForClient))
 
     pub header_follows : (p.conn.phase ≡ Start) ⊎ (p.conn.phase ≡ Restart) → IsTaken who logins h wires v k p.wire Hdr
     header_follows (inl is) = start_follows is
@@ -149,7 +149,7 @@ module _ (who : Identity) (logins : ℕ → Login) (h : Hall ItemOut) (wires : T
         subst (λ t. StepFollows who logins wires v k p.wire t []) (sym response_step)
         (hand_follows who logins h wires v k Resp p Restart (Succ ∷ []) (phase.Restart who.account) (success_item (server_final_message (logins k).reply.verifier) ∷ []) (ap (λ q. server_hand q Resp) is) refl refl (All-nil IsForClient))
 
-pub login_follows : (who : Identity) (logins : ℕ → Login) (h : Hall ItemOut) (wires : Table ItemWire) (v : View ItemOut) (k : ℕ) (word : UpWord ItemOut) (p : IsFirst who logins h wires v k word)
+pub login_follows : (who : Identity) (logins : ℕ → Login) (h : ServerState ItemOut) (wires : Table ItemWire) (v : View ItemOut) (k : ℕ) (word : UpWord ItemOut) (p : IsFirst who logins h wires v k word)
     → IsOfLogin word → IsTaken who logins h wires v k p.wire word
 login_follows who logins h wires v k Hdr p hand = header_follows who logins h wires v k p (expected_up v k p.conn Hdr p.rest (kept_here who logins h wires v k Hdr p) p.is p.first)
 login_follows who logins h wires v k Auth p hand = auth_follows who logins h wires v k p (expected_up v k p.conn Auth p.rest (kept_here who logins h wires v k Auth p) p.is p.first)

@@ -6,9 +6,9 @@ use Rattle.std.specs.Option.{option_map}
 use Rattle.srv_state.specs.State.{Out, Took}
 use Rattle.sim_3_items.specs.Counted.{IsForClient}
 use Rattle.sim_3_items.specs.Identities.{Identity, Login}
-use Rattle.sim_3_items.specs.Pipes.{IsShown, IsWire, PipesShow}
+use Rattle.sim_3_items.specs.Pipes.{IsShown, IsWire, PipesRepresent}
 use Rattle.sim_3_items.specs.Sent.{sent, sent_under}
-use Rattle.sim_3_items.specs.WordItems.{down_item, is_behind_login}
+use Rattle.sim_3_items.specs.WordItems.{down_item, is_after_login}
 use Rattle.sim_3_items.specs.ItemPipes.{ItemWire, put_down, shut}
 use Rattle.sim_2_links.specs.SessionMoves.{shut as shut_conn}
 use Rattle.sim_2_links.specs.Stages.{Conn, Ending, tail_of}
@@ -26,17 +26,17 @@ use Rattle.xml_writer.specs.Items.{ItemOut}
 
 module _ (who : Identity) (logins : ℕ → Login) (wires : Table ItemWire) (v : View ItemOut) where
   -- behind more that is put out
-  pub more_put_out : (outs more : List (Out ItemOut)) → PipesShow who logins (sent more (sent outs wires)) v → PipesShow who logins (sent (outs ++ more) wires) v
+  pub more_put_out : (outs more : List (Out ItemOut)) → PipesRepresent who logins (sent more (sent outs wires)) v → PipesRepresent who logins (sent (outs ++ more) wires) v
   more_put_out outs more pipes = pipes_as who logins (sent more (sent outs wires)) (sent (outs ++ more) wires) v (sent_more outs more wires) pipes
 
-  pub nothing_put_out : PipesShow who logins wires v → PipesShow who logins (sent [] wires) v
+  pub nothing_put_out : PipesRepresent who logins wires v → PipesRepresent who logins (sent [] wires) v
   nothing_put_out pipes = pipes_as who logins wires (sent [] wires) v (λ j. same j (wires j)) pipes
     where
       same : (j : ℕ) (o : Option ItemWire) → option_map (sent_under j []) o ≡ o
       same j None = refl
       same j (Some w) = refl
 
-  pub told_out : (from to origin : List ℕ) → PipesShow who logins wires v → PipesShow who logins (sent (Took from to origin ∷ []) wires) v
+  pub told_out : (from to origin : List ℕ) → PipesRepresent who logins wires v → PipesRepresent who logins (sent (Took from to origin ∷ []) wires) v
   told_out from to origin pipes = pipes_as who logins wires (sent (Took from to origin ∷ []) wires) v (λ j. same j (wires j)) pipes
     where
       same : (j : ℕ) (o : Option ItemWire) → option_map (sent_under j (Took from to origin ∷ [])) o ≡ o
@@ -47,9 +47,9 @@ module _ (who : Identity) (logins : ℕ → Login) (wires : Table ItemWire) (v :
   left_so k outs for j other None = refl
   left_so k outs for j other (Some u) = ap Some (for j u other)
 
-  module _ (pipes : PipesShow who logins wires v) where
+  module _ (pipes : PipesRepresent who logins wires v) where
     -- for a connection that is none of the device's
-    pub sent_elsewhere : (k : ℕ) (outs : List (Out ItemOut)) → AreFor k outs → v.conns k ≡ None → PipesShow who logins (sent outs wires) v
+    pub sent_elsewhere : (k : ℕ) (outs : List (Out ItemOut)) → AreFor k outs → v.conns k ≡ None → PipesRepresent who logins (sent outs wires) v
     sent_elsewhere k outs for none = record { each = each }
       where
         here : (o : Option ItemWire) → IsShown who (logins k) k None o → IsShown who (logins k) k None (option_map (sent_under k outs) o)
@@ -70,8 +70,8 @@ module _ (who : Identity) (logins : ℕ → Login) (wires : Table ItemWire) (v :
 
     -- for one of the device's
     module _ (k : ℕ) (c : Conn ItemOut) (is : v.conns k ≡ Some c) (next : View ItemOut) where
-      pub put_here : (puts : List (DownWord ItemOut)) (items : List ItemOut) → items ≡ map (down_item who (logins k) k (is_behind_login c.client)) puts → All IsForClient (down_stanzas puts)
-          → next.conns ≡ with_at k (record c { wires = send_down puts c.wires }) v.conns → PipesShow who logins (sent (puts_at k items) wires) next
+      pub put_here : (puts : List (DownWord ItemOut)) (items : List ItemOut) → items ≡ map (down_item who (logins k) k (is_after_login c.client)) puts → All IsForClient (down_stanzas puts)
+          → next.conns ≡ with_at k (record c { wires = send_down puts c.wires }) v.conns → PipesRepresent who logins (sent (puts_at k items) wires) next
       put_here puts items same stanzas conns =
           let has = has_wire who logins wires v k c pipes is in
           let d : Conn ItemOut = record c { wires = send_down puts c.wires } in
@@ -79,8 +79,8 @@ module _ (who : Identity) (logins : ℕ → Login) (wires : Table ItemWire) (v :
           (λ j other. left_so k (puts_at k items) (puts_are_for k items) j other (wires j))
           (subst (IsWire who (logins k) k d) (sym (puts_here k items has.wire ∙ ap (λ l. put_down l has.wire) same)) (wire_put who (logins k) k c has.wire has.is puts stanzas))
 
-      pub shut_here : (ending : Ending) (items : List ItemOut) → items ≡ map (down_item who (logins k) k (is_behind_login c.client)) (tail_of ending)
-          → next.conns ≡ with_at k (shut_conn ending c) v.conns → PipesShow who logins (sent (shuts_at k items) wires) next
+      pub shut_here : (ending : Ending) (items : List ItemOut) → items ≡ map (down_item who (logins k) k (is_after_login c.client)) (tail_of ending)
+          → next.conns ≡ with_at k (shut_conn ending c) v.conns → PipesRepresent who logins (sent (shuts_at k items) wires) next
       shut_here ending items same conns =
           let has = has_wire who logins wires v k c pipes is in
           let d : Conn ItemOut = shut_conn ending c in

@@ -3,16 +3,16 @@ use Rattle.std.proofs.Common.{◌≡◌, ℕ, ◌≤◌, true, false, List, [], 
 use Rattle.std.specs.Option.{option_map}
 use Rattle.sm_acks.specs.Counters.{ahead}
 use Rattle.sm_acks.specs.declared.end.TheConstants.{MOST_UNACKNOWLEDGED}
-use Rattle.srv_state.specs.State.{Hall, with_conn, with_sessions}
+use Rattle.srv_state.specs.State.{ServerState, with_conn, with_sessions}
 use Rattle.srv_state.specs.Steps.{in_phase}
-use Rattle.srv_state.specs.declared.connection.Phase.{Phase as DeskPhase}
+use Rattle.srv_state.specs.declared.connection.Phase.{Phase as ServerPhase}
 use Rattle.srv_state.specs.declared.connection.Phase.TheVariants as phase
 use Rattle.srv_state.specs.declared.connection.Tries.TheVariants as tries
 use Rattle.sm_resumption.specs.declared.answers.TheConstants.{RESUMABLE_SECONDS}
 use Rattle.sim_3_items.specs.Identities.{Identity, Login, exchange_of}
-use Rattle.sim_3_items.specs.Pipes.{PipesShow}
+use Rattle.sim_3_items.specs.Pipes.{PipesRepresent}
 use Rattle.sim_3_items.specs.Sent.{sent}
-use Rattle.sim_3_items.specs.Servers.{ServerShows, phase_shown}
+use Rattle.sim_3_items.specs.Servers.{ServerRepresents, phase_shown}
 use Rattle.sim_3_items.specs.WordItems.{features_item, told_count, up_item}
 use Rattle.sim_3_items.specs.ItemPipes.{ItemWire, handed_up}
 use Rattle.sim_2_links.proofs.Expected.{expected_up}
@@ -35,17 +35,17 @@ use Rattle.sim_4_links_follow.proofs.Found.{change_here, of_changed}
 use Rattle.sim_3_images.proofs.RuleKept.{changes_one, found_is}
 use Rattle.xml_writer.specs.Items.{ItemOut}
 
-module _ (who whom : Identity) (logins others : ℕ → Login) (h : Hall ItemOut) (wires : Table ItemWire) (v u : View ItemOut) (k : ℕ) (apart : AreApart who whom) (shows : ServerShows whom others h u) (pipes : PipesShow whom others wires u) where
+module _ (who whom : Identity) (logins others : ℕ → Login) (h : ServerState ItemOut) (wires : Table ItemWire) (v u : View ItemOut) (k : ℕ) (apart : AreApart who whom) (represents : ServerRepresents whom others h u) (pipes : PipesRepresent whom others wires u) where
   -- the pipes of the other device, whatever is put there
-  left_pipes : (word : UpWord ItemOut) (p : IsFirst who logins h wires v k word) (items : List ItemOut) → PipesShow whom others (sent (puts_at k items) (with_at k (handed_up p.wire) wires)) u
-  left_pipes word p items = pipes_stay who whom others h wires u apart shows pipes k p.wire (puts_at k items) p.there (wire_here who logins h wires v k word p).of (puts_are_for k items)
+  left_pipes : (word : UpWord ItemOut) (p : IsFirst who logins h wires v k word) (items : List ItemOut) → PipesRepresent whom others (sent (puts_at k items) (with_at k (handed_up p.wire) wires)) u
+  left_pipes word p items = pipes_stay who whom others h wires u apart represents pipes k p.wire (puts_at k items) p.there (wire_here who logins h wires v k word p).of (puts_are_for k items)
 
   -- a connection comes to another phase
-  goes_stays : (word : UpWord ItemOut) (p : IsFirst who logins h wires v k word) (at : DeskPhase) (items : List ItemOut) → StepFollows whom others wires u k p.wire (record { hall = with_conn k (in_phase at) h; outs = puts_at k items }) []
+  goes_stays : (word : UpWord ItemOut) (p : IsFirst who logins h wires v k word) (at : ServerPhase) (items : List ItemOut) → StepFollows whom others wires u k p.wire (record { server_state = with_conn k (in_phase at) h; outs = puts_at k items }) []
   goes_stays word p at items =
       nothing_moves whom others (with_conn k (in_phase at) h) (sent (puts_at k items) (with_at k (handed_up p.wire) wires)) u
-      (phase_stays who whom others h wires u apart shows pipes k (in_phase at) (record { entropy = (logins k).yours; phase = phase_shown who (logins k) p.conn.phase; tries = tries.Three })
-      (not_its who whom others h wires u apart shows pipes k p.wire p.there (wire_here who logins h wires v k word p).of) (open_here who logins h wires v k word p p.conn.phase refl))
+      (phase_stays who whom others h wires u apart represents pipes k (in_phase at) (record { entropy = (logins k).yours; phase = phase_shown who (logins k) p.conn.phase; tries = tries.Three })
+      (not_its who whom others h wires u apart represents pipes k p.wire p.there (wire_here who logins h wires v k word p).of) (open_here who logins h wires v k word p p.conn.phase refl))
       (left_pipes word p items)
 
   header_stays : (p : IsFirst who logins h wires v k Hdr) → (p.conn.phase ≡ Start) ⊎ (p.conn.phase ≡ Restart) → StepFollows whom others wires u k p.wire (on_item k (up_item who (logins k) Hdr) h) []
@@ -67,7 +67,7 @@ module _ (who whom : Identity) (logins others : ℕ → Login) (h : Hall ItemOut
   request_stays : (p : IsFirst who logins h wires v k (Up Req)) → HasThere v k p.conn.phase true → StepFollows whom others wires u k p.wire (on_item k (up_item who (logins k) (Up Req)) h) []
   request_stays p there =
       subst (λ t. StepFollows whom others wires u k p.wire t []) (sym (request_step who logins h wires v k p there))
-      (nothing_moves whom others h (sent (puts_at k (ack_item (told_count there.0.handled) ∷ [])) (with_at k (handed_up p.wire) wires)) u shows (left_pipes (Up Req) p (ack_item (told_count there.0.handled) ∷ [])))
+      (nothing_moves whom others h (sent (puts_at k (ack_item (told_count there.0.handled) ∷ [])) (with_at k (handed_up p.wire) wires)) u represents (left_pipes (Up Req) p (ack_item (told_count there.0.handled) ∷ [])))
 
   enable_stays : (p : IsFirst who logins h wires v k Enable) → HasThere v k p.conn.phase false → StepFollows whom others wires u k p.wire (on_item k (up_item who (logins k) Enable) h) []
   enable_stays p there =
@@ -76,7 +76,7 @@ module _ (who whom : Identity) (logins others : ℕ → Login) (h : Hall ItemOut
       let its : session_of there.0.number h.sessions ≡ Some s = subst (λ m. session_of m h.sessions ≡ Some s) here.row.number (numbered who logins h wires v k Enable p false there) in
       subst (λ t. StepFollows whom others wires u k p.wire t []) (sym (enable_step who logins h wires v k p there))
       (nothing_moves whom others (with_sessions (with_session there.0.number (enables true) h.sessions) h) (sent (puts_at k (resumable_item there.0.number RESUMABLE_SECONDS ∷ [])) (with_at k (handed_up p.wire) wires)) u
-      (session_stays who whom others h wires u apart shows pipes there.0.number (enables true) s enables_keeps its (found_is (is_named who.account who.resource) h.sessions s here.named) (few_wait who logins h wires v k Enable p false there s here.row))
+      (session_stays who whom others h wires u apart represents pipes there.0.number (enables true) s enables_keeps its (found_is (is_named who.account who.resource) h.sessions s here.named) (few_wait who logins h wires v k Enable p false there s here.row))
       (left_pipes Enable p (resumable_item there.0.number RESUMABLE_SECONDS ∷ [])))
 
   count_stays : (n : ℕ) (p : IsFirst who logins h wires v k (Up (Ack n))) → HasThere v k p.conn.phase true → StepFollows whom others wires u k p.wire (on_item k (up_item who (logins k) (Up (Ack n))) h) []
@@ -85,11 +85,11 @@ module _ (who whom : Identity) (logins others : ℕ → Login) (h : Hall ItemOut
       let s : Session ItemOut = here.session in
       let m : ℕ = there.0.number in
       let f : Session ItemOut → Session ItemOut = acknowledged (told_count n) in
-      let after : Hall ItemOut = with_sessions (with_session m f h.sessions) h in
+      let after : ServerState ItemOut = with_sessions (with_session m f h.sessions) h in
       let its : session_of m h.sessions ≡ Some s = subst (λ i. session_of i h.sessions ≡ Some s) here.row.number (numbered who logins h wires v k (Up (Ack n)) p true there) in
       let named = found_is (is_named who.account who.resource) h.sessions s here.named in
       let few : length (f s).waiting ≤ MOST_UNACKNOWLEDGED = fewer (ahead (told_count n) s.acked) MOST_UNACKNOWLEDGED s.waiting (few_wait who logins h wires v k (Up (Ack n)) p true there s here.row) in
-      let acked : ServerShows whom others after u = session_stays who whom others h wires u apart shows pipes m f s (acknowledged_keeps (told_count n)) its named few in
+      let acked : ServerRepresents whom others after u = session_stays who whom others h wires u apart represents pipes m f s (acknowledged_keeps (told_count n)) its named few in
       let now : session_of m after.sessions ≡ Some (f s) = of_changed m m f h.sessions (acknowledged_keeps (told_count n)) ∙ ap (option_map (changes_one m f)) its ∙ ap Some (change_here m f s here.row.number) in
       subst (λ t. StepFollows whom others wires u k p.wire t []) (sym (count_step who logins h wires v k n p there))
       (nothing_moves whom others (with_sessions (with_session m (asks false) after.sessions) after) (sent (puts_at k []) (with_at k (handed_up p.wire) wires)) u

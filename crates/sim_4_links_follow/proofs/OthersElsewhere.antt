@@ -4,7 +4,7 @@ use Rattle.std.proofs.lemmas.Bool.{cases_eq}
 use Rattle.std.specs.Option.{option_map}
 use Rattle.srv_state.specs.State.{Out, Put, Shut}
 use Rattle.sim_3_items.specs.Identities.{Identity, Login}
-use Rattle.sim_3_items.specs.Pipes.{IsShown, IsWire, PipesShow}
+use Rattle.sim_3_items.specs.Pipes.{IsShown, IsWire, PipesRepresent}
 use Rattle.sim_3_items.specs.Sent.{sent, sent_under}
 use Rattle.sim_3_items.specs.ItemPipes.{ItemWire, put_down, shut}
 use Rattle.sim_2_links.proofs.Entries.{at_other, at_same}
@@ -33,8 +33,8 @@ put_elsewhere u k i none j e there w = one_apart k j (put_down (i ∷ [])) w (ap
 pub shut_elsewhere : (u : View ItemOut) (k : ℕ) → u.conns k ≡ None → AreElsewhere u (Shut k ∷ [])
 shut_elsewhere u k none j e there w = one_apart k j shut w (apart_from u k j e none there)
 
-module _ (whom : Identity) (others : ℕ → Login) (wires : Table ItemWire) (u : View ItemOut) (pipes : PipesShow whom others wires u) where
-  pub sent_beside : (outs : List (Out ItemOut)) → AreElsewhere u outs → PipesShow whom others (sent outs wires) u
+module _ (whom : Identity) (others : ℕ → Login) (wires : Table ItemWire) (u : View ItemOut) (pipes : PipesRepresent whom others wires u) where
+  pub sent_beside : (outs : List (Out ItemOut)) → AreElsewhere u outs → PipesRepresent whom others (sent outs wires) u
   sent_beside outs away = record { each = λ j. each j (u.conns j) refl (wires j) (pipes.each j) }
     where
       each : (j : ℕ) (o : Option (Conn ItemOut)) → u.conns j ≡ o → (m : Option ItemWire) → IsShown whom (others j) j o m → IsShown whom (others j) j o (option_map (sent_under j outs) m)
@@ -44,7 +44,7 @@ module _ (whom : Identity) (others : ℕ → Login) (wires : Table ItemWire) (u 
       each j (Some e) is (Some w) shown = subst (IsWire whom (others j) j e) (sym (away j e is w)) shown
 
   -- a connection of another device is changed
-  pub with_beside : (k : ℕ) (w : ItemWire) → u.conns k ≡ None → w.device ≢ whom.place → PipesShow whom others (with_at k w wires) u
+  pub with_beside : (k : ℕ) (w : ItemWire) → u.conns k ≡ None → w.device ≢ whom.position → PipesRepresent whom others (with_at k w wires) u
   with_beside k w none foreign = record { each = each }
     where
       each : (j : ℕ) → IsShown whom (others j) j (u.conns j) (with_at k w wires j)

@@ -1,19 +1,19 @@
 -- What comes of a stanza that a client handled, or of a call of its user: nothing that the links have, an end of the
 -- connection, or one stanza that is put.
 use Rattle.std.proofs.Common.{◌≡◌, Bool, true, false, List, [], ◌∷◌, ◌++◌, Some, refl, if◌then◌else◌}
-use Rattle.cl_handlers.specs.Clients.{Turn}
+use Rattle.cl_handlers.specs.Clients.{ClientStep}
 use Rattle.cl_handlers.specs.Speech.{Put}
-use Rattle.cl_handlers.specs.Turns.{is_online}
+use Rattle.cl_handlers.specs.ClientSteps.{is_online}
 use Rattle.cl_handlers.specs.declared.phase.Phase.TheVariants as phase
 use Rattle.sim_3_items.specs.Counted.{IsForServer}
-use Rattle.sim_3_items.specs.Deeds.{awaits}
+use Rattle.sim_3_items.specs.Labels.{awaits}
 use Rattle.sm_outbox.specs.Sessions.{SessionView}
 use Rattle.sm_outbox.specs.Waiting.{is_full}
 use Rattle.im_replies.specs.Management.{request_item}
 use Rattle.xml_writer.specs.Items.{ItemOut}
 
 abbrev pub T : Type 0
-T = Turn ItemOut ItemOut
+T = ClientStep ItemOut ItemOut
 
 -- ---- three kinds
 
@@ -57,7 +57,7 @@ pub record IsQueued (t u : T) (s : SessionView ItemOut) (z : ItemOut) : Type 0 w
 pub record IsSaid (t u : T) : Type 0 where
   pub session : SessionView ItemOut
   pub stands : t.client.session ≡ Some session
-  pub place : is_full session.waiting ≡ false
+  pub position : is_full session.waiting ≡ false
   pub stanza : ItemOut
   pub good : IsForServer stanza
   pub asks : Bool

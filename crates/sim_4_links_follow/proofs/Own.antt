@@ -8,15 +8,15 @@ use Rattle.std.proofs.lemmas.Option.{same_Some}
 use Rattle.std.specs.List.{filter}
 use Rattle.std.specs.Option.{option_map}
 use Rattle.sm_acks.specs.declared.end.TheConstants.{MOST_UNACKNOWLEDGED}
-use Rattle.srv_state.specs.State.{Hall, Put, Shut, Step, with_sessions, without_conn}
-use Rattle.srv_state.specs.Steps.{Act, Send, act, ask_where, in_sessions, is_due, overflow, part_where, put, put_where, queue, send_told}
+use Rattle.srv_state.specs.State.{Put, ServerState, Shut, Step, with_sessions, without_conn}
+use Rattle.srv_state.specs.Steps.{Act, Send, act, ask_where, in_sessions, is_due, overflow, part_where, put, put_where, queue, send_by_info}
 use Rattle.sim_3_items.specs.Counted.{IsForClient}
-use Rattle.sim_3_items.specs.Deeds.{gives_all}
+use Rattle.sim_3_items.specs.Labels.{gives_all}
 use Rattle.sim_3_items.specs.Frames.{KeepsClient}
 use Rattle.sim_3_items.specs.Identities.{Identity, Login}
-use Rattle.sim_3_items.specs.Pipes.{PipesShow}
+use Rattle.sim_3_items.specs.Pipes.{PipesRepresent}
 use Rattle.sim_3_items.specs.Sent.{sent}
-use Rattle.sim_3_items.specs.Servers.{IsRow, IsRowShown, ServerFollows, ServerShows}
+use Rattle.sim_3_items.specs.Servers.{IsRow, IsRowRepresented, ServerFollows, ServerRepresents}
 use Rattle.sim_3_items.specs.ItemPipes.{ItemWire}
 use Rattle.sim_3_items.specs.ItemWorlds.{itself}
 use Rattle.sim_2_links.proofs.Entries.{at_same}
@@ -34,7 +34,7 @@ use Rattle.im_replies.specs.Management.{request_item}
 use Rattle.im_replies.specs.Streams.{error_item}
 use Rattle.im_replies.specs.declared.conditions.StreamCondition.TheVariants as stream
 use Rattle.sim_4_links_follow.proofs.Former.{keeps_both}
-use Rattle.sim_4_links_follow.proofs.Leavings.{left_hall, left_shows}
+use Rattle.sim_4_links_follow.proofs.Leavings.{left_represents, left_server_state}
 use Rattle.sim_3_images.proofs.RuleKept.{named_gone, numbered_here}
 use Rattle.sim_4_links_follow.proofs.SessionRows.{asked_row, asks_keeps}
 use Rattle.sim_4_links_follow.proofs.Shuts.{shuts_at}
@@ -45,13 +45,13 @@ use Rattle.sim_4_links_follow.proofs.Thinned.{thinned}
 use Rattle.sim_4_links_follow.specs.Given.{IsGiven}
 use Rattle.sim_4_links_follow.proofs.Flows.{halted}
 use Rattle.sim_4_links_follow.proofs.Placed.{keeps_all, keeps_at}
-use Rattle.sim_4_links_follow.proofs.Servings.{IsLive, known_altered, known_same, live_of, row_shows, session_shows}
+use Rattle.sim_4_links_follow.proofs.Servings.{IsLive, known_altered, known_same, live_of, row_represents, session_represents}
 use Rattle.xml_writer.specs.Items.{Closing, ItemOut}
 
 -- behind small steps the links have moved, and these were given
 pub record Goes (who : Identity) (logins : ℕ → Login) (wires : Table ItemWire) (v : View ItemOut) (acts : List (Act ItemOut)) (s : Step ItemOut) : Type 0 where
   pub given : List ItemOut
-  pub follows : ServerFollows who logins s.hall (sent s.outs wires) v (gives_all given)
+  pub follows : ServerFollows who logins s.server_state (sent s.outs wires) v (gives_all given)
   pub are_given : IsGiven acts given v.row follows.next.row
   pub kept : IsKeptRow v.row follows.next.row
 
@@ -71,27 +71,27 @@ none_asked : (n : ℕ) (b : Bool) (s : Step ItemOut) → ask_where itself n None
 none_asked n true s = refl
 none_asked n false s = refl
 
-module _ (who : Identity) (logins : ℕ → Login) (wires : Table ItemWire) (v : View ItemOut) (kept : LinkKept v) (s : Step ItemOut) (shows : ServerShows who logins s.hall v) (pipes : PipesShow who logins (sent s.outs wires) v) (r : Row ItemOut) (is_row : v.row ≡ Some r)
+module _ (who : Identity) (logins : ℕ → Login) (wires : Table ItemWire) (v : View ItemOut) (kept : LinkKept v) (s : Step ItemOut) (represents : ServerRepresents who logins s.server_state v) (pipes : PipesRepresent who logins (sent s.outs wires) v) (r : Row ItemOut) (is_row : v.row ≡ Some r)
     (counted : r.counted ≡ true) (z : ItemOut) (stanza : IsForClient z) where
-  live : IsLive who s.hall r
-  live = live_of who logins s.hall v r shows is_row
+  live : IsLive who s.server_state r
+  live = live_of who logins s.server_state v r represents is_row
 
   abbrev x : Session ItemOut
   x = live.session
 
-  numbered_x : session_of x.shown.number s.hall.sessions ≡ Some x
-  numbered_x = numbered_here (is_named who.account who.resource) s.hall.next 1 s.hall.sessions x shows.hall.sessions.ascending live.named
+  numbered_x : session_of x.shown.number s.server_state.sessions ≡ Some x
+  numbered_x = numbered_here (is_named who.account who.resource) s.server_state.next 1 s.server_state.sessions x represents.server_state.sessions.ascending live.named
 
-  numbered : session_of r.number s.hall.sessions ≡ Some x
-  numbered = subst (λ n. session_of n s.hall.sessions ≡ Some x) live.row.number numbered_x
+  numbered : session_of r.number s.server_state.sessions ≡ Some x
+  numbered = subst (λ n. session_of n s.server_state.sessions ≡ Some x) live.row.number numbered_x
 
   few : length r.queue ≤ MOST_UNACKNOWLEDGED
-  few = subst (λ q. length q ≤ MOST_UNACKNOWLEDGED) live.row.waiting (shows.hall.sessions.few x.shown.number x numbered_x)
+  few = subst (λ q. length q ≤ MOST_UNACKNOWLEDGED) live.row.waiting (represents.server_state.sessions.few x.shown.number x numbered_x)
 
   -- the step, by whether there is room
   step : act itself (Send r.number z) s ≡ cond (length x.waiting == MOST_UNACKNOWLEDGED) (overflow itself r.number (told x) s) (queue itself r.number z (told x) s)
   step =
-      ap (λ o. send_told itself r.number z (option_map told o) s) numbered
+      ap (λ o. send_by_info itself r.number z (option_map told o) s) numbered
       ∙ ap (λ b. cond (not b) (put_where x.shown.conn z s) (cond (length x.waiting == MOST_UNACKNOWLEDGED) (overflow itself r.number (told x) s) (queue itself r.number z (told x) s))) (live.row.counted ∙ counted)
 
   abbrev sends : List (Act ItemOut)
@@ -112,8 +112,8 @@ module _ (who : Identity) (logins : ℕ → Login) (wires : Table ItemWire) (v :
     abbrev middle : View ItemOut
     middle = record v { row = Some after; sessions = alter one_put v.sessions }
 
-    abbrev waiting_hall : Hall ItemOut
-    waiting_hall = with_sessions (with_session r.number (waits z) s.hall.sessions) s.hall
+    abbrev waiting_server_state : ServerState ItemOut
+    waiting_server_state = with_sessions (with_session r.number (waits z) s.server_state.sessions) s.server_state
 
     abbrev waiting : Step ItemOut
     waiting = in_sessions (with_session r.number (waits z)) s
@@ -134,9 +134,9 @@ module _ (who : Identity) (logins : ℕ → Login) (wires : Table ItemWire) (v :
       for_client = All-push IsForClient r.queue z is.for_client stanza;
     }
 
-    waits_shows : ServerShows who logins waiting_hall middle
-    waits_shows =
-        session_shows who logins s.hall v r after (waits z) (alter one_put v.sessions) (known_altered one_put v) shows is_row (waits_keeps z) waited_row
+    waits_represents : ServerRepresents who logins waiting_server_state middle
+    waits_represents =
+        session_represents who logins s.server_state v r after (waits z) (alter one_put v.sessions) (known_altered one_put v) represents is_row (waits_keeps z) waited_row
         (λ t is. subst (λ q. length (q ++ z ∷ []) ≤ MOST_UNACKNOWLEDGED) (sym is.waiting) more_few)
 
     given_here : IsGiven sends (z ∷ []) v.row (Some after)
@@ -157,7 +157,7 @@ module _ (who : Identity) (logins : ℕ → Login) (wires : Table ItemWire) (v :
             next = middle;
             leads = (middle, record { row = r; is_row = is_row; off = off; counted = counted; gives = refl }, refl);
             does = refl;
-            server = waits_shows;
+            server = waits_represents;
             pipes = record { each = pipes.each };
             client = record { here = refl; own = refl; epoch = refl; conns = λ k. keeps_all (v.conns k) };
           };
@@ -173,10 +173,10 @@ module _ (who : Identity) (logins : ℕ → Login) (wires : Table ItemWire) (v :
       abbrev served : View ItemOut
       served = record v { conns = with_at k put_conn v.conns; row = Some after; sessions = alter one_put v.sessions }
 
-      served_shows : ServerShows who logins waiting_hall served
-      served_shows = row_shows who logins waiting_hall middle waits_shows k c is put_conn (Some after) (alter one_put v.sessions) (known_same middle) refl waits_shows.row
+      served_represents : ServerRepresents who logins waiting_server_state served
+      served_represents = row_represents who logins waiting_server_state middle waits_represents k c is put_conn (Some after) (alter one_put v.sessions) (known_same middle) refl waits_represents.row
 
-      served_pipes : PipesShow who logins (sent (s.outs ++ Put k z ∷ []) wires) served
+      served_pipes : PipesRepresent who logins (sent (s.outs ++ Put k z ∷ []) wires) served
       served_pipes =
           more_put_out who logins wires served s.outs (Put k z ∷ [])
           (put_here who logins (sent s.outs wires) v pipes k c is served (Down (St z) ∷ []) (z ∷ []) refl (All-cons IsForClient z [] stanza (All-nil IsForClient)) refl)
@@ -191,18 +191,18 @@ module _ (who : Identity) (logins : ℕ → Login) (wires : Table ItemWire) (v :
       abbrev asked : View ItemOut
       asked = record served { conns = with_at k asked_conn served.conns }
 
-      abbrev asked_hall : Hall ItemOut
-      asked_hall = with_sessions (with_session r.number (asks true) waiting_hall.sessions) waiting_hall
+      abbrev asked_server_state : ServerState ItemOut
+      asked_server_state = with_sessions (with_session r.number (asks true) waiting_server_state.sessions) waiting_server_state
 
-      asks_shows : ServerShows who logins asked_hall served
-      asks_shows =
-          session_shows who logins waiting_hall served after after (asks true) served.sessions (known_same served) served_shows refl (asks_keeps true) (asked_row true after)
+      asks_represents : ServerRepresents who logins asked_server_state served
+      asks_represents =
+          session_represents who logins waiting_server_state served after after (asks true) served.sessions (known_same served) served_represents refl (asks_keeps true) (asked_row true after)
           (λ t its. subst (λ q. length q ≤ MOST_UNACKNOWLEDGED) (sym its.waiting) more_few)
 
-      asked_shows : ServerShows who logins asked_hall asked
-      asked_shows = row_shows who logins asked_hall served asks_shows k put_conn at_there asked_conn (Some after) served.sessions (known_same served) refl asks_shows.row
+      asked_represents : ServerRepresents who logins asked_server_state asked
+      asked_represents = row_represents who logins asked_server_state served asks_represents k put_conn at_there asked_conn (Some after) served.sessions (known_same served) refl asks_represents.row
 
-      asked_pipes : PipesShow who logins (sent ((s.outs ++ Put k z ∷ []) ++ Put k request_item ∷ []) wires) asked
+      asked_pipes : PipesRepresent who logins (sent ((s.outs ++ Put k z ∷ []) ++ Put k request_item ∷ []) wires) asked
       asked_pipes =
           more_put_out who logins wires asked (s.outs ++ Put k z ∷ []) (Put k request_item ∷ [])
           (put_here who logins (sent (s.outs ++ Put k z ∷ []) wires) served served_pipes k put_conn at_there asked (Down Req ∷ []) (request_item ∷ []) refl (All-nil IsForClient) refl)
@@ -223,7 +223,7 @@ module _ (who : Identity) (logins : ℕ → Login) (wires : Table ItemWire) (v :
           next = served;
           leads = (served, record { conn = c; is = is; row = r; is_row = is_row; on = on; counted = counted; gives = refl }, refl);
           does = refl;
-          server = served_shows;
+          server = served_represents;
           pipes = served_pipes;
           client = record { here = refl; own = refl; epoch = refl; conns = served_keeps };
         };
@@ -241,7 +241,7 @@ module _ (who : Identity) (logins : ℕ → Login) (wires : Table ItemWire) (v :
             (asked, record { conn = put_conn; is = at_there; row = after; is_row = refl; on = on; counted = counted; gives = refl }, refl),
           );
           does = refl;
-          server = asked_shows;
+          server = asked_represents;
           pipes = asked_pipes;
           client = record { here = refl; own = refl; epoch = refl; conns = asked_keeps };
         };
@@ -267,7 +267,7 @@ module _ (who : Identity) (logins : ℕ → Login) (wires : Table ItemWire) (v :
   ends_parked : r.on ≡ None → Result (overflow itself r.number (told x) s)
   ends_parked off =
       let last : View ItemOut = record v { row = None } in
-      let nobody = named_gone stays who.account who.resource s.hall.next s.hall.sessions x shows.hall.sessions live.named out in
+      let nobody = named_gone stays who.account who.resource s.server_state.next s.server_state.sessions x represents.server_state.sessions live.named out in
       subst Result (sym (ap (λ o. part_where itself o (error_item stream.ResourceConstraint) (in_sessions (without r.number) s)) (live.row.conn ∙ off))) (record {
         given = [];
         follows = record {
@@ -275,7 +275,7 @@ module _ (who : Identity) (logins : ℕ → Login) (wires : Table ItemWire) (v :
           next = last;
           leads = (last, record { row = r; is_row = is_row; off = off; gives = refl }, refl);
           does = refl;
-          server = thinned who logins s.hall v shows stays None v.sessions (known_same v) (subst (IsRowShown None) (sym nobody) tt);
+          server = thinned who logins s.server_state v represents stays None v.sessions (known_same v) (subst (IsRowRepresented None) (sym nobody) tt);
           pipes = record { each = pipes.each };
           client = record { here = refl; own = refl; epoch = refl; conns = λ k. keeps_all (v.conns k) };
         };
@@ -303,11 +303,11 @@ module _ (who : Identity) (logins : ℕ → Login) (wires : Table ItemWire) (v :
     abbrev last : View ItemOut
     last = record v { conns = with_at k closed v.conns; row = None; sessions = alter lost v.sessions }
 
-    parts : overflow itself r.number (told x) s ≡ record { hall = left_hall who logins s.hall v kept shows k c is both; outs = s.outs ++ shuts_at k words }
+    parts : overflow itself r.number (told x) s ≡ record { server_state = left_server_state who logins s.server_state v kept represents k c is both; outs = s.outs ++ shuts_at k words }
     parts =
         ap (λ o. part_where itself o (error_item stream.ResourceConstraint) (in_sessions (without r.number) s)) (live.row.conn ∙ on)
-        ∙ ap (λ ss. record { hall = with_sessions ss (without_conn k s.hall); outs = ((s.outs ++ Put k (error_item stream.ResourceConstraint) ∷ []) ++ Put k Closing ∷ []) ++ Shut k ∷ [] }) (twice_left (λ t. not (is_at k t)) stays s.hall.sessions)
-        ∙ ap (λ outs. record { hall = left_hall who logins s.hall v kept shows k c is both; outs = outs })
+        ∙ ap (λ ss. record { server_state = with_sessions ss (without_conn k s.server_state); outs = ((s.outs ++ Put k (error_item stream.ResourceConstraint) ∷ []) ++ Put k Closing ∷ []) ++ Shut k ∷ [] }) (twice_left (λ t. not (is_at k t)) stays s.server_state.sessions)
+        ∙ ap (λ outs. record { server_state = left_server_state who logins s.server_state v kept represents k c is both; outs = outs })
         (append_assoc (s.outs ++ Put k (error_item stream.ResourceConstraint) ∷ []) (Put k Closing ∷ []) (Shut k ∷ [])
         ∙ append_assoc s.outs (Put k (error_item stream.ResourceConstraint) ∷ []) (Put k Closing ∷ Shut k ∷ []))
 
@@ -316,7 +316,7 @@ module _ (who : Identity) (logins : ℕ → Login) (wires : Table ItemWire) (v :
 
     ends_attached : Result (overflow itself r.number (told x) s)
     ends_attached =
-        let nobody = named_gone both who.account who.resource s.hall.next s.hall.sessions x shows.hall.sessions live.named gone in
+        let nobody = named_gone both who.account who.resource s.server_state.next s.server_state.sessions x represents.server_state.sessions live.named gone in
         subst Result (sym parts) (record {
           given = [];
           follows = record {
@@ -328,7 +328,7 @@ module _ (who : Identity) (logins : ℕ → Login) (wires : Table ItemWire) (v :
               (last, record { row = record r { on = None }; is_row = refl; off = refl; gives = refl }, refl),
             );
             does = refl;
-            server = left_shows who logins s.hall v kept shows k c is both closed None (alter lost v.sessions) (known_altered lost v) refl (subst (IsRowShown None) (sym nobody) tt);
+            server = left_represents who logins s.server_state v kept represents k c is both closed None (alter lost v.sessions) (known_altered lost v) refl (subst (IsRowRepresented None) (sym nobody) tt);
             pipes = more_put_out who logins wires last s.outs (shuts_at k words) (shut_here who logins (sent s.outs wires) v pipes k c is last (Errs Constraint) words refl refl);
             client = record { here = refl; own = refl; epoch = refl; conns = keeps_at v.conns k c closed is refl (λ ended. halted (send_down (tail_of (Errs Constraint)) c.wires)) };
           };
@@ -338,8 +338,8 @@ module _ (who : Identity) (logins : ℕ → Login) (wires : Table ItemWire) (v :
 
   -- ---- all cases
 
-  by_place : (b : Bool) → (length x.waiting == MOST_UNACKNOWLEDGED) ≡ b → Result (cond b (overflow itself r.number (told x) s) (queue itself r.number z (told x) s))
-  by_place b room = go b room r.on refl
+  by_position : (b : Bool) → (length x.waiting == MOST_UNACKNOWLEDGED) ≡ b → Result (cond b (overflow itself r.number (told x) s) (queue itself r.number z (told x) s))
+  by_position b room = go b room r.on refl
     where
       placed : (k : ℕ) → r.on ≡ Some k → (c : Conn ItemOut) × (v.conns k ≡ Some c)
       placed k on = let there = subst (IsPlaced v.conns r (kept.row r is_row).session) on (kept.row r is_row).placed in (there.0, there.1)
@@ -351,4 +351,4 @@ module _ (who : Identity) (logins : ℕ → Login) (wires : Table ItemWire) (v :
       go false room (Some k) on = let there = placed k on in put_out room k on there.0 there.1
 
   pub own_goes : Result (act itself (Send r.number z) s)
-  own_goes = subst Result (sym step) (by_place (length x.waiting == MOST_UNACKNOWLEDGED) refl)
+  own_goes = subst Result (sym step) (by_position (length x.waiting == MOST_UNACKNOWLEDGED) refl)

@@ -2,16 +2,16 @@
 use Rattle.std.proofs.Common.{◌≡◌, ℕ, ◌≤◌, true, List, Some, None, length, refl, sym, ap, subst, ◌∙◌, ◌⊎◌, inl, inr}
 use Rattle.std.specs.Option.{option_map}
 use Rattle.sm_acks.specs.declared.end.TheConstants.{MOST_UNACKNOWLEDGED}
-use Rattle.srv_state.specs.State.{Hall, conn_at, with_sessions, without_conn}
+use Rattle.srv_state.specs.State.{ServerState, conn_at, with_sessions, without_conn}
 use Rattle.sim_3_items.specs.Identities.{Identity, Login}
-use Rattle.sim_3_items.specs.Servers.{IsRow, IsRowShown, ServerShows, conn_shown}
+use Rattle.sim_3_items.specs.Servers.{IsRow, IsRowRepresented, ServerRepresents, conn_shown}
 use Rattle.sim_2_links.proofs.Entries.{Entry, New, Old, entry}
 use Rattle.sim_2_links.specs.Stages.{Conn}
 use Rattle.sim_2_links.specs.Views.{Row, Table, View, with_at}
 use Rattle.sim_2_links.specs.Views as links
 use Rattle.sm_live.specs.Rule.{IsRule}
 use Rattle.sm_live.specs.Sessions.{Session, is_named, parked, session_at, session_named, session_of, with_session}
-use Rattle.sim_4_links_follow.proofs.HallsLeft.{without_apart, without_here, without_sorted}
+use Rattle.sim_4_links_follow.proofs.ServerStatesLeft.{without_apart, without_here, without_sorted}
 use Rattle.sim_3_images.proofs.RuleKept.{Keeps, changes_one, named_changed, named_one, of_was, rule_changed, seat_was, stays}
 use Rattle.sim_4_links_follow.proofs.Found.{change_here}
 use Rattle.sim_4_links_follow.proofs.Servings.{Known}
@@ -65,28 +65,28 @@ module _ (n : ℕ) (f : Session ItemOut → Session ItemOut) (leaves : Leaves f)
 
   -- ---- the server's part
 
-  module _ (who : Identity) (logins : ℕ → Login) (h : Hall ItemOut) (v : View ItemOut) (shows : ServerShows who logins h v) (k : ℕ) (c : Conn ItemOut) (is : v.conns k ≡ Some c) (row : Row ItemOut) (s : Session ItemOut)
+  module _ (who : Identity) (logins : ℕ → Login) (h : ServerState ItemOut) (v : View ItemOut) (represents : ServerRepresents who logins h v) (k : ℕ) (c : Conn ItemOut) (is : v.conns k ≡ Some c) (row : Row ItemOut) (s : Session ItemOut)
       (named : session_named who.account who.resource h.sessions ≡ Some s) (number : s.shown.number ≡ n) (its : IsRow row s) where
-    abbrev pub off_hall : Hall ItemOut
-    off_hall = with_sessions (with_session n f h.sessions) (without_conn k h)
+    abbrev pub off_server_state : ServerState ItemOut
+    off_server_state = with_sessions (with_session n f h.sessions) (without_conn k h)
 
     pub off_named : session_named who.account who.resource (with_session n f h.sessions) ≡ Some (f s)
     off_named = named_changed who.account who.resource n f h.sessions keeps ∙ ap (option_map (changes_one n f)) named ∙ ap Some (change_here n f s number)
 
-    pub off_shows : (d : Conn ItemOut) (t : Table (links.Session ItemOut)) → Known t v → conn_shown who (logins k) d ≡ None → ServerShows who logins off_hall (record v { conns = with_at k d v.conns; row = Some (record row { on = None }); sessions = t })
-    off_shows d t known ended = record {
-      served = record { domain = shows.served.domain; account = shows.served.account; found = shows.served.found; archive = shows.served.archive };
-      hall = record { sessions = goes_rule h.next h.sessions shows.hall.sessions; conns = without_sorted k h shows.hall.conns };
+    pub off_represents : (d : Conn ItemOut) (t : Table (links.Session ItemOut)) → Known t v → conn_shown who (logins k) d ≡ None → ServerRepresents who logins off_server_state (record v { conns = with_at k d v.conns; row = Some (record row { on = None }); sessions = t })
+    off_represents d t known ended = record {
+      served = record { domain = represents.served.domain; account = represents.served.account; found = represents.served.found; archive = represents.served.archive };
+      server_state = record { sessions = goes_rule h.next h.sessions represents.server_state.sessions; conns = without_sorted k h represents.server_state.conns };
       conns = λ j e at. shown j e (entry k d v.conns j e at);
-      row = subst (IsRowShown (Some (record row { on = None }))) (sym off_named) (leaves.row row s its);
-      seated = λ j e u at on_it. seated j e u (entry k d v.conns j e at) (was_on j u (seat_was h.next n (λ i. ⊥) f h.sessions shows.hall.sessions keeps (stays h.sessions f still_on) j u on_it));
+      row = subst (IsRowRepresented (Some (record row { on = None }))) (sym off_named) (leaves.row row s its);
+      seated = λ j e u at on_it. seated j e u (entry k d v.conns j e at) (was_on j u (seat_was h.next n (λ i. ⊥) f h.sessions represents.server_state.sessions keeps (stays h.sessions f still_on) j u on_it));
       owned = λ q u x there at. let old = known q u there in owned x q old.0 old.1 (of_was q n f h.sessions x keeps at);
-      free = shows.free;
+      free = represents.free;
     }
       where
         shown : (j : ℕ) (e : Conn ItemOut) → Entry k d v.conns j e → conn_at j (without_conn k h) ≡ conn_shown who (logins j) e
-        shown j e (New same it) = subst (λ m. conn_at m (without_conn k h) ≡ conn_shown who (logins m) e) same (without_here k h shows.hall.conns ∙ sym ended ∙ ap (conn_shown who (logins k)) it)
-        shown j e (Old apart was) = without_apart k h shows.hall.conns j apart ∙ shows.conns j e was
+        shown j e (New same it) = subst (λ m. conn_at m (without_conn k h) ≡ conn_shown who (logins m) e) same (without_here k h represents.server_state.conns ∙ sym ended ∙ ap (conn_shown who (logins k)) it)
+        shown j e (Old apart was) = without_apart k h represents.server_state.conns j apart ∙ represents.conns j e was
 
         was_on : (j : ℕ) (u : Session ItemOut) → (x : Session ItemOut) × (session_of x.shown.number h.sessions ≡ Some x) × (changes_one n f x ≡ u) × (((x.shown.number ≡ n) × ⊥) ⊎ (session_at j h.sessions ≡ Some x))
             → (x : Session ItemOut) × (session_at j h.sessions ≡ Some x) × (changes_one n f x ≡ u)
@@ -97,8 +97,8 @@ module _ (n : ℕ) (f : Session ItemOut → Session ItemOut) (leaves : Leaves f)
         name x u same is_so = subst (λ y. is_named who.account who.resource y ≡ true) same (named_one who.account who.resource n f x keeps ∙ is_so)
 
         owned : (u : Session ItemOut) (q : ℕ) (y : links.Session ItemOut) → v.sessions q ≡ Some y → (x : Session ItemOut) × (session_of q h.sessions ≡ Some x) × (changes_one n f x ≡ u) → is_named who.account who.resource u ≡ true
-        owned u q y there old = name old.0 u old.2 (shows.owned q y old.0 there old.1)
+        owned u q y there old = name old.0 u old.2 (represents.owned q y old.0 there old.1)
 
         seated : (j : ℕ) (e : Conn ItemOut) (u : Session ItemOut) → Entry k d v.conns j e → (x : Session ItemOut) × (session_at j h.sessions ≡ Some x) × (changes_one n f x ≡ u) → is_named who.account who.resource u ≡ true
-        seated j e u (New same it) was = name was.0 u was.2 (shows.seated k c was.0 is (subst (λ m. session_at m h.sessions ≡ Some was.0) (sym same) was.1))
-        seated j e u (Old apart at) was = name was.0 u was.2 (shows.seated j e was.0 at was.1)
+        seated j e u (New same it) was = name was.0 u was.2 (represents.seated k c was.0 is (subst (λ m. session_at m h.sessions ≡ Some was.0) (sym same) was.1))
+        seated j e u (Old apart at) was = name was.0 u was.2 (represents.seated j e was.0 at was.1)

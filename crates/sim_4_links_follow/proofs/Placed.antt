@@ -5,7 +5,7 @@ use Rattle.std.specs.Option.{option_map}
 use Rattle.srv_state.specs.State.{Out}
 use Rattle.sim_3_items.specs.Frames.{KeepsClient}
 use Rattle.sim_3_items.specs.Identities.{Identity, Login}
-use Rattle.sim_3_items.specs.Pipes.{IsShown, IsWire, PipesShow}
+use Rattle.sim_3_items.specs.Pipes.{IsShown, IsWire, PipesRepresent}
 use Rattle.sim_3_items.specs.Sent.{sent, sent_under}
 use Rattle.sim_3_items.specs.ItemPipes.{ItemWire}
 use Rattle.sim_2_links.proofs.Entries.{at_other, at_same}
@@ -20,7 +20,7 @@ shown_as who x k o p m n conn wire shown = subst (λ q. IsShown who x k q n) (sy
 
 -- one changes, and the others are as they were
 pub shown_at : (who : Identity) (logins : ℕ → Login) (wires after : Table ItemWire) (v next : View ItemOut) (k : ℕ) (c : Conn ItemOut) (w : ItemWire)
-    → PipesShow who logins wires v → ((j : ℕ) → next.conns j ≡ with_at k c v.conns j) → after k ≡ Some w → ((j : ℕ) → k ≢ j → after j ≡ wires j) → IsWire who (logins k) k c w → PipesShow who logins after next
+    → PipesRepresent who logins wires v → ((j : ℕ) → next.conns j ≡ with_at k c v.conns j) → after k ≡ Some w → ((j : ℕ) → k ≢ j → after j ≡ wires j) → IsWire who (logins k) k c w → PipesRepresent who logins after next
 shown_at who logins wires after v next k c w old conns here others is = record { each = each }
   where
     each : (j : ℕ) → IsShown who (logins j) j (next.conns j) (after j)
@@ -33,7 +33,7 @@ shown_at who logins wires after v next k c w old conns here others is = record {
 
 -- where an item was handed over there, and these are put out
 pub shown_sent : (who : Identity) (logins : ℕ → Login) (wires : Table ItemWire) (v next : View ItemOut) (k : ℕ) (c : Conn ItemOut) (w done : ItemWire) (outs : List (Out ItemOut))
-    → PipesShow who logins wires v → ((j : ℕ) → next.conns j ≡ with_at k c v.conns j) → AreFor k outs → IsWire who (logins k) k c (sent_under k outs done) → PipesShow who logins (sent outs (with_at k done wires)) next
+    → PipesRepresent who logins wires v → ((j : ℕ) → next.conns j ≡ with_at k c v.conns j) → AreFor k outs → IsWire who (logins k) k c (sent_under k outs done) → PipesRepresent who logins (sent outs (with_at k done wires)) next
 shown_sent who logins wires v next k c w done outs old conns for is =
     shown_at who logins wires (sent outs (with_at k done wires)) v next k c (sent_under k outs done) old conns (ap (option_map (sent_under k outs)) (at_same k done wires))
     (λ j apart. ap (option_map (sent_under j outs)) (at_other k done wires j apart) ∙ left j apart (wires j)) is

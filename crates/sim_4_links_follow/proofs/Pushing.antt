@@ -3,9 +3,9 @@ use Rattle.std.proofs.Common.{◌≡◌, ℕ, ◌+◌, ◌<◌, ◌^◌, Bool, t
 use Rattle.std.proofs.lemmas.Bool.{cases_Bool, eqb-true}
 use Rattle.std.proofs.lemmas.Option.{same_Some}
 use Rattle.std.specs.List.{find}
-use Rattle.srv_state.specs.State.{Hall}
+use Rattle.srv_state.specs.State.{ServerState}
 use Rattle.sim_3_items.specs.Identities.{Identity, Login}
-use Rattle.sim_3_items.specs.Servers.{IsRowShown, ServerShows}
+use Rattle.sim_3_items.specs.Servers.{IsRowRepresented, ServerRepresents}
 use Rattle.sim_2_links.proofs.Numbers.{reached_rises}
 use Rattle.sim_2_links.specs.Machine.{LinkReached}
 use Rattle.sim_2_links.specs.Stages.{Conn}
@@ -21,12 +21,12 @@ pushed_past : {A : Type 0} (p : A → Bool) (ss : List A) (f : A) → p f ≡ fa
 pushed_past p [] f not_it = rw not_it refl
 pushed_past p (x ∷ ss) f not_it = elim (cases_Bool (p x)) [ inl here ↦ rw here refl | inr other ↦ rw other (pushed_past p ss f not_it) ]
 
-module _ (who whom : Identity) (others : ℕ → Login) (h : Hall ItemOut) (u : View ItemOut) (apart : AreApart who whom) (reached : LinkReached u) (shows : ServerShows whom others h u) (k : ℕ) (off : u.conns k ≡ None)
+module _ (who whom : Identity) (others : ℕ → Login) (h : ServerState ItemOut) (u : View ItemOut) (apart : AreApart who whom) (reached : LinkReached u) (represents : ServerRepresents whom others h u) (k : ℕ) (off : u.conns k ≡ None)
     (seat : session_at k h.sessions ≡ None) (name : session_named who.account who.resource h.sessions ≡ None) (fits : h.next + 1 < 2 ^ 64) where
   abbrev newest : Session ItemOut
   newest = fresh h.next who.account who.resource k
 
-  abbrev pub pushed : Hall ItemOut
+  abbrev pub pushed : ServerState ItemOut
   pushed = record h { sessions = h.sessions ++ fresh h.next who.account who.resource k ∷ []; next = h.next + 1 }
 
   not_its : is_named whom.account whom.resource newest ≡ false
@@ -36,19 +36,19 @@ module _ (who whom : Identity) (others : ℕ → Login) (h : Hall ItemOut) (u : 
         | inr other ↦ other
       ]
 
-  pub pushed_stays : ServerShows whom others pushed u
+  pub pushed_stays : ServerRepresents whom others pushed u
   pushed_stays = record {
-    served = record { domain = shows.served.domain; account = shows.served.account; found = shows.served.found; archive = shows.served.archive };
-    hall = record { sessions = rule_pushed h.next who.account who.resource k h.sessions shows.hall.sessions fits seat name; conns = shows.hall.conns };
-    conns = shows.conns;
-    row = subst (IsRowShown u.row) (sym (pushed_past (is_named whom.account whom.resource) h.sessions newest not_its)) shows.row;
+    served = record { domain = represents.served.domain; account = represents.served.account; found = represents.served.found; archive = represents.served.archive };
+    server_state = record { sessions = rule_pushed h.next who.account who.resource k h.sessions represents.server_state.sessions fits seat name; conns = represents.server_state.conns };
+    conns = represents.conns;
+    row = subst (IsRowRepresented u.row) (sym (pushed_past (is_named whom.account whom.resource) h.sessions newest not_its)) represents.row;
     seated = λ j e s there at. seated j e s there (found_pushed (is_at j) h.sessions newest s at);
     owned = λ q t s there found. owned q t s there (found_pushed (is_numbered q) h.sessions newest s found);
-    free = let old = shows.free in omega arith;
+    free = let old = represents.free in omega arith;
   }
     where
       seated : (j : ℕ) (e : Conn ItemOut) (s : Session ItemOut) → u.conns j ≡ Some e → (session_at j h.sessions ≡ Some s) ⊎ ((session_at j h.sessions ≡ None) × (newest ≡ s) × (is_at j newest ≡ true)) → is_named whom.account whom.resource s ≡ true
-      seated j e s there (inl was) = shows.seated j e s there was
+      seated j e s there (inl was) = represents.seated j e s there was
       seated j e s there (inr new) =
           let same : k ≡ j = same_Some k j (seat_is (Some k) j new.2) in
           let none : u.conns j ≡ None = subst (λ n. u.conns n ≡ None) same off in
@@ -56,9 +56,9 @@ module _ (who whom : Identity) (others : ℕ → Login) (h : Hall ItemOut) (u : 
 
       owned : (q : ℕ) (t : links.Session ItemOut) (s : Session ItemOut) → u.sessions q ≡ Some t → (session_of q h.sessions ≡ Some s) ⊎ ((session_of q h.sessions ≡ None) × (newest ≡ s) × (is_numbered q newest ≡ true))
           → is_named whom.account whom.resource s ≡ true
-      owned q t s there (inl was) = shows.owned q t s there was
+      owned q t s there (inl was) = represents.owned q t s there was
       owned q t s there (inr new) =
           let same : h.next ≡ q = eqb-true h.next q new.2 in
           let given = (reached_rises u reached).given q t there in
-          let free = shows.free in
+          let free = represents.free in
           absurd (let no_way : ⊥ = omega arith in no_way)

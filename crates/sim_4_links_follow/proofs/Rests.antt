@@ -1,7 +1,7 @@
 -- Behind the success of a login no features stand: what is left is read as the same items before and behind it.
 use Rattle.std.proofs.Common.{◌≡◌, ℕ, true, false, List, [], ◌∷◌, ◌++◌, Some, map, append-nil, refl, sym, ap, ◌∙◌}
 use Rattle.sim_3_items.specs.Identities.{Identity, Login}
-use Rattle.sim_3_items.specs.WordItems.{down_item, is_behind_login}
+use Rattle.sim_3_items.specs.WordItems.{down_item, is_after_login}
 use Rattle.sim_2_links.specs.Links.{LinkKept}
 use Rattle.sim_2_links.specs.Stages.{Answers, Closes, Conn, Ending, Errs, Stage, Stands, Succeeded, client_of, down_of, tail_of}
 use Rattle.sim_2_links.specs.Views.{View}
@@ -40,12 +40,12 @@ module _ (who : Identity) (x : Login) (k : ℕ) where
   succeeded Answers ending more is first = no_tail ending more first
   succeeded _ ending more is first = absurd (let no_way : ⊥ = cc in no_way)
 
-  pub behind_success : (c : Conn ItemOut) (v : View ItemOut) (rest : List (DownWord ItemOut)) → LinkKept v → v.conns k ≡ Some c → c.client ≡ InResponse → down_words c.wires ≡ Succ ∷ rest
-      → map (down_item who x k (is_behind_login c.client)) rest ≡ map (down_item who x k (is_behind_login InHeader2)) rest
-  behind_success c v rest kept is client first =
+  pub after_success : (c : Conn ItemOut) (v : View ItemOut) (rest : List (DownWord ItemOut)) → LinkKept v → v.conns k ≡ Some c → c.client ≡ InResponse → down_words c.wires ≡ Succ ∷ rest
+      → map (down_item who x k (is_after_login c.client)) rest ≡ map (down_item who x k (is_after_login InHeader2)) rest
+  after_success c v rest kept is client first =
       let conn = kept.conns k c is in
       let whole = whole_first_down c.wires Succ rest first in
       let tail : tail_of c.ending ≡ rest ++ whole.0 = succeeded conn.stage c.ending (rest ++ whole.0) (sym conn.at.client ∙ client) (sym conn.at.down ∙ whole.1) in
       let all : map (down_item who x k false) (rest ++ whole.0) ≡ map (down_item who x k true) (rest ++ whole.0) =
       ap (map (down_item who x k false)) (sym tail) ∙ tail_same c.ending ∙ ap (map (down_item who x k true)) tail in
-      ap (λ b. map (down_item who x k (is_behind_login b)) rest) client ∙ front_same (down_item who x k false) (down_item who x k true) rest whole.0 all
+      ap (λ b. map (down_item who x k (is_after_login b)) rest) client ∙ front_same (down_item who x k false) (down_item who x k true) rest whole.0 all

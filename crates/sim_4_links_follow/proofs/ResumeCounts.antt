@@ -9,7 +9,7 @@ use Rattle.std.specs.List.{Contains}
 use Rattle.sm_acks.proofs.Directions.{kept_reached}
 use Rattle.sm_acks.specs.Counters.{ahead}
 use Rattle.sm_acks.specs.Delivery.{Direction, Reached, queue_of}
-use Rattle.srv_state.specs.State.{Hall}
+use Rattle.srv_state.specs.State.{ServerState}
 use Rattle.sim_3_items.specs.Identities.{Identity, Login}
 use Rattle.sim_3_items.specs.Servers.{IsRow}
 use Rattle.sim_3_items.specs.WordItems.{told_count}
@@ -50,30 +50,30 @@ all_put d acked queue reached same is few =
     omega arith
 
 -- a count that is behind is far ahead modulo 2 ^ 32
-behind_ahead : (n a l : ℕ) → n + 1 ≤ a → a + l < 2 ^ 32 → l + 1 ≤ ahead (n % 2 ^ 32) (a % 2 ^ 32)
-behind_ahead n a l behind few = omega arith
+after_ahead : (n a l : ℕ) → n + 1 ≤ a → a + l < 2 ^ 32 → l + 1 ≤ ahead (n % 2 ^ 32) (a % 2 ^ 32)
+after_ahead n a l following few = omega arith
 
 is_high : (q a : ℕ) → q + 1 ≤ a → nat_lt q a ≡ true
 is_high q a above = grind (arith, nat_tests)
 
 pub high_so : (r : Row ItemOut) (n : ℕ) (s : Session ItemOut) → IsRow r s → n + 1 ≤ r.acked → r.acked + length r.queue < 2 ^ 32 → is_too_high (told_count n) s ≡ true
-high_so r n s is behind few =
-    let far : length r.queue + 1 ≤ ahead (told_count n) (told_count r.acked) = behind_ahead n r.acked (length r.queue) behind few in
+high_so r n s is following few =
+    let far : length r.queue + 1 ≤ ahead (told_count n) (told_count r.acked) = after_ahead n r.acked (length r.queue) following few in
     is_high (length s.waiting) (ahead (told_count n) s.acked)
     (subst (λ a. length s.waiting + 1 ≤ ahead (told_count n) a) (sym is.acked) (subst (λ q. length q + 1 ≤ ahead (told_count n) (told_count r.acked)) (sym is.waiting) far))
 
 -- it names a place, on the connection that the client works on or late
-pub record IsPlace (v : View ItemOut) (k n : ℕ) (r : Row ItemOut) : Type 0 where
+pub record IsPosition (v : View ItemOut) (k n : ℕ) (r : Row ItemOut) : Type 0 where
   pub within : IsWithin r.acked r.queue n
   pub here : (v.here ≡ Some k) ⊎ ((has v.here k ≡ false) × (r.acked ≤ n))
 
 -- it is behind
-pub record IsBehind (v : View ItemOut) (k n : ℕ) (r : Row ItemOut) : Type 0 where
+pub record IsAfter (v : View ItemOut) (k n : ℕ) (r : Row ItemOut) : Type 0 where
   pub left : has v.here k ≡ false
-  pub behind : n + 1 ≤ r.acked
+  pub following : n + 1 ≤ r.acked
   pub few : r.acked + length r.queue < 2 ^ 32
 
-module _ (who : Identity) (logins : ℕ → Login) (h : Hall ItemOut) (wires : Table ItemWire) (v : View ItemOut) (k q n : ℕ) (p : IsFirst who logins h wires v k (ResumeAt q n)) (countable : AreCountable v) (s : Session ItemOut)
+module _ (who : Identity) (logins : ℕ → Login) (h : ServerState ItemOut) (wires : Table ItemWire) (v : View ItemOut) (k q n : ℕ) (p : IsFirst who logins h wires v k (ResumeAt q n)) (countable : AreCountable v) (s : Session ItemOut)
     (found : session_resumed (previd_of q) who.account h.sessions ≡ Some s) (own : IsOwnSession who h v q s) where
   late_within : own.row.acked ≤ n → IsWithin own.row.acked own.row.queue n
   late_within low =
@@ -90,7 +90,7 @@ module _ (who : Identity) (logins : ℕ → Login) (h : Hall ItemOut) (wires : T
       let r = kept.row own.row own.is_row in
       all_put r.session.down own.row.acked own.row.queue (kept.sessions own.row.number r.session r.is).down r.acked r.queue (countable.few own.row.number r.session r.is)
 
-  pub count_so : IsPlace v k n own.row ⊎ IsBehind v k n own.row
+  pub count_so : IsPosition v k n own.row ⊎ IsAfter v k n own.row
   count_so =
       elim (cases_Bool (has v.here k)) [
         | inl works ↦
@@ -100,6 +100,6 @@ module _ (who : Identity) (logins : ℕ → Login) (h : Hall ItemOut) (wires : T
         | inr left ↦ late left (cases_Bool (nat_lt n own.row.acked))
       ]
     where
-      late : has v.here k ≡ false → (nat_lt n own.row.acked ≡ true) ⊎ (nat_lt n own.row.acked ≡ false) → IsPlace v k n own.row ⊎ IsBehind v k n own.row
-      late left (inl behind) = inr (record { left = left; behind = grind (arith, nat_tests); few = few_put })
+      late : has v.here k ≡ false → (nat_lt n own.row.acked ≡ true) ⊎ (nat_lt n own.row.acked ≡ false) → IsPosition v k n own.row ⊎ IsAfter v k n own.row
+      late left (inl following) = inr (record { left = left; following = grind (arith, nat_tests); few = few_put })
       late left (inr low) = let enough : own.row.acked ≤ n = grind (arith, nat_tests) in inl (record { within = late_within enough; here = inr (left, enough) })

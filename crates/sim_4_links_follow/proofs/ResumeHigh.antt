@@ -3,14 +3,14 @@
 use Rattle.std.proofs.Common.{◌≡◌, ℕ, ◌==◌, Bool, true, false, not, List, [], ◌∷◌, Option, Some, None, Ok, Err, cond, map, refl, sym, ap, subst, ◌∙◌, inl, inr}
 use Rattle.std.proofs.lemmas.Bool.{cases_Bool, eq-eqb}
 use Rattle.std.specs.List.{filter}
-use Rattle.srv_state.specs.State.{Hall, Step, with_sessions, without_conn}
+use Rattle.srv_state.specs.State.{ServerState, Step, with_sessions, without_conn}
 use Rattle.srv_state.specs.Steps.{Act, Close, Resume, Say, acted}
 use Rattle.srv_state.specs.Streams.{parting_where}
 use Rattle.sim_3_items.specs.Identities.{Identity, Login}
 use Rattle.sim_3_items.specs.Pipes.{IsWire}
 use Rattle.sim_3_items.specs.Sent.{sent_under}
-use Rattle.sim_3_items.specs.Servers.{IsRowShown}
-use Rattle.sim_3_items.specs.WordItems.{down_item, is_behind_login, told_count, up_item}
+use Rattle.sim_3_items.specs.Servers.{IsRowRepresented}
+use Rattle.sim_3_items.specs.WordItems.{down_item, is_after_login, told_count, up_item}
 use Rattle.sim_3_items.specs.ItemMoves.{step_of}
 use Rattle.sim_3_items.specs.ItemPipes.{ItemWire, closed, emptied, handed_up, put_down, shut}
 use Rattle.sim_3_items.specs.ItemWorlds.{itself}
@@ -29,9 +29,9 @@ use Rattle.sm_resumption.specs.Previds.{previd_of}
 use Rattle.sm_resumption.specs.declared.answers.ResumeFault.TheVariants.{TooHigh}
 use Rattle.sim_3_images.proofs.RuleKept.{named_gone, none_left}
 use Rattle.sim_4_links_follow.proofs.HandMoves.{kept_here, wire_here}
-use Rattle.sim_4_links_follow.proofs.Leavings.{left_hall, left_shows}
+use Rattle.sim_4_links_follow.proofs.Leavings.{left_represents, left_server_state}
 use Rattle.sim_4_links_follow.proofs.Removed.{all_left}
-use Rattle.sim_4_links_follow.proofs.ResumeCounts.{IsBehind, high_so}
+use Rattle.sim_4_links_follow.proofs.ResumeCounts.{IsAfter, high_so}
 use Rattle.sim_4_links_follow.proofs.ResumeRows.{IsOwnSession}
 use Rattle.sim_4_links_follow.proofs.ResumeTaken.{first_word, nobody}
 use Rattle.sim_4_links_follow.proofs.Shuts.{shut_client, shuts_are_for, shuts_at, shuts_here}
@@ -48,8 +48,8 @@ use Rattle.xml_writer.specs.Items.{Closing, ItemOut}
 nothing_put : (some others : List ItemOut) (w : ItemWire) → w.down.ended ≡ true → shut (put_down some w) ≡ shut (put_down others w)
 nothing_put some others w ended = ap (λ d. record w { up = emptied w.up; down = closed d }) (entered_ended some w.down ended ∙ sym (entered_ended others w.down ended))
 
-module _ (who : Identity) (logins : ℕ → Login) (h : Hall ItemOut) (wires : Table ItemWire) (v : View ItemOut) (k q n : ℕ) (p : IsFirst who logins h wires v k (ResumeAt q n)) (s : Session ItemOut) (found : session_resumed (previd_of q) who.account h.sessions ≡ Some s)
-    (own : IsOwnSession who h v q s) (behind : IsBehind v k n own.row) where
+module _ (who : Identity) (logins : ℕ → Login) (h : ServerState ItemOut) (wires : Table ItemWire) (v : View ItemOut) (k q n : ℕ) (p : IsFirst who logins h wires v k (ResumeAt q n)) (s : Session ItemOut) (found : session_resumed (previd_of q) who.account h.sessions ≡ Some s)
+    (own : IsOwnSession who h v q s) (following : IsAfter v k n own.row) where
   pub kept : LinkKept v
   kept = kept_here who logins h wires v k (ResumeAt q n) p
 
@@ -57,7 +57,7 @@ module _ (who : Identity) (logins : ℕ → Login) (h : Hall ItemOut) (wires : T
   hh = told_count n
 
   pub high : is_too_high hh s ≡ true
-  high = high_so own.row n s own.live behind.behind behind.few
+  high = high_so own.row n s own.live following.following following.few
 
   abbrev pub stays : Session ItemOut → Bool
   stays t = not (t.shown.number == s.shown.number)
@@ -81,18 +81,18 @@ module _ (who : Identity) (logins : ℕ → Login) (h : Hall ItemOut) (wires : T
   alone = all_left (is_at k) (filter stays h.sessions) (none_left (is_at k) stays h.sessions (nobody who logins h wires v k q n p s found own))
 
   module _ (parked : own.row.on ≡ None) where
-    abbrev pub high_hall : Hall ItemOut
-    high_hall = left_hall who logins h v kept p.server k p.conn p.is stays
+    abbrev pub high_server_state : ServerState ItemOut
+    high_server_state = left_server_state who logins h v kept p.server k p.conn p.is stays
 
     abbrev ends : List (Session ItemOut) → Step ItemOut
-    ends ss = record { hall = with_sessions (without_at k ss) (without_conn k h); outs = shuts_at k high_words }
+    ends ss = record { server_state = with_sessions (without_at k ss) (without_conn k h); outs = shuts_at k high_words }
 
-    pub high_step : on_item k (up_item who (logins k) (ResumeAt q n)) h ≡ record { hall = high_hall; outs = shuts_at k high_words }
+    pub high_step : on_item k (up_item who (logins k) (ResumeAt q n)) h ≡ record { server_state = high_server_state; outs = shuts_at k high_words }
     high_step =
         high_begins None (own.live.conn ∙ parked)
         ∙ ap (λ o. ends (after_resume hh k o h.sessions)) found
         ∙ ap (λ b. ends (cond b (without s.shown.number h.sessions) (with_session s.shown.number (resumes hh k) h.sessions))) high
-        ∙ ap (λ ss. record { hall = with_sessions ss (without_conn k h); outs = shuts_at k high_words }) alone
+        ∙ ap (λ ss. record { server_state = with_sessions ss (without_conn k h); outs = shuts_at k high_words }) alone
 
     abbrev ended : Conn ItemOut
     ended = shut_conn (Errs word.TooHigh) p.conn
@@ -103,17 +103,17 @@ module _ (who : Identity) (logins : ℕ → Login) (h : Hall ItemOut) (wires : T
     stopped : is_flowing p.conn.wires ≡ false
     stopped =
         elim (cases_Bool (is_flowing p.conn.wires)) [
-          | inl flows ↦ let works = ((kept.conns k p.conn p.is).piped.flowing flows).0 in let left = behind.left in absurd (let no_way : ⊥ = cc in no_way)
+          | inl flows ↦ let works = ((kept.conns k p.conn p.is).piped.flowing flows).0 in let left = following.left in absurd (let no_way : ⊥ = cc in no_way)
           | inr stops ↦ stops
         ]
 
     nameless : session_named who.account who.resource (filter stays h.sessions) ≡ None
-    nameless = named_gone stays who.account who.resource h.next h.sessions s p.server.hall.sessions own.named (ap not (eq-eqb s.shown.number s.shown.number refl))
+    nameless = named_gone stays who.account who.resource h.next h.sessions s p.server.server_state.sessions own.named (ap not (eq-eqb s.shown.number s.shown.number refl))
 
     abbrev said : List ItemOut
-    said = map (down_item who (logins k) k (is_behind_login p.conn.client)) (tail_of (Errs word.TooHigh))
+    said = map (down_item who (logins k) k (is_after_login p.conn.client)) (tail_of (Errs word.TooHigh))
 
-    pub high_follows : StepFollows who logins wires v k p.wire (record { hall = high_hall; outs = shuts_at k high_words }) []
+    pub high_follows : StepFollows who logins wires v k p.wire (record { server_state = high_server_state; outs = shuts_at k high_words }) []
     high_follows =
         let w : IsWire who (logins k) k p.conn p.wire = wire_here who logins h wires v k (ResumeAt q n) p in
         let same : sent_under k (shuts_at k high_words) (handed_up p.wire) ≡ shut (put_down said p.wire) =
@@ -123,11 +123,11 @@ module _ (who : Identity) (logins : ℕ → Login) (h : Hall ItemOut) (wires : T
           next = next;
           leads = (
             next,
-            record { conn = p.conn; is = p.is; h = n; row = own.row; is_row = own.is_row; off = parked; rest = p.rest; first = first_word who logins h wires v k q n p s found own; high = inl behind.behind; gives = refl },
+            record { conn = p.conn; is = p.is; h = n; row = own.row; is_row = own.is_row; off = parked; rest = p.rest; first = first_word who logins h wires v k q n p s found own; high = inl following.following; gives = refl },
             refl,
           );
           does = refl;
-          server = left_shows who logins h v kept p.server k p.conn p.is stays ended None v.sessions (known_same v) refl (subst (IsRowShown None) (sym nameless) tt);
+          server = left_represents who logins h v kept p.server k p.conn p.is stays ended None v.sessions (known_same v) refl (subst (IsRowRepresented None) (sym nameless) tt);
           pipes =
               shown_sent who logins wires v next k ended p.wire (handed_up p.wire) (shuts_at k high_words) p.pipes (λ j. refl) (shuts_are_for k high_words)
               (subst (IsWire who (logins k) k ended) (sym same) (wire_shut who (logins k) k p.conn p.wire w (Errs word.TooHigh)));

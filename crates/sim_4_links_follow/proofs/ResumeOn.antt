@@ -4,14 +4,14 @@ use Rattle.std.proofs.Common.{◌≡◌, ◌≢◌, ℕ, ◌==◌, Bool, false, 
 use Rattle.std.proofs.lemmas.Option.{same_Some}
 use Rattle.std.specs.List.{filter, find}
 use Rattle.std.specs.Option.{option_map}
-use Rattle.srv_state.specs.State.{Hall, Put, Step, with_sessions, without_conn}
+use Rattle.srv_state.specs.State.{Put, ServerState, Step, with_sessions, without_conn}
 use Rattle.srv_state.specs.Steps.{Act, Ask, Resume, Say, acted}
 use Rattle.srv_state.specs.Streams.{parting_where}
 use Rattle.srv_state.specs.declared.limits.TheConstants.{ASKS_AT}
 use Rattle.sim_3_items.specs.Identities.{Identity, Login}
-use Rattle.sim_3_items.specs.Pipes.{PipesShow}
+use Rattle.sim_3_items.specs.Pipes.{PipesRepresent}
 use Rattle.sim_3_items.specs.Sent.{sent, sent_under}
-use Rattle.sim_3_items.specs.Servers.{ServerShows}
+use Rattle.sim_3_items.specs.Servers.{ServerRepresents}
 use Rattle.sim_3_items.specs.WordItems.{told_count, up_item}
 use Rattle.sim_3_items.specs.ItemMoves.{step_of}
 use Rattle.sim_3_items.specs.ItemPipes.{ItemWire, handed_up}
@@ -38,15 +38,15 @@ use Rattle.sim_3_images.proofs.RuleKept.{changes_one, either, found_mapped, none
 use Rattle.sim_4_links_follow.proofs.Former.{keeps_both, pipes_as, sent_apart, shut_first}
 use Rattle.sim_4_links_follow.proofs.HandMoves.{kept_here}
 use Rattle.sim_4_links_follow.proofs.Leavings.{unseated}
-use Rattle.sim_4_links_follow.proofs.Parkings.{off, off_leaves, off_named, off_shows}
+use Rattle.sim_4_links_follow.proofs.Parkings.{off, off_leaves, off_named, off_represents}
 use Rattle.sim_4_links_follow.proofs.Removed.{all_left}
-use Rattle.sim_4_links_follow.proofs.ResumeCounts.{IsBehind, IsPlace}
+use Rattle.sim_4_links_follow.proofs.ResumeCounts.{IsAfter, IsPosition}
 use Rattle.sim_4_links_follow.proofs.ResumeHigh.{alone, high, high_begins, high_follows, high_words, stays}
 use Rattle.sim_4_links_follow.proofs.ResumeRows.{IsOwnSession, asked_so, asked_where, said, within_so}
 use Rattle.sim_4_links_follow.proofs.ResumeTaken.{back_follows, few}
 use Rattle.sim_4_links_follow.proofs.Shuts.{shuts_are_for, shuts_at}
 use Rattle.sim_4_links_follow.proofs.StrangeRows.{ready, resume_step}
-use Rattle.sim_4_links_follow.proofs.Swapped.{asked_hall, asked_outs, none_mapped, off_then, off_without, removed_swapped, sent_swapped}
+use Rattle.sim_4_links_follow.proofs.Swapped.{asked_outs, asked_server_state, none_mapped, off_then, off_without, removed_swapped, sent_swapped}
 use Rattle.sim_4_links_follow.specs.Taking.{IsFirst, IsTaken, StepFollows, on_item}
 use Rattle.srv_handlers.specs.Resumptions.{asking, resent_where, resuming, saying}
 use Rattle.sim_4_links_follow.proofs.Emitted.{puts_at}
@@ -56,7 +56,7 @@ use Rattle.sim_4_links_follow.proofs.Placed.{keeps_at}
 use Rattle.sim_4_links_follow.proofs.Servings.{known_altered}
 use Rattle.xml_writer.specs.Items.{Closing, ItemOut}
 
-module _ (who : Identity) (logins : ℕ → Login) (h : Hall ItemOut) (wires : Table ItemWire) (v : View ItemOut) (k q n : ℕ) (p : IsFirst who logins h wires v k (ResumeAt q n)) (s : Session ItemOut) (found : session_resumed (previd_of q) who.account h.sessions ≡ Some s)
+module _ (who : Identity) (logins : ℕ → Login) (h : ServerState ItemOut) (wires : Table ItemWire) (v : View ItemOut) (k q n : ℕ) (p : IsFirst who logins h wires v k (ResumeAt q n)) (s : Session ItemOut) (found : session_resumed (previd_of q) who.account h.sessions ≡ Some s)
     (own : IsOwnSession who h v q s) (f : ℕ) (on : own.row.on ≡ Some f) where
   kept : LinkKept v
   kept = kept_here who logins h wires v k (ResumeAt q n) p
@@ -98,8 +98,8 @@ module _ (who : Identity) (logins : ℕ → Login) (h : Hall ItemOut) (wires : T
   abbrev off_view : View ItemOut
   off_view = record v { conns = with_at f closed v.conns; row = Some (record row { on = None }); sessions = alter g v.sessions }
 
-  abbrev hall : Hall ItemOut
-  hall = with_sessions (with_session m off h.sessions) (without_conn f h)
+  abbrev server_state : ServerState ItemOut
+  server_state = with_sessions (with_session m off h.sessions) (without_conn f h)
 
   abbrev off_wires : Table ItemWire
   off_wires = sent (shuts_at f words) wires
@@ -107,17 +107,17 @@ module _ (who : Identity) (logins : ℕ → Login) (h : Hall ItemOut) (wires : T
   detaches : IsDetached f (Errs Conflict) v off_view
   detaches = record { conn = former; is = placed.1; row = row; is_row = own.is_row; on = on; counted = own.counted; reason = tt; gives = refl }
 
-  shows : ServerShows who logins hall off_view
-  shows = off_shows m off off_leaves who logins h v p.server f former placed.1 row s own.named refl own.live closed (alter g v.sessions) (known_altered g v) refl
+  represents : ServerRepresents who logins server_state off_view
+  represents = off_represents m off off_leaves who logins h v p.server f former placed.1 row s own.named refl own.live closed (alter g v.sessions) (known_altered g v) refl
 
-  pipes : PipesShow who logins off_wires off_view
+  pipes : PipesRepresent who logins off_wires off_view
   pipes = record { each = (shut_first who logins wires v p.pipes f k apart former (Errs Conflict) words placed.1 refl).each }
 
-  abbrev first : IsFirst who logins hall off_wires off_view k (ResumeAt q n)
+  abbrev first : IsFirst who logins server_state off_wires off_view k (ResumeAt q n)
   first = record {
     normal = p.normal;
     reached = link_more (Detaches f (Errs Conflict)) v off_view p.reached detaches;
-    server = shows;
+    server = represents;
     pipes = pipes;
     conn = p.conn;
     is = at_other f closed v.conns k apart ∙ p.is;
@@ -127,7 +127,7 @@ module _ (who : Identity) (logins : ℕ → Login) (h : Hall ItemOut) (wires : T
     there = ap (option_map (sent_under k (shuts_at f words))) p.there ∙ ap Some (shuts_are_for f words k p.wire apart);
   }
 
-  off_found : session_resumed (previd_of q) who.account hall.sessions ≡ Some (off s)
+  off_found : session_resumed (previd_of q) who.account server_state.sessions ≡ Some (off s)
   off_found =
       found_mapped (is_resumed_by (previd_of q) who.account) (changes_one m off) h.sessions same
       ∙ ap (option_map (changes_one m off)) found ∙ ap Some (change_here m off s refl)
@@ -135,7 +135,7 @@ module _ (who : Identity) (logins : ℕ → Login) (h : Hall ItemOut) (wires : T
       same : (t : Session ItemOut) → is_resumed_by (previd_of q) who.account (changes_one m off t) ≡ is_resumed_by (previd_of q) who.account t
       same t = either (λ (u : Session ItemOut). is_resumed_by (previd_of q) who.account u ≡ is_resumed_by (previd_of q) who.account t) (t.shown.number == m) (off t) t refl refl
 
-  abbrev off_own : IsOwnSession who hall off_view q (off s)
+  abbrev off_own : IsOwnSession who server_state off_view q (off s)
   off_own = record {
     number = own.number;
     named = off_named m off off_leaves who logins h v p.server f former placed.1 row s own.named refl own.live;
@@ -146,17 +146,17 @@ module _ (who : Identity) (logins : ℕ → Login) (h : Hall ItemOut) (wires : T
   }
 
   unseated_there : find (is_at f) (with_session m off h.sessions) ≡ None
-  unseated_there = unseated who logins hall off_view (link_kept off_view first.reached) shows f closed (at_same f closed v.conns) (ended_off former.phase Conflict former.gone)
+  unseated_there = unseated who logins server_state off_view (link_kept off_view first.reached) represents f closed (at_same f closed v.conns) (ended_off former.phase Conflict former.gone)
 
   -- what follows behind it follows
-  behind_it : (step last : Step ItemOut) → step.hall ≡ last.hall → ((j : ℕ) → sent step.outs (with_at k (handed_up p.wire) wires) j ≡ sent last.outs (with_at k (handed_up p.wire) off_wires) j)
+  after_it : (step last : Step ItemOut) → step.server_state ≡ last.server_state → ((j : ℕ) → sent step.outs (with_at k (handed_up p.wire) wires) j ≡ sent last.outs (with_at k (handed_up p.wire) off_wires) j)
       → StepFollows who logins off_wires off_view k p.wire last [] → StepFollows who logins wires v k p.wire step []
-  behind_it step last same alike then_so = record {
+  after_it step last same alike then_so = record {
     moves = Detaches f (Errs Conflict) ∷ then_so.moves;
     next = then_so.next;
     leads = (off_view, detaches, then_so.leads);
     does = then_so.does;
-    server = subst (λ l. ServerShows who logins l then_so.next) (sym same) then_so.server;
+    server = subst (λ l. ServerRepresents who logins l then_so.next) (sym same) then_so.server;
     pipes = pipes_as who logins (sent last.outs (with_at k (handed_up p.wire) off_wires)) (sent step.outs (with_at k (handed_up p.wire) wires)) then_so.next alike then_so.pipes;
     client = record {
       here = then_so.client.here;
@@ -169,9 +169,9 @@ module _ (who : Identity) (logins : ℕ → Login) (h : Hall ItemOut) (wires : T
 
   -- ---- the count names a place
 
-  module _ (place : IsPlace v k n row) where
+  module _ (position : IsPosition v k n row) where
     not_high : is_too_high hh s ≡ false
-    not_high = within_so row n place.within (few who logins h wires v k q n p s found own) s own.live
+    not_high = within_so row n position.within (few who logins h wires v k q n p s found own) s own.live
 
     abbrev due : Bool
     due = nat_le ASKS_AT (length (resent hh s))
@@ -188,7 +188,7 @@ module _ (who : Identity) (logins : ℕ → Login) (h : Hall ItemOut) (wires : T
     abbrev tail : List (Session ItemOut) → Step ItemOut
     tail ss =
         acted itself (Say k (resumed_item m s.handled) ∷ saying k (resent hh s) (asking itself k m due))
-        (record { hall = with_sessions (without_at f (with_session m (asks false) ss)) (without_conn f h); outs = shuts_at f words })
+        (record { server_state = with_sessions (without_at f (with_session m (asks false) ss)) (without_conn f h); outs = shuts_at f words })
 
     abbrev acts : Option ℕ → List (Act ItemOut)
     acts o =
@@ -207,10 +207,10 @@ module _ (who : Identity) (logins : ℕ → Login) (h : Hall ItemOut) (wires : T
         ap (λ ss. without_at f (with_session m (asks false) ss)) (sym (off_then m back (λ t. refl) h.sessions))
         ∙ all_left (is_at f) (comes (with_session m off h.sessions)) nobody_there
 
-    abbrev last_hall : List (Session ItemOut) → Hall ItemOut
-    last_hall ss = with_sessions ss (without_conn f h)
+    abbrev last_server_state : List (Session ItemOut) → ServerState ItemOut
+    last_server_state ss = with_sessions ss (without_conn f h)
 
-    step : on_item k (up_item who (logins k) (ResumeAt q n)) h ≡ asked_where k m due (last_hall (comes (with_session m off h.sessions))) (shuts_at f words ++ puts_at k items)
+    step : on_item k (up_item who (logins k) (ResumeAt q n)) h ≡ asked_where k m due (last_server_state (comes (with_session m off h.sessions))) (shuts_at f words ++ puts_at k items)
     step =
         resume_step who logins h wires v k q n p
         ∙ ap (λ o. acted itself (resuming itself k who.account (previd_of q) hh (resume_answer hh o) (resent_where hh o)) (step_of h)) found
@@ -218,64 +218,64 @@ module _ (who : Identity) (logins : ℕ → Login) (h : Hall ItemOut) (wires : T
         ∙ ap (λ o. acted itself (acts o) (step_of h)) (own.live.conn ∙ on)
         ∙ ap (λ o. tail (after_resume hh k o h.sessions)) found
         ∙ ap (λ b. tail (cond b (without m h.sessions) (with_session m back h.sessions))) not_high
-        ∙ said k (resent hh s) (asking itself k m due) (last_hall (without_at f (comes h.sessions))) (shuts_at f words ++ Put k (resumed_item m s.handled) ∷ [])
-        ∙ asked_so k m due (last_hall (without_at f (comes h.sessions))) (shuts_at f words ++ puts_at k items)
-        ∙ ap (λ ss. asked_where k m due (last_hall ss) (shuts_at f words ++ puts_at k items)) sessions_same
+        ∙ said k (resent hh s) (asking itself k m due) (last_server_state (without_at f (comes h.sessions))) (shuts_at f words ++ Put k (resumed_item m s.handled) ∷ [])
+        ∙ asked_so k m due (last_server_state (without_at f (comes h.sessions))) (shuts_at f words ++ puts_at k items)
+        ∙ ap (λ ss. asked_where k m due (last_server_state ss) (shuts_at f words ++ puts_at k items)) sessions_same
 
-    pub place_follows : IsTaken who logins h wires v k p.wire (ResumeAt q n)
-    place_follows =
-        let last : Step ItemOut = asked_where k m due (last_hall (comes (with_session m off h.sessions))) (puts_at k items) in
-        let all : Step ItemOut = asked_where k m due (last_hall (comes (with_session m off h.sessions))) (shuts_at f words ++ puts_at k items) in
+    pub position_follows : IsTaken who logins h wires v k p.wire (ResumeAt q n)
+    position_follows =
+        let last : Step ItemOut = asked_where k m due (last_server_state (comes (with_session m off h.sessions))) (puts_at k items) in
+        let all : Step ItemOut = asked_where k m due (last_server_state (comes (with_session m off h.sessions))) (shuts_at f words ++ puts_at k items) in
         subst (λ t. StepFollows who logins wires v k p.wire t []) (sym step)
-        (behind_it all last (asked_hall k m due (last_hall (comes (with_session m off h.sessions))) (shuts_at f words) (puts_at k items))
+        (after_it all last (asked_server_state k m due (last_server_state (comes (with_session m off h.sessions))) (shuts_at f words) (puts_at k items))
         (λ j.
-        ap (λ o. sent o (with_at k (handed_up p.wire) wires) j) (asked_outs k m due (last_hall (comes (with_session m off h.sessions))) (shuts_at f words) (puts_at k items))
+        ap (λ o. sent o (with_at k (handed_up p.wire) wires) j) (asked_outs k m due (last_server_state (comes (with_session m off h.sessions))) (shuts_at f words) (puts_at k items))
         ∙ sent_apart who logins wires v p.pipes f k apart (shuts_at f words) last.outs p.wire p.there (shuts_are_for f words) j)
-        (back_follows who logins hall off_wires off_view k q n first (off s) off_found off_own refl (record { low = place.within.low; high = place.within.high }) place.here))
+        (back_follows who logins server_state off_wires off_view k q n first (off s) off_found off_own refl (record { low = position.within.low; high = position.within.high }) position.here))
 
   -- ---- it is behind
 
-  module _ (behind : IsBehind v k n row) where
+  module _ (following : IsAfter v k n row) where
     abbrev left_of : List (Session ItemOut) → List (Session ItemOut)
-    left_of ss = filter (stays who logins h wires v k q n p s found own behind) ss
+    left_of ss = filter (stays who logins h wires v k q n p s found own following) ss
 
     abbrev told : List ItemOut
-    told = high_words who logins h wires v k q n p s found own behind
+    told = high_words who logins h wires v k q n p s found own following
 
-    abbrev off_behind : IsBehind off_view k n (record row { on = None })
-    off_behind = record { left = behind.left; behind = behind.behind; few = behind.few }
+    abbrev off_after : IsAfter off_view k n (record row { on = None })
+    off_after = record { left = following.left; following = following.following; few = following.few }
 
     abbrev ends : List (Session ItemOut) → Step ItemOut
-    ends ss = record { hall = with_sessions (without_at f (without_at k ss)) (without_conn f (without_conn k h)); outs = shuts_at k told ++ shuts_at f words }
+    ends ss = record { server_state = with_sessions (without_at f (without_at k ss)) (without_conn f (without_conn k h)); outs = shuts_at k told ++ shuts_at f words }
 
     nobody_left : find (is_at f) (left_of h.sessions) ≡ None
     nobody_left =
-        ap (find (is_at f)) (sym (off_without m h.sessions)) ∙ none_left (is_at f) (stays who logins h wires v k q n p s found own behind) (with_session m off h.sessions) unseated_there
+        ap (find (is_at f)) (sym (off_without m h.sessions)) ∙ none_left (is_at f) (stays who logins h wires v k q n p s found own following) (with_session m off h.sessions) unseated_there
 
     left_same : without_at f (without_at k (without m h.sessions)) ≡ left_of (with_session m off h.sessions)
     left_same =
-        ap (without_at f) (alone who logins h wires v k q n p s found own behind)
+        ap (without_at f) (alone who logins h wires v k q n p s found own following)
         ∙ all_left (is_at f) (left_of h.sessions) nobody_left
         ∙ sym (off_without m h.sessions)
 
-    abbrev last_of : Hall ItemOut
-    last_of = with_sessions (left_of (with_session m off h.sessions)) (without_conn k hall)
+    abbrev last_of : ServerState ItemOut
+    last_of = with_sessions (left_of (with_session m off h.sessions)) (without_conn k server_state)
 
-    high_step : on_item k (up_item who (logins k) (ResumeAt q n)) h ≡ record { hall = last_of; outs = shuts_at k told ++ shuts_at f words }
+    high_step : on_item k (up_item who (logins k) (ResumeAt q n)) h ≡ record { server_state = last_of; outs = shuts_at k told ++ shuts_at f words }
     high_step =
-        high_begins who logins h wires v k q n p s found own behind (Some f) (own.live.conn ∙ on)
+        high_begins who logins h wires v k q n p s found own following (Some f) (own.live.conn ∙ on)
         ∙ ap (λ o. ends (after_resume hh k o h.sessions)) found
-        ∙ ap (λ b. ends (cond b (without m h.sessions) (with_session m (resumes hh k) h.sessions))) (high who logins h wires v k q n p s found own behind)
-        ∙ ap (λ ss. record { hall = with_sessions ss (without_conn f (without_conn k h)); outs = shuts_at k told ++ shuts_at f words }) left_same
-        ∙ ap (λ cs. record { hall = record h { sessions = left_of (with_session m off h.sessions); conns = cs }; outs = shuts_at k told ++ shuts_at f words }) (removed_swapped f k apart h.conns)
+        ∙ ap (λ b. ends (cond b (without m h.sessions) (with_session m (resumes hh k) h.sessions))) (high who logins h wires v k q n p s found own following)
+        ∙ ap (λ ss. record { server_state = with_sessions ss (without_conn f (without_conn k h)); outs = shuts_at k told ++ shuts_at f words }) left_same
+        ∙ ap (λ cs. record { server_state = record h { sessions = left_of (with_session m off h.sessions); conns = cs }; outs = shuts_at k told ++ shuts_at f words }) (removed_swapped f k apart h.conns)
 
-    pub behind_follows : IsTaken who logins h wires v k p.wire (ResumeAt q n)
-    behind_follows =
-        let last : Step ItemOut = record { hall = last_of; outs = shuts_at k told } in
-        let all : Step ItemOut = record { hall = last_of; outs = shuts_at k told ++ shuts_at f words } in
+    pub after_follows : IsTaken who logins h wires v k p.wire (ResumeAt q n)
+    after_follows =
+        let last : Step ItemOut = record { server_state = last_of; outs = shuts_at k told } in
+        let all : Step ItemOut = record { server_state = last_of; outs = shuts_at k told ++ shuts_at f words } in
         subst (λ t. StepFollows who logins wires v k p.wire t []) (sym high_step)
-        (behind_it all last refl
+        (after_it all last refl
         (λ j.
         sent_swapped f k (shuts_at f words) (shuts_at k told) apart (shuts_are_for f words) (shuts_are_for k told) (with_at k (handed_up p.wire) wires) j
         ∙ sent_apart who logins wires v p.pipes f k apart (shuts_at f words) (shuts_at k told) p.wire p.there (shuts_are_for f words) j)
-        (high_follows who logins hall off_wires off_view k q n first (off s) off_found off_own off_behind refl))
+        (high_follows who logins server_state off_wires off_view k q n first (off s) off_found off_own off_after refl))

@@ -5,11 +5,11 @@ use Rattle.std.proofs.lemmas.Bool.Decides.{nat_tests}
 use Rattle.std.proofs.lemmas.List.{append-nil, append_assoc}
 use Rattle.std.proofs.lemmas.List.Elements.{All-drop}
 use Rattle.sm_acks.specs.Counters.{ahead}
-use Rattle.srv_state.specs.State.{Hall, Out, Put, Step, with_sessions}
+use Rattle.srv_state.specs.State.{Out, Put, ServerState, Step, with_sessions}
 use Rattle.srv_state.specs.Steps.{Act, acted}
 use Rattle.sim_3_items.specs.Counted.{IsForClient}
 use Rattle.sim_3_items.specs.Identities.{Identity, Login}
-use Rattle.sim_3_items.specs.Servers.{IsRow, IsRowShown}
+use Rattle.sim_3_items.specs.Servers.{IsRow, IsRowRepresented}
 use Rattle.sim_3_items.specs.WordItems.{told_count}
 use Rattle.sim_3_items.specs.ItemPipes.{ItemWire}
 use Rattle.sim_3_items.specs.ItemWorlds.{itself}
@@ -32,17 +32,17 @@ use Rattle.xml_writer.specs.Items.{ItemOut}
 
 -- ---- what is put
 
-pub said : (k : ℕ) (items : List ItemOut) (more : List (Act ItemOut)) (h : Hall ItemOut) (outs : List (Out ItemOut)) → acted itself (saying k items more) (record { hall = h; outs = outs }) ≡ acted itself more (record { hall = h; outs = outs ++ puts_at k items })
-said k [] more h outs = ap (λ o. acted itself more (record { hall = h; outs = o })) (sym (append-nil outs))
+pub said : (k : ℕ) (items : List ItemOut) (more : List (Act ItemOut)) (h : ServerState ItemOut) (outs : List (Out ItemOut)) → acted itself (saying k items more) (record { server_state = h; outs = outs }) ≡ acted itself more (record { server_state = h; outs = outs ++ puts_at k items })
+said k [] more h outs = ap (λ o. acted itself more (record { server_state = h; outs = o })) (sym (append-nil outs))
 said k (a ∷ items) more h outs =
-    said k items more h (outs ++ Put k a ∷ []) ∙ ap (λ o. acted itself more (record { hall = h; outs = o })) (append_assoc outs (Put k a ∷ []) (puts_at k items))
+    said k items more h (outs ++ Put k a ∷ []) ∙ ap (λ o. acted itself more (record { server_state = h; outs = o })) (append_assoc outs (Put k a ∷ []) (puts_at k items))
 
 -- where as many stanzas wait, a request goes out behind them
-abbrev pub asked_where : ℕ → ℕ → Bool → Hall ItemOut → List (Out ItemOut) → Step ItemOut
-asked_where k m true h outs = record { hall = with_sessions (with_session m (asks true) h.sessions) h; outs = outs ++ Put k request_item ∷ [] }
-asked_where k m false h outs = record { hall = h; outs = outs }
+abbrev pub asked_where : ℕ → ℕ → Bool → ServerState ItemOut → List (Out ItemOut) → Step ItemOut
+asked_where k m true h outs = record { server_state = with_sessions (with_session m (asks true) h.sessions) h; outs = outs ++ Put k request_item ∷ [] }
+asked_where k m false h outs = record { server_state = h; outs = outs }
 
-pub asked_so : (k m : ℕ) (due : Bool) (h : Hall ItemOut) (outs : List (Out ItemOut)) → acted itself (asking itself k m due) (record { hall = h; outs = outs }) ≡ asked_where k m due h outs
+pub asked_so : (k m : ℕ) (due : Bool) (h : ServerState ItemOut) (outs : List (Out ItemOut)) → acted itself (asking itself k m due) (record { server_state = h; outs = outs }) ≡ asked_where k m due h outs
 asked_so k m true h outs = refl
 asked_so k m false h outs = refl
 
@@ -74,7 +74,7 @@ within_so r n within few s is =
     not_high q a enough = grind (arith, nat_tests)
 
 -- the session that a resumption names is the device's
-pub record IsOwnSession (who : Identity) (h : Hall ItemOut) (v : View ItemOut) (q : ℕ) (s : Session ItemOut) : Type 0 where
+pub record IsOwnSession (who : Identity) (h : ServerState ItemOut) (v : View ItemOut) (q : ℕ) (s : Session ItemOut) : Type 0 where
   pub number : s.shown.number ≡ q
   pub named : session_named who.account who.resource h.sessions ≡ Some s
   pub row : Row ItemOut
@@ -82,18 +82,18 @@ pub record IsOwnSession (who : Identity) (h : Hall ItemOut) (v : View ItemOut) (
   pub live : IsRow row s
   pub counted : row.counted ≡ true
 
-module _ (who : Identity) (logins : ℕ → Login) (h : Hall ItemOut) (wires : Table ItemWire) (v : View ItemOut) (k q n : ℕ) (p : IsFirst who logins h wires v k (ResumeAt q n)) (s : Session ItemOut) (found : session_resumed (previd_of q) who.account h.sessions ≡ Some s) where
+module _ (who : Identity) (logins : ℕ → Login) (h : ServerState ItemOut) (wires : Table ItemWire) (v : View ItemOut) (k q n : ℕ) (p : IsFirst who logins h wires v k (ResumeAt q n)) (s : Session ItemOut) (found : session_resumed (previd_of q) who.account h.sessions ≡ Some s) where
   pub old : Asked v q n
   old = asked_here who logins h wires v k q n p
 
   q_low : q < 2 ^ 64
-  q_low = let a = (reached_rises v p.reached).given q old.session old.there in let b = p.server.free in let c = p.server.hall.sessions.fits in omega arith
+  q_low = let a = (reached_rises v p.reached).given q old.session old.there in let b = p.server.free in let c = p.server.server_state.sessions.fits in omega arith
 
   pub numbered : session_of s.shown.number h.sessions ≡ Some s
-  numbered = numbered_here (is_resumed_by (previd_of q) who.account) h.next 1 h.sessions s p.server.hall.sessions.ascending found
+  numbered = numbered_here (is_resumed_by (previd_of q) who.account) h.next 1 h.sessions s p.server.server_state.sessions.ascending found
 
   s_low : s.shown.number < 2 ^ 64
-  s_low = let a = numbers_below h.next 1 s.shown.number h.sessions s p.server.hall.sessions.ascending numbered in let c = p.server.hall.sessions.fits in omega arith
+  s_low = let a = numbers_below h.next 1 s.shown.number h.sessions s p.server.server_state.sessions.ascending numbered in let c = p.server.server_state.sessions.fits in omega arith
 
   its : IsResumed q who.account s
   its = resumed_is q who.account s q_low s_low (found_is (is_resumed_by (previd_of q) who.account) h.sessions s found)
@@ -105,11 +105,11 @@ module _ (who : Identity) (logins : ℕ → Login) (h : Hall ItemOut) (wires : T
   by_name =
       let named = p.server.owned q old.session s old.there of_q in
       let some = found_some (is_numbered q) (is_named who.account who.resource) h.sessions s of_q named in
-      some.1 ∙ ap Some (sym (one_named who.account who.resource h.next h.sessions some.0 s p.server.hall.sessions some.1 numbered named))
+      some.1 ∙ ap Some (sym (one_named who.account who.resource h.next h.sessions some.0 s p.server.server_state.sessions some.1 numbered named))
 
   pub own_session : IsOwnSession who h v q s
-  own_session = go v.row refl (subst (IsRowShown v.row) by_name p.server.row)
+  own_session = go v.row refl (subst (IsRowRepresented v.row) by_name p.server.row)
     where
-      go : (o : Option (Row ItemOut)) → v.row ≡ o → IsRowShown o (Some s) → IsOwnSession who h v q s
+      go : (o : Option (Row ItemOut)) → v.row ≡ o → IsRowRepresented o (Some s) → IsOwnSession who h v q s
       go None is shown = absurd shown
       go (Some r) is shown = record { number = its.number; named = by_name; row = r; is_row = is; live = shown; counted = sym shown.resumable ∙ its.resumable }

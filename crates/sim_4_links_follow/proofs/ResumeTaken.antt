@@ -7,16 +7,16 @@ use Rattle.std.specs.List.{All}
 use Rattle.std.specs.Option.{option_map}
 use Rattle.sm_acks.specs.Counters.{ahead}
 use Rattle.sm_acks.specs.declared.end.TheConstants.{MOST_UNACKNOWLEDGED}
-use Rattle.srv_state.specs.State.{Hall, Put, Step, conn_at, with_sessions}
+use Rattle.srv_state.specs.State.{Put, ServerState, Step, conn_at, with_sessions}
 use Rattle.srv_state.specs.Steps.{Act, Ask, Resume, Say, acted}
 use Rattle.srv_state.specs.Streams.{parting_where}
 use Rattle.srv_state.specs.declared.limits.TheConstants.{ASKS_AT}
 use Rattle.sim_3_items.specs.Counted.{IsForClient}
-use Rattle.sim_3_items.specs.Deeds.{deed_of}
+use Rattle.sim_3_items.specs.Labels.{label_of}
 use Rattle.sim_3_items.specs.Identities.{Identity, Login}
 use Rattle.sim_3_items.specs.Sent.{sent}
-use Rattle.sim_3_items.specs.Servers.{IsRowShown, ServerFollows, ServerShows, conn_shown, open_conn}
-use Rattle.sim_3_items.specs.WordItems.{down_item, is_behind_login, told_count, up_item}
+use Rattle.sim_3_items.specs.Servers.{IsRowRepresented, ServerFollows, ServerRepresents, conn_shown, open_conn}
+use Rattle.sim_3_items.specs.WordItems.{down_item, is_after_login, told_count, up_item}
 use Rattle.sim_3_items.specs.ItemMoves.{step_of}
 use Rattle.sim_3_items.specs.ItemPipes.{ItemWire, handed_up}
 use Rattle.sim_3_items.specs.ItemWorlds.{itself}
@@ -47,19 +47,19 @@ use Rattle.sim_4_links_follow.specs.Taking.{IsFirst, StepFollows, on_item}
 use Rattle.srv_handlers.specs.Resumptions.{asking, resent_where, resuming, saying}
 use Rattle.sim_4_links_follow.proofs.Emitted.{puts_at}
 use Rattle.sim_4_links_follow.proofs.Found.{change_here}
-use Rattle.sim_4_links_follow.proofs.Servings.{Known, known_altered, known_same, session_shows}
+use Rattle.sim_4_links_follow.proofs.Servings.{Known, known_altered, known_same, session_represents}
 use Rattle.xml_writer.specs.Items.{ItemOut}
 
 -- the words of stanzas are the stanzas
-stanza_items : (who : Identity) (x : Login) (k : ℕ) (behind : Bool) (zs : List ItemOut) → map (down_item who x k behind) (map Down (map St zs)) ≡ zs
-stanza_items who x k behind [] = refl
-stanza_items who x k behind (z ∷ zs) = ap (λ l. z ∷ l) (stanza_items who x k behind zs)
+stanza_items : (who : Identity) (x : Login) (k : ℕ) (following : Bool) (zs : List ItemOut) → map (down_item who x k following) (map Down (map St zs)) ≡ zs
+stanza_items who x k following [] = refl
+stanza_items who x k following (z ∷ zs) = ap (λ l. z ∷ l) (stanza_items who x k following zs)
 
 stanzas_so : (zs : List ItemOut) → down_stanzas (map Down (map St zs)) ≡ zs
 stanzas_so [] = refl
 stanzas_so (z ∷ zs) = ap (λ l. z ∷ l) (stanzas_so zs)
 
-module _ (who : Identity) (logins : ℕ → Login) (h : Hall ItemOut) (wires : Table ItemWire) (v : View ItemOut) (k q n : ℕ) (p : IsFirst who logins h wires v k (ResumeAt q n)) (s : Session ItemOut) (found : session_resumed (previd_of q) who.account h.sessions ≡ Some s)
+module _ (who : Identity) (logins : ℕ → Login) (h : ServerState ItemOut) (wires : Table ItemWire) (v : View ItemOut) (k q n : ℕ) (p : IsFirst who logins h wires v k (ResumeAt q n)) (s : Session ItemOut) (found : session_resumed (previd_of q) who.account h.sessions ≡ Some s)
     (own : IsOwnSession who h v q s) where
   abbrev pub row : Row ItemOut
   row = own.row
@@ -74,7 +74,7 @@ module _ (who : Identity) (logins : ℕ → Login) (h : Hall ItemOut) (wires : T
   first_word = p.first ∙ ap (λ m. ResumeAt m n ∷ p.rest) (sym (sym own.live.number ∙ own.number))
 
   few_wait : length s.waiting ≤ MOST_UNACKNOWLEDGED
-  few_wait = p.server.hall.sessions.few s.shown.number s (numbered who logins h wires v k q n p s found)
+  few_wait = p.server.server_state.sessions.few s.shown.number s (numbered who logins h wires v k q n p s found)
 
   pub few : length row.queue ≤ MOST_UNACKNOWLEDGED
   few = subst (λ z. length z ≤ MOST_UNACKNOWLEDGED) own.live.waiting few_wait
@@ -95,11 +95,11 @@ module _ (who : Identity) (logins : ℕ → Login) (h : Hall ItemOut) (wires : T
     abbrev after : Row ItemOut
     after = record row { on = Some k; acked = n; queue = drop (n - row.acked) row.queue }
 
-    abbrev pub back_hall : Hall ItemOut
-    back_hall = with_sessions (with_session s.shown.number back h.sessions) h
+    abbrev pub back_server_state : ServerState ItemOut
+    back_server_state = with_sessions (with_session s.shown.number back h.sessions) h
 
-    abbrev pub last_hall : Hall ItemOut
-    last_hall = with_sessions (with_session s.shown.number (asks false) back_hall.sessions) back_hall
+    abbrev pub last_server_state : ServerState ItemOut
+    last_server_state = with_sessions (with_session s.shown.number (asks false) back_server_state.sessions) back_server_state
 
     abbrev pub due : Bool
     due = nat_le ASKS_AT (length (resent hh s))
@@ -107,7 +107,7 @@ module _ (who : Identity) (logins : ℕ → Login) (h : Hall ItemOut) (wires : T
     abbrev tail : List (Session ItemOut) → Step ItemOut
     tail ss =
         acted itself (Say k (resumed_item s.shown.number s.handled) ∷ saying k (resent hh s) (asking itself k s.shown.number due))
-        (record { hall = with_sessions (with_session s.shown.number (asks false) ss) h; outs = [] })
+        (record { server_state = with_sessions (with_session s.shown.number (asks false) ss) h; outs = [] })
 
     abbrev acts : Option ℕ → List (Act ItemOut)
     acts former =
@@ -117,7 +117,7 @@ module _ (who : Identity) (logins : ℕ → Login) (h : Hall ItemOut) (wires : T
     abbrev pub back_items : List ItemOut
     back_items = resumed_item s.shown.number s.handled ∷ resent hh s
 
-    pub back_step : on_item k (up_item who (logins k) (ResumeAt q n)) h ≡ asked_where k s.shown.number due last_hall (puts_at k back_items)
+    pub back_step : on_item k (up_item who (logins k) (ResumeAt q n)) h ≡ asked_where k s.shown.number due last_server_state (puts_at k back_items)
     back_step =
         resume_step who logins h wires v k q n p
         ∙ ap (λ o. acted itself (resuming itself k who.account (previd_of q) hh (resume_answer hh o) (resent_where hh o)) (step_of h)) found
@@ -125,8 +125,8 @@ module _ (who : Identity) (logins : ℕ → Login) (h : Hall ItemOut) (wires : T
         ∙ ap (λ o. acted itself (acts o) (step_of h)) (own.live.conn ∙ parked)
         ∙ ap (λ o. tail (after_resume hh k o h.sessions)) found
         ∙ ap (λ b. tail (cond b (without s.shown.number h.sessions) (with_session s.shown.number back h.sessions))) not_high
-        ∙ said k (resent hh s) (asking itself k s.shown.number due) last_hall (Put k (resumed_item s.shown.number s.handled) ∷ [])
-        ∙ asked_so k s.shown.number due last_hall (puts_at k back_items)
+        ∙ said k (resent hh s) (asking itself k s.shown.number due) last_server_state (Put k (resumed_item s.shown.number s.handled) ∷ [])
+        ∙ asked_so k s.shown.number due last_server_state (puts_at k back_items)
 
     abbrev puts : List (DownWord ItemOut)
     puts = resumed_words row n
@@ -146,13 +146,13 @@ module _ (who : Identity) (logins : ℕ → Login) (h : Hall ItemOut) (wires : T
     sits : Sits (λ j. j ≡ k) h.sessions back
     sits = comes k h.sessions back nobody (λ t. refl)
 
-    back_shows : (t : Table (links.Session ItemOut)) → Known t v → ServerShows who logins back_hall (record v { conns = with_at k attached v.conns; row = Some after; sessions = t })
-    back_shows t known = record {
+    back_represents : (t : Table (links.Session ItemOut)) → Known t v → ServerRepresents who logins back_server_state (record v { conns = with_at k attached v.conns; row = Some after; sessions = t })
+    back_represents t known = record {
       served = record { domain = p.server.served.domain; account = p.server.served.account; found = p.server.served.found; archive = p.server.served.archive };
-      hall = record { sessions = rule_changed h.next s.shown.number (λ j. j ≡ k) back h.sessions p.server.hall.sessions keeps sits few_back; conns = p.server.hall.conns };
+      server_state = record { sessions = rule_changed h.next s.shown.number (λ j. j ≡ k) back h.sessions p.server.server_state.sessions keeps sits few_back; conns = p.server.server_state.conns };
       conns = λ j e at. shown j e (entry k attached v.conns j e at);
-      row = subst (IsRowShown (Some after)) (sym by_name) (resumed_row row n k within few s own.live);
-      seated = λ j e u at seat. seated j e u (entry k attached v.conns j e at) (seat_was h.next s.shown.number (λ j. j ≡ k) back h.sessions p.server.hall.sessions keeps sits j u seat);
+      row = subst (IsRowRepresented (Some after)) (sym by_name) (resumed_row row n k within few s own.live);
+      seated = λ j e u at seat. seated j e u (entry k attached v.conns j e at) (seat_was h.next s.shown.number (λ j. j ≡ k) back h.sessions p.server.server_state.sessions keeps sits j u seat);
       owned = λ m u t2 at here. owned m t2 (known m u at) (of_was m s.shown.number back h.sessions t2 keeps here);
       free = p.server.free;
     }
@@ -185,20 +185,20 @@ module _ (who : Identity) (logins : ℕ → Login) (h : Hall ItemOut) (wires : T
             → is_named who.account who.resource b ≡ true
         owned m b old was = name was.0 b was.2 (p.server.owned m old.0 was.0 old.1 was.1)
 
-    items_are : back_items ≡ map (down_item who (logins k) k (is_behind_login p.conn.client)) puts
+    items_are : back_items ≡ map (down_item who (logins k) k (is_after_login p.conn.client)) puts
     items_are =
         let r = resumed_row row n k within few s own.live in
         ap (λ m. resumed_item m s.handled ∷ resent hh s) own.live.number
         ∙ ap (λ c. resumed_item row.number c ∷ resent hh s) own.live.handled
-        ∙ ap (λ l. resumed_item row.number (told_count row.handled) ∷ l) (r.waiting ∙ sym (stanza_items who (logins k) k (is_behind_login p.conn.client) (drop (n - row.acked) row.queue)))
+        ∙ ap (λ l. resumed_item row.number (told_count row.handled) ∷ l) (r.waiting ∙ sym (stanza_items who (logins k) k (is_after_login p.conn.client) (drop (n - row.acked) row.queue)))
 
     module _ (move : LinkMove ItemOut) (g : ℕ → links.Session ItemOut → links.Session ItemOut) where
       abbrev next : View ItemOut
       next = record v { conns = with_at k attached v.conns; row = Some after; sessions = alter g v.sessions }
 
-      plain_by : LinkMoves move v next → deed_of move ≡ [] → ServerFollows who logins last_hall (sent (puts_at k back_items) (with_at k (handed_up p.wire) wires)) v []
+      plain_by : LinkMoves move v next → label_of move ≡ [] → ServerFollows who logins last_server_state (sent (puts_at k back_items) (with_at k (handed_up p.wire) wires)) v []
       plain_by leads none =
-          let first_shows = back_shows (alter g v.sessions) (known_altered g v) in
+          let first_represents = back_represents (alter g v.sessions) (known_altered g v) in
           let few_left : length after.queue ≤ MOST_UNACKNOWLEDGED = fewer (n - row.acked) MOST_UNACKNOWLEDGED row.queue few in
           record {
             moves = move ∷ [];
@@ -206,8 +206,8 @@ module _ (who : Identity) (logins : ℕ → Login) (h : Hall ItemOut) (wires : T
             leads = (next, leads, refl);
             does = ap (λ l. l ++ []) none;
             server =
-                subst (λ m. ServerShows who logins (with_sessions (with_session m (asks false) back_hall.sessions) back_hall) next) (sym own.live.number)
-                (session_shows who logins back_hall next after after (asks false) (alter g v.sessions) (known_same next) first_shows refl (asks_keeps false) (asked_row false after) (λ t is. subst (λ z. length z ≤ MOST_UNACKNOWLEDGED) (sym is.waiting) few_left));
+                subst (λ m. ServerRepresents who logins (with_sessions (with_session m (asks false) back_server_state.sessions) back_server_state) next) (sym own.live.number)
+                (session_represents who logins back_server_state next after after (asks false) (alter g v.sessions) (known_same next) first_represents refl (asks_keeps false) (asked_row false after) (λ t is. subst (λ z. length z ≤ MOST_UNACKNOWLEDGED) (sym is.waiting) few_left));
             pipes =
                 taken_pipes who logins h wires v k (ResumeAt q n) p (AtSession row.number) puts back_items next (λ j. refl) items_are
                 (subst (All IsForClient) (sym (stanzas_so (drop (n - row.acked) row.queue))) (All-drop IsForClient (n - row.acked) row.queue own.live.for_client));
@@ -215,17 +215,17 @@ module _ (who : Identity) (logins : ℕ → Login) (h : Hall ItemOut) (wires : T
           }
 
       -- and a request behind it, where as many stanzas wait
-      due_by : LinkMoves move v next → deed_of move ≡ [] → (b : Bool) → StepFollows who logins wires v k p.wire (asked_where k s.shown.number b last_hall (puts_at k back_items)) []
+      due_by : LinkMoves move v next → label_of move ≡ [] → (b : Bool) → StepFollows who logins wires v k p.wire (asked_where k s.shown.number b last_server_state (puts_at k back_items)) []
       unfolding plain_by
       due_by leads none false = plain_by leads none
       due_by leads none true =
           let told : Table ItemWire = with_at k (handed_up p.wire) wires in
-          let more = demanded who logins last_hall (sent (puts_at k back_items) told) v [] k (plain_by leads none) after attached refl refl own.counted (at_same k attached v.conns) in
-          follows_on who logins (with_sessions (with_session s.shown.number (asks true) last_hall.sessions) last_hall) (sent (Put k request_item ∷ []) (sent (puts_at k back_items) told)) (sent (puts_at k back_items ++ Put k request_item ∷ []) told) v []
+          let more = demanded who logins last_server_state (sent (puts_at k back_items) told) v [] k (plain_by leads none) after attached refl refl own.counted (at_same k attached v.conns) in
+          follows_on who logins (with_sessions (with_session s.shown.number (asks true) last_server_state.sessions) last_server_state) (sent (Put k request_item ∷ []) (sent (puts_at k back_items) told)) (sent (puts_at k back_items ++ Put k request_item ∷ []) told) v []
           (sent_more (puts_at k back_items) (Put k request_item ∷ []) told)
-          (subst (λ m. ServerFollows who logins (with_sessions (with_session m (asks true) last_hall.sessions) last_hall) (sent (Put k request_item ∷ []) (sent (puts_at k back_items) told)) v []) (sym own.live.number) more)
+          (subst (λ m. ServerFollows who logins (with_sessions (with_session m (asks true) last_server_state.sessions) last_server_state) (sent (Put k request_item ∷ []) (sent (puts_at k back_items) told)) v []) (sym own.live.number) more)
 
-    pub back_follows : (v.here ≡ Some k) ⊎ ((has v.here k ≡ false) × (row.acked ≤ n)) → StepFollows who logins wires v k p.wire (asked_where k s.shown.number due last_hall (puts_at k back_items)) []
+    pub back_follows : (v.here ≡ Some k) ⊎ ((has v.here k ≡ false) × (row.acked ≤ n)) → StepFollows who logins wires v k p.wire (asked_where k s.shown.number due last_server_state (puts_at k back_items)) []
     back_follows (inl here) =
         due_by (TakesResume k) (λ m t. resumed_if (has (Some row.number) m) (is_flowing p.conn.wires) t)
         (record { conn = p.conn; here = here; is = p.is; h = n; row = row; is_row = own.is_row; off = parked; counted = own.counted; rest = p.rest; first = first_word; gives = refl }) refl due

@@ -1,13 +1,13 @@
 -- A resumption (XEP-0198, section 5) leaves other devices: the session that it names is of the device itself, or none
 -- is named; and so is the connection that this was on.
 use Rattle.std.proofs.Common.{◌≡◌, ℕ, Bool, true, false, List, [], ◌∷◌, Option, Some, None, Ok, Err, cond, length, nat_le, refl, sym, ap, subst, ◌∙◌}
-use Rattle.srv_state.specs.State.{Hall, Step, with_sessions}
+use Rattle.srv_state.specs.State.{ServerState, Step, with_sessions}
 use Rattle.srv_state.specs.Steps.{Act, Ask, Close, Say, acted}
 use Rattle.srv_state.specs.Streams.{parting_where}
 use Rattle.srv_state.specs.declared.limits.TheConstants.{ASKS_AT}
 use Rattle.sim_3_items.specs.Identities.{Identity, Login}
 use Rattle.sim_3_items.specs.Sent.{sent}
-use Rattle.sim_3_items.specs.Servers.{ServerFollows, ServerShows}
+use Rattle.sim_3_items.specs.Servers.{ServerFollows, ServerRepresents}
 use Rattle.sim_3_items.specs.WordItems.{told_count}
 use Rattle.sim_3_items.specs.ItemMoves.{step_of}
 use Rattle.sim_3_items.specs.ItemPipes.{ItemWire, handed_up}
@@ -18,9 +18,9 @@ use Rattle.sim_2_links.specs.Words.{ResumeAt}
 use Rattle.sm_live.specs.Sessions.{Session, after_resume, is_named, is_too_high, resent, resume_answer, resume_ok, resumes, send_count, session_resumed, with_session, without}
 use Rattle.sim_4_links_follow.proofs.Acts.{Leave, Stays, ended_stays, leave_ask, leave_asking, leave_close, leave_nothing, leave_parting, leave_say, leave_saying, resumed_stays}
 use Rattle.sim_4_links_follow.proofs.OthersElsewhere.{none_elsewhere}
-use Rattle.sim_4_links_follow.proofs.OthersHalls.{IsNotOf}
+use Rattle.sim_4_links_follow.proofs.OthersServerStates.{IsNotOf}
 use Rattle.sim_4_links_follow.proofs.Parted.{conn_not, former_not, kept_beside, session_not, stays_follow}
-use Rattle.sim_4_links_follow.specs.Beside.{IsBeside}
+use Rattle.sim_4_links_follow.specs.OtherDevices.{IsOtherDevice}
 use Rattle.im_replies.specs.Management.{refused_item, resumed_item}
 use Rattle.im_replies.specs.Streams.{error_item, too_high_item}
 use Rattle.im_replies.specs.declared.conditions.StreamCondition.TheVariants as stream
@@ -35,7 +35,7 @@ use Rattle.im_stanza.specs.declared.conditions.Condition.TheVariants.{ItemNotFou
 use Rattle.sim_3_images.proofs.RuleKept.{found_is, numbered_here}
 use Rattle.xml_writer.specs.Items.{Closing, ItemOut}
 
-module _ (who whom : Identity) (logins others : ℕ → Login) (h : Hall ItemOut) (wires : Table ItemWire) (v u : View ItemOut) (k q n : ℕ) (p : IsFirst who logins h wires v k (ResumeAt q n)) (beside : IsBeside who whom others h wires u) where
+module _ (who whom : Identity) (logins others : ℕ → Login) (h : ServerState ItemOut) (wires : Table ItemWire) (v u : View ItemOut) (k q n : ℕ) (p : IsFirst who logins h wires v k (ResumeAt q n)) (beside : IsOtherDevice who whom others h wires u) where
   linked : LinkKept u
   linked = kept_beside who whom logins others h wires v u p.server p.pipes beside
 
@@ -56,22 +56,22 @@ module _ (who whom : Identity) (logins others : ℕ → Login) (h : Hall ItemOut
 
     not_of : IsNotOf u s.shown.number
     not_of =
-        session_not who whom logins others h wires v u p.server p.pipes beside s (numbered_here (is_named who.account who.resource) h.next 1 h.sessions s p.server.hall.sessions.ascending own.named)
+        session_not who whom logins others h wires v u p.server p.pipes beside s (numbered_here (is_named who.account who.resource) h.next 1 h.sessions s p.server.server_state.sessions.ascending own.named)
         (found_is (is_named who.account who.resource) h.sessions s own.named)
 
     former : (f : ℕ) → s.shown.conn ≡ Some f → u.conns f ≡ None
     former f on = former_not who whom logins others h wires v u p.server p.pipes beside (kept_here who logins h wires v k (ResumeAt q n) p) s own.named f on
 
     abbrev first : Step ItemOut
-    first = record { hall = with_sessions (after_resume hh k (session_resumed (previd_of q) who.account h.sessions) h.sessions) h; outs = [] }
+    first = record { server_state = with_sessions (after_resume hh k (session_resumed (previd_of q) who.account h.sessions) h.sessions) h; outs = [] }
 
     first_as : (b : Bool) → is_too_high hh s ≡ b → after_resume hh k (session_resumed (previd_of q) who.account h.sessions) h.sessions ≡ cond b (without s.shown.number h.sessions) (with_session s.shown.number (resumes hh k) h.sessions)
     first_as b high = ap (λ o. after_resume hh k o h.sessions) found ∙ ap (λ c. cond c (without s.shown.number h.sessions) (with_session s.shown.number (resumes hh k) h.sessions)) high
 
     first_stays : (b : Bool) → is_too_high hh s ≡ b → Stays whom others u linked first
-    first_stays b high = record { server = subst (λ ss. ServerShows whom others (with_sessions ss h) u) (sym (first_as b high)) (either b); outs = none_elsewhere u }
+    first_stays b high = record { server = subst (λ ss. ServerRepresents whom others (with_sessions ss h) u) (sym (first_as b high)) (either b); outs = none_elsewhere u }
       where
-        either : (c : Bool) → ServerShows whom others (with_sessions (cond c (without s.shown.number h.sessions) (with_session s.shown.number (resumes hh k) h.sessions)) h) u
+        either : (c : Bool) → ServerRepresents whom others (with_sessions (cond c (without s.shown.number h.sessions) (with_session s.shown.number (resumes hh k) h.sessions)) h) u
         either true = ended_stays whom others u linked s.shown.number h not_of beside.server
         either false = resumed_stays whom others u linked s.shown.number hh k h not_of off (none_here who logins h wires v k q n p) beside.server
 
@@ -108,6 +108,6 @@ module _ (who whom : Identity) (logins others : ℕ → Login) (h : Hall ItemOut
 
   pub resume_stays : IsLeft who whom logins others h wires u k p.wire (ResumeAt q n)
   resume_stays =
-      subst (λ (s : Step ItemOut). ServerFollows whom others s.hall (sent s.outs (with_at k (handed_up p.wire) wires)) u []) (sym (resume_step who logins h wires v k q n p))
+      subst (λ (s : Step ItemOut). ServerFollows whom others s.server_state (sent s.outs (with_at k (handed_up p.wire) wires)) u []) (sym (resume_step who logins h wires v k q n p))
       (stays_follow whom others wires u linked k p.wire (resumed_by (session_resumed (previd_of q) who.account h.sessions)) beside.pipes off
-      (λ its. beside.apart.place (sym its ∙ (wire_here who logins h wires v k (ResumeAt q n) p).of)) (resumption_stays (session_resumed (previd_of q) who.account h.sessions) refl))
+      (λ its. beside.apart.position (sym its ∙ (wire_here who logins h wires v k (ResumeAt q n) p).of)) (resumption_stays (session_resumed (previd_of q) who.account h.sessions) refl))

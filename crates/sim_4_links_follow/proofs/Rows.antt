@@ -7,14 +7,14 @@ use Rattle.std.specs.Prelude.{nat_le}
 use Rattle.std.specs.Str.{bytes_eq}
 use Rattle.cl_core.specs.PageRows.{answer_to, answered_page, begins_page, error_of_page, goes_on, iq_by, is_not_found, is_ping, next_queryid, only_fin, page_answered, page_done, page_ended, restarts, result_of_page}
 use Rattle.cl_core.specs.Steps.{stanza_row}
-use Rattle.cl_core.specs.UserCalls.{catch_up_answer, catch_up_in, catches_up, catches_up_in, is_bad_text, outbox_bound, say_answer, say_in, says as says_turn, submission_of, submits}
+use Rattle.cl_core.specs.UserCalls.{catch_up_answer, catch_up_in, catches_up, catches_up_in, is_bad_text, outbox_bound, say_answer, say_in, says as says_client_step, submission_of, submits}
 use Rattle.cl_core.specs.declared.faults.CatchUpStart.TheVariants as start
 use Rattle.cl_core.specs.declared.faults.SayFault.TheVariants as say
 use Rattle.law_limits.specs.Within.{IsEntryWithin, IsLogWithin, IsPageWithin}
 use Rattle.cl_handlers.specs.Clients.{ClientView}
 use Rattle.cl_handlers.specs.MessageRows.{bounce_of, error_within, held_by, held_row, is_own_or_absent, live_in, logged, message_row, message_with, other_message, own_id, refuses, result_row, result_to, tells_where}
 use Rattle.cl_handlers.specs.Speech.{Put, in_items}
-use Rattle.cl_handlers.specs.Turns.{ends, has_to_put, is_online, put_in, tells, with_log}
+use Rattle.cl_handlers.specs.ClientSteps.{ends, has_to_put, is_online, put_in, tells, with_log}
 use Rattle.cl_handlers.specs.declared.events.CatchUpFault.{CatchUpFault}
 use Rattle.cl_handlers.specs.declared.events.Event.{Event}
 use Rattle.cl_handlers.specs.declared.events.Event.TheVariants.{PageDone}
@@ -22,7 +22,7 @@ use Rattle.cl_handlers.specs.declared.events.PeerFault.TheVariants.{Unacknowledg
 use Rattle.sim_4_links_follow.proofs.Fair.{answer_for_server, answer_other, page_for_server}
 use Rattle.sim_4_links_follow.proofs.Outcomes.{IsQuiet, IsSaid, Outcome, T, leaves, outcome_either, quiet_either, quiet_same, said_put, says, stays}
 use Rattle.sim_3_items.specs.Counted.{IsForServer}
-use Rattle.sim_3_items.specs.Deeds.{awaits}
+use Rattle.sim_3_items.specs.Labels.{awaits}
 use Rattle.im_extensions.specs.declared.forwarding.Forwarded.{Forwarded}
 use Rattle.mam_log.specs.LogPages.{last_id}
 use Rattle.mam_log.specs.Views.{LogView, OpenPage, after_fin, end_of, page_for, with_page}
@@ -95,7 +95,7 @@ put_outcome t None z is good other = stays (quiet_same t)
 put_outcome t (Some s) z is good other =
     outcome_either (is_full s.waiting) t (ends t Unacknowledged) (put_in in_items t s z false)
     (leaves (record { account = refl; epoch = refl; session = refl; phase = refl; put = refl; notes = refl }))
-    (λ place. says (record { session = s; stands = is; place = place; stanza = z; good = good; asks = false; other = λ e. other; queued = record { account = refl; epoch = refl; phase = refl; session = _; is = refl; previd = refl; acked = refl; handled = refl; queue = refl; notes = refl }; put = refl }))
+    (λ position. says (record { session = s; stands = is; position = position; stanza = z; good = good; asks = false; other = λ e. other; queued = record { account = refl; epoch = refl; phase = refl; session = _; is = refl; previd = refl; acked = refl; handled = refl; queue = refl; notes = refl }; put = refl }))
 
 low : (n : ℕ) → next_number n < 2 ^ 64
 low n = omega arith
@@ -106,10 +106,10 @@ last_within (e ∷ []) h = h.0
 last_within (e ∷ f ∷ es) h = last_within (f ∷ es) h.1
 
 begun_said : (t : T) (s : SessionView ItemOut) (max : ℕ) → t.client.session ≡ Some s → is_full s.waiting ≡ false → AllByRecursion IsEntryWithin t.client.log.entries → max < 2 ^ 32 → IsSaid t (begins_page in_items t s max)
-begun_said t s max is place within small = record {
+begun_said t s max is position within small = record {
   session = s;
   stands = is;
-  place = place;
+  position = position;
   stanza = page_item (next_queryid t) (last_id t.client.log.entries) max;
   good = page_for_server (next_number t.client.pages) max (last_id t.client.log.entries) (low t.client.pages) (last_within t.client.log.entries within) small;
   asks = true;
@@ -121,8 +121,8 @@ begun_said t s max is place within small = record {
 -- ---- pages
 
 -- a turn that changed nothing that the links have, and what comes of it
-behind : (t m u : T) → IsQuiet t m → Outcome m u → Outcome t u
-behind t m u q (stays r) = stays (record {
+following : (t m u : T) → IsQuiet t m → Outcome m u → Outcome t u
+following t m u q (stays r) = stays (record {
   account = r.account ∙ q.account;
   epoch = r.epoch ∙ q.epoch;
   session = r.session ∙ q.session;
@@ -130,7 +130,7 @@ behind t m u q (stays r) = stays (record {
   put = r.put ∙ q.put;
   notes = r.notes ∙ q.notes;
 })
-behind t m u q (leaves r) = leaves (record {
+following t m u q (leaves r) = leaves (record {
   account = r.account ∙ q.account;
   epoch = r.epoch ∙ q.epoch;
   session = r.session ∙ q.session;
@@ -138,10 +138,10 @@ behind t m u q (leaves r) = leaves (record {
   put = r.put ∙ q.put;
   notes = r.notes ∙ q.notes;
 })
-behind t m u q (says r) = says (record {
+following t m u q (says r) = says (record {
   session = r.session;
   stands = sym q.session ∙ r.stands;
-  place = r.place;
+  position = r.position;
   stanza = r.stanza;
   good = r.good;
   asks = r.asks;
@@ -166,7 +166,7 @@ on_outcome t None max is within small = stays (quiet_same t)
 on_outcome t (Some s) max is within small =
     outcome_either (is_full s.waiting) t (ends t Unacknowledged) (begins_page in_items t s max)
     (leaves (record { account = refl; epoch = refl; session = refl; phase = refl; put = refl; notes = refl }))
-    (λ place. says (begun_said t s max is place within small))
+    (λ position. says (begun_said t s max is position within small))
 
 -- the log with the page that ended
 fin_within : (log : LogView) (fin : Fin) → IsLogWithin log → IsLogWithin (after_fin log fin)
@@ -180,7 +180,7 @@ done_outcome : (t : T) (page : OpenPage) (fin : Fin) (outcome : PageOutcome) →
 done_outcome t page fin Complete h of = stays (record { account = refl; epoch = refl; session = refl; phase = refl; put = refl; notes = refl })
 done_outcome t page fin More h of =
     let m = tells (with_log t (after_fin t.client.log fin)) (PageDone More) in
-    behind t m (page_done in_items t page fin More) (record { account = refl; epoch = refl; session = refl; phase = refl; put = refl; notes = refl })
+    following t m (page_done in_items t page fin More) (record { account = refl; epoch = refl; session = refl; phase = refl; put = refl; notes = refl })
     (on_outcome m t.client.session page.max refl (fin_within t.client.log fin h).entries of.max)
 
 ended_outcome : (t : T) (page : OpenPage) (fin : Fin) (outcome : Result PageOutcome FinFault) → IsLogWithin t.client.log → IsPageWithin page → Outcome t (page_ended in_items t page fin outcome)
@@ -198,10 +198,10 @@ restart_outcome t None max is small = stays (quiet_same t)
 restart_outcome t (Some s) max is small =
     outcome_either (is_full s.waiting) t _ _
     (leaves (record { account = refl; epoch = refl; session = refl; phase = refl; put = refl; notes = refl }))
-    (λ place. says (record {
+    (λ position. says (record {
       session = s;
       stands = is;
-      place = place;
+      position = position;
       stanza = page_item (next_queryid t) None max;
       good = page_for_server (next_number t.client.pages) max None (low t.client.pages) tt small;
       asks = true;
@@ -269,7 +269,7 @@ submits_said t None z said n is answer good = absurd (let no_way : ⊥ = cc in n
 submits_said t (Some s) z said n is answer good = record {
   session = s;
   stands = is;
-  place = not_full (length s.waiting.queue) (few (nat_le outbox_bound (length s.waiting.queue)) answer);
+  position = not_full (length s.waiting.queue) (few (nat_le outbox_bound (length s.waiting.queue)) answer);
   stanza = z;
   good = good;
   asks = true;
@@ -286,7 +286,7 @@ may_say : (c : ClientView ItemOut) (bad : Bool) (n : ℕ) → (if bad then Err s
 may_say c true n e = absurd (let no_way : ⊥ = cc in no_way)
 may_say c false n e = e
 
-pub says_said : (t : T) (to text : List ℕ) (private : Bool) (n : ℕ) → say_answer t.client text ≡ Ok n → IsForServer (submission_of t.client to text private) → IsSaid t (says_turn in_items t to text private)
+pub says_said : (t : T) (to text : List ℕ) (private : Bool) (n : ℕ) → say_answer t.client text ≡ Ok n → IsForServer (submission_of t.client to text private) → IsSaid t (says_client_step in_items t to text private)
 says_said t to text private n answer good =
     submits_said t t.client.session (submission_of t.client to text private) (said_of t.client.epoch t.client.n to text private) n refl (may_say t.client (is_bad_text text) n answer) good
 

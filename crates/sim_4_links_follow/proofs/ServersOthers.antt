@@ -4,12 +4,12 @@ use Rattle.std.proofs.lemmas.Bool.{cases_Bool, cases_eq, eqb-true}
 use Rattle.std.proofs.lemmas.Option.{same_Some}
 use Rattle.std.specs.Option.{option_map}
 use Rattle.sm_acks.specs.declared.end.TheConstants.{MOST_UNACKNOWLEDGED}
-use Rattle.srv_state.specs.State.{Hall, Out, Put, Shut, Took, conn_at, with_conn, with_sessions}
+use Rattle.srv_state.specs.State.{Out, Put, ServerState, Shut, Took, conn_at, with_conn, with_sessions}
 use Rattle.srv_state.specs.declared.connection.Connection.{Connection}
 use Rattle.sim_3_items.specs.Identities.{Identity, Login}
-use Rattle.sim_3_items.specs.Pipes.{IsShown, IsWire, PipesShow}
+use Rattle.sim_3_items.specs.Pipes.{IsShown, IsWire, PipesRepresent}
 use Rattle.sim_3_items.specs.Sent.{sent, sent_one, sent_under, where_it}
-use Rattle.sim_3_items.specs.Servers.{IsRowShown, ServerFollows, ServerShows}
+use Rattle.sim_3_items.specs.Servers.{IsRowRepresented, ServerFollows, ServerRepresents}
 use Rattle.sim_3_items.specs.ItemPipes.{ItemWire, handed_up, put_down, shut}
 use Rattle.sim_2_links.proofs.Entries.{at_other, at_same}
 use Rattle.sim_2_links.specs.Stages.{Conn}
@@ -19,7 +19,7 @@ use Rattle.sim_3_images.proofs.RuleKept.{changes_one, found_is, named_as, number
 use Rattle.sim_4_links_follow.specs.Taking.{AreApart}
 use Rattle.sim_4_links_follow.proofs.Emitted.{AreFor}
 use Rattle.sim_4_links_follow.proofs.Found.{Keeps, at_was, keeps_one, named_changed, of_was, rule_changed}
-use Rattle.sim_4_links_follow.proofs.WireStepsHalls.{hall_apart, hall_sorted}
+use Rattle.sim_4_links_follow.proofs.WireStepsServerStates.{server_state_apart, server_state_sorted}
 use Rattle.sim_4_links_follow.proofs.Placed.{keeps_all, shown_as}
 use Rattle.xml_writer.specs.Items.{ItemOut}
 
@@ -38,18 +38,18 @@ pub sent_device : (k : ℕ) (outs : List (Out ItemOut)) (w : ItemWire) → (sent
 sent_device k [] w = refl
 sent_device k (o ∷ outs) w = sent_device k outs (sent_one k o w) ∙ one_device k o w
 
-module _ (who whom : Identity) (logins : ℕ → Login) (h : Hall ItemOut) (wires : Table ItemWire) (v : View ItemOut) (apart : AreApart who whom) (shows : ServerShows whom logins h v) (pipes : PipesShow whom logins wires v) where
+module _ (who whom : Identity) (logins : ℕ → Login) (h : ServerState ItemOut) (wires : Table ItemWire) (v : View ItemOut) (apart : AreApart who whom) (represents : ServerRepresents whom logins h v) (pipes : PipesRepresent whom logins wires v) where
   -- a connection of the one is none of the other
-  pub not_its : (k : ℕ) (w : ItemWire) → wires k ≡ Some w → w.device ≡ who.place → v.conns k ≡ None
+  pub not_its : (k : ℕ) (w : ItemWire) → wires k ≡ Some w → w.device ≡ who.position → v.conns k ≡ None
   not_its k w there of = go (v.conns k) refl (pipes.each k)
     where
       go : (o : Option (Conn ItemOut)) → v.conns k ≡ o → IsShown whom (logins k) k (v.conns k) (wires k) → v.conns k ≡ None
       go None is shown = is
       go (Some c) is shown =
           let wire : IsWire whom (logins k) k c w = subst (IsShown whom (logins k) k (Some c)) there (subst (λ o. IsShown whom (logins k) k o (wires k)) is shown) in
-          absurd (apart.place (sym wire.of ∙ of))
+          absurd (apart.position (sym wire.of ∙ of))
 
-  pub pipes_stay : (k : ℕ) (w : ItemWire) (outs : List (Out ItemOut)) → wires k ≡ Some w → w.device ≡ who.place → AreFor k outs → PipesShow whom logins (sent outs (with_at k (handed_up w) wires)) v
+  pub pipes_stay : (k : ℕ) (w : ItemWire) (outs : List (Out ItemOut)) → wires k ≡ Some w → w.device ≡ who.position → AreFor k outs → PipesRepresent whom logins (sent outs (with_at k (handed_up w) wires)) v
   pipes_stay k w outs there of for = record { each = each }
     where
       left_so : (j : ℕ) → k ≢ j → (o : Option ItemWire) → option_map (sent_under j outs) o ≡ o
@@ -61,22 +61,22 @@ module _ (who whom : Identity) (logins : ℕ → Login) (h : Hall ItemOut) (wire
           elim (cases_eq k j) [
             | inl same ↦ subst (λ n. IsShown whom (logins n) n (v.conns n) (sent outs (with_at k (handed_up w) wires) n)) same
                 (shown_as whom (logins k) k None (v.conns k) (Some (sent_under k outs (handed_up w))) (sent outs (with_at k (handed_up w) wires) k) (not_its k w there of)
-                (ap (option_map (sent_under k outs)) (at_same k (handed_up w) wires)) (λ its. apart.place (sym its ∙ sent_device k outs (handed_up w) ∙ of)))
+                (ap (option_map (sent_under k outs)) (at_same k (handed_up w) wires)) (λ its. apart.position (sym its ∙ sent_device k outs (handed_up w) ∙ of)))
             | inr other ↦
                 shown_as whom (logins j) j (v.conns j) (v.conns j) (wires j) (sent outs (with_at k (handed_up w) wires) j) refl
                 (ap (option_map (sent_under j outs)) (at_other k (handed_up w) wires j other) ∙ left_so j other (wires j)) (pipes.each j)
           ]
 
   -- a connection of the one comes to another phase
-  pub phase_stays : (k : ℕ) (f : Connection → Connection) (conn : Connection) → v.conns k ≡ None → conn_at k h ≡ Some conn → ServerShows whom logins (with_conn k f h) v
+  pub phase_stays : (k : ℕ) (f : Connection → Connection) (conn : Connection) → v.conns k ≡ None → conn_at k h ≡ Some conn → ServerRepresents whom logins (with_conn k f h) v
   phase_stays k f conn none at = record {
-    served = record { domain = shows.served.domain; account = shows.served.account; found = shows.served.found; archive = shows.served.archive };
-    hall = record { sessions = shows.hall.sessions; conns = hall_sorted k f h conn at shows.hall.conns };
-    conns = λ j e there. hall_apart k f h conn at j (other j e there) ∙ shows.conns j e there;
-    row = shows.row;
-    seated = shows.seated;
-    owned = shows.owned;
-    free = shows.free;
+    served = record { domain = represents.served.domain; account = represents.served.account; found = represents.served.found; archive = represents.served.archive };
+    server_state = record { sessions = represents.server_state.sessions; conns = server_state_sorted k f h conn at represents.server_state.conns };
+    conns = λ j e there. server_state_apart k f h conn at j (other j e there) ∙ represents.conns j e there;
+    row = represents.row;
+    seated = represents.seated;
+    owned = represents.owned;
+    free = represents.free;
   }
     where
       other : (j : ℕ) (e : Conn ItemOut) → v.conns j ≡ Some e → k ≢ j
@@ -84,15 +84,15 @@ module _ (who whom : Identity) (logins : ℕ → Login) (h : Hall ItemOut) (wire
 
   -- the session of the one is changed
   pub session_stays : (n : ℕ) (f : Session ItemOut → Session ItemOut) (s : Session ItemOut) → Keeps f → session_of n h.sessions ≡ Some s → is_named who.account who.resource s ≡ true → length (f s).waiting ≤ MOST_UNACKNOWLEDGED
-      → ServerShows whom logins (with_sessions (with_session n f h.sessions) h) v
+      → ServerRepresents whom logins (with_sessions (with_session n f h.sessions) h) v
   session_stays n f s keeps its named few = record {
-    served = record { domain = shows.served.domain; account = shows.served.account; found = shows.served.found; archive = shows.served.archive };
-    hall = record { sessions = rule_changed h.next n f h.sessions keeps (λ t is. subst (λ u. length (f u).waiting ≤ MOST_UNACKNOWLEDGED) (same_Some s t (sym its ∙ is)) few) shows.hall.sessions; conns = shows.hall.conns };
-    conns = shows.conns;
-    row = subst (IsRowShown v.row) (sym row_same) shows.row;
-    seated = λ j e t there at. let old = at_was j n f h.sessions t keeps at in name old.0 t old.2 (shows.seated j e old.0 there old.1);
-    owned = λ q u t there found. let old = of_was q n f h.sessions t keeps found in name old.0 t old.2 (shows.owned q u old.0 there old.1);
-    free = shows.free;
+    served = record { domain = represents.served.domain; account = represents.served.account; found = represents.served.found; archive = represents.served.archive };
+    server_state = record { sessions = rule_changed h.next n f h.sessions keeps (λ t is. subst (λ u. length (f u).waiting ≤ MOST_UNACKNOWLEDGED) (same_Some s t (sym its ∙ is)) few) represents.server_state.sessions; conns = represents.server_state.conns };
+    conns = represents.conns;
+    row = subst (IsRowRepresented v.row) (sym row_same) represents.row;
+    seated = λ j e t there at. let old = at_was j n f h.sessions t keeps at in name old.0 t old.2 (represents.seated j e old.0 there old.1);
+    owned = λ q u t there found. let old = of_was q n f h.sessions t keeps found in name old.0 t old.2 (represents.owned q u old.0 there old.1);
+    free = represents.free;
   }
     where
       name : (t u : Session ItemOut) → changes_one n f t ≡ u → is_named whom.account whom.resource t ≡ true → is_named whom.account whom.resource u ≡ true
@@ -107,7 +107,7 @@ module _ (who whom : Identity) (logins : ℕ → Login) (h : Hall ItemOut) (wire
       unchanged t is =
           elim (cases_Bool (t.shown.number == n)) [
             | inl same ↦
-                let there = numbered_here (is_named whom.account whom.resource) h.next 1 h.sessions t shows.hall.sessions.ascending is in
+                let there = numbered_here (is_named whom.account whom.resource) h.next 1 h.sessions t represents.server_state.sessions.ascending is in
                 let one : s ≡ t = same_Some s t (sym its ∙ sym (ap (λ m. session_of m h.sessions) (eqb-true t.shown.number n same)) ∙ there) in
                 let a = named_as who.account who.resource s named in
                 let b = named_as whom.account whom.resource t (found_is (is_named whom.account whom.resource) h.sessions t is) in
@@ -123,13 +123,13 @@ module _ (who whom : Identity) (logins : ℕ → Login) (h : Hall ItemOut) (wire
       row_same = named_changed whom.account whom.resource n f h.sessions keeps ∙ row_so (session_named whom.account whom.resource h.sessions) refl
 
 -- nothing moves
-pub nothing_moves : (whom : Identity) (logins : ℕ → Login) (h : Hall ItemOut) (wires : Table ItemWire) (v : View ItemOut) → ServerShows whom logins h v → PipesShow whom logins wires v → ServerFollows whom logins h wires v []
-nothing_moves whom logins h wires v shows pipes = record {
+pub nothing_moves : (whom : Identity) (logins : ℕ → Login) (h : ServerState ItemOut) (wires : Table ItemWire) (v : View ItemOut) → ServerRepresents whom logins h v → PipesRepresent whom logins wires v → ServerFollows whom logins h wires v []
+nothing_moves whom logins h wires v represents pipes = record {
   moves = [];
   next = v;
   leads = refl;
   does = refl;
-  server = shows;
+  server = represents;
   pipes = pipes;
   client = record { here = refl; own = refl; epoch = refl; conns = λ k. keeps_all (v.conns k) };
 }

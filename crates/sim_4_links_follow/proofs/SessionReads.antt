@@ -5,7 +5,7 @@ use Rattle.std.proofs.lemmas.List.Elements.{All-cons, All-nil}
 use Rattle.std.specs.List.{All}
 use Rattle.base_lemmas.proofs.HexDigits.{length-hex16_of}
 use Rattle.cl_handlers.specs.AckRows.{acknowledges, counts_too_high}
-use Rattle.cl_handlers.specs.Clients.{Turn}
+use Rattle.cl_handlers.specs.Clients.{ClientStep}
 use Rattle.cl_handlers.specs.LoginSteps.{other_element}
 use Rattle.cl_handlers.specs.SessionRows.{asks, attaches, begins, begins_epoch, enabling_with, failed_row, first_stanzas, is_empty, resent, resumed_in, resuming_with}
 use Rattle.cl_handlers.specs.Speech.{in_items}
@@ -15,14 +15,14 @@ use Rattle.sm_resumption.specs.declared.answers.TheConstants.{RESUMABLE_SECONDS}
 use Rattle.sim_3_items.specs.Clients.{IsOwn, client_phase}
 use Rattle.sim_3_items.specs.Counted.{IsForServer}
 use Rattle.sim_3_items.specs.Identities.{Identity, Login, full_of}
-use Rattle.sim_3_items.specs.Reading.{HearingFollows, IsNextDown, IsRead, turn_on}
+use Rattle.sim_3_items.specs.Reading.{HearingFollows, IsNextDown, IsRead, client_step_on}
 use Rattle.sim_3_items.specs.WordItems.{told_count}
 use Rattle.im_extensions.specs.Bind.{bind_result_elem}
 use Rattle.im_extensions.specs.StreamManagement.{enabled_elem, resumed_elem, sm_failed_elem}
 use Rattle.im_extensions.specs.declared.stream_management.Enabled.{Enabled as EnabledWord}
 use Rattle.im_extensions.specs.declared.stream_management.Resumed.{Resumed as ResumedWord}
 use Rattle.sim_3_items.specs.ItemPipes.{ItemWire}
-use Rattle.sim_3_items.specs.ItemWorlds.{ItemDevice, silent_turn}
+use Rattle.sim_3_items.specs.ItemWorlds.{ItemDevice, silent_client_step}
 use Rattle.sim_2_links.proofs.Entries.{at_same}
 use Rattle.sim_2_links.proofs.Promised.{resumed_within}
 use Rattle.sim_2_links.proofs.ReadResumed.{resent_if}
@@ -54,8 +54,8 @@ use Rattle.sim_4_links_follow.proofs.Twice.{both_sent, known_then, thrice}
 use Rattle.sim_4_links_follow.proofs.Working.{heard, kept_here, phase_here, same_items, works_on}
 
 module _ (who : Identity) (logins : ℕ → Login) (d : ItemDevice) (wires : Table ItemWire) (v : View ItemOut) (k : ℕ) where
-  abbrev now : Turn ItemOut ItemOut
-  now = silent_turn d.client
+  abbrev now : ClientStep ItemOut ItemOut
+  now = silent_client_step d.client
 
   -- ---- it is no more: the client asks for a new one
 
@@ -63,13 +63,13 @@ module _ (who : Identity) (logins : ℕ → Login) (d : ItemDevice) (wires : Tab
     abbrev refused : Elem
     refused = sm_failed_elem (record { condition = ItemNotFound })
 
-    failed_turn : turn_on (Whole refused) d ≡ failed_row in_items now
-    failed_turn = on_element d refused (client_phase who (logins k) (InResume o.number)) (phase_here who logins d wires v k Failed p (InResume o.number) is)
+    failed_client_step : client_step_on (Whole refused) d ≡ failed_row in_items now
+    failed_client_step = on_element d refused (client_phase who (logins k) (InResume o.number)) (phase_here who logins d wires v k Failed p (InResume o.number) is)
 
     pub failed_read : IsRead who logins d wires v k p.conn p.wire Failed
     failed_read =
         let next : View ItemOut = record v { conns = with_at k (heard who logins d wires v k Failed p InBind (Bind ∷ [])) v.conns; own = None } in
-        subst (HearingFollows who logins d wires v k p.wire) (sym failed_turn)
+        subst (HearingFollows who logins d wires v k p.wire) (sym failed_client_step)
         (works_on who logins d wires v k Failed p (failed_row in_items now) InBind (Bind ∷ []) (ReadsFailed k ∷ []) next (tt, tt) refl p.shown.client.epoch tt refl
         (ap (λ (a : Account). bind_item a.resource ∷ []) p.shown.client.account) (All-nil IsForServer) (same_items who logins d wires v k Failed p (InResume o.number) InBind is refl)
         (next, record { conn = p.conn; here = p.here; is = p.is; rest = p.rest; first = p.first; p = o.number; client = is; gives = refl }, refl) refl refl (λ j. refl) refl refl (known_same v))
@@ -80,11 +80,11 @@ module _ (who : Identity) (logins : ℕ → Login) (d : ItemDevice) (wires : Tab
     abbrev bound : Elem
     bound = iq_elem (record { from = None; to = None; id = codes "bind"; kind = Result; payload = child (bind_result_elem (record { jid = full_of who })) no_nodes })
 
-    abbrev enables : Turn ItemOut ItemOut
+    abbrev enables : ClientStep ItemOut ItemOut
     enables = asks in_items (begins_epoch in_items now) enable_item phase.Enabling
 
-    bound_turn : turn_on (Whole bound) d ≡ enables
-    bound_turn =
+    bound_client_step : client_step_on (Whole bound) d ≡ enables
+    bound_client_step =
         on_element d bound (client_phase who (logins k) InBind) (phase_here who logins d wires v k (Bound m) p InBind is)
         ∙ ap (λ r. if is_ok r then enables else other_element now bound) (result_written (record { jid = full_of who }) p.shown.normal.full)
 
@@ -99,7 +99,7 @@ module _ (who : Identity) (logins : ℕ → Login) (d : ItemDevice) (wires : Tab
           epoch = v.epoch + 1;
           sessions = alter (λ q s. record s { epoch = if has (Some m) q then Some (v.epoch + 1) else s.epoch }) v.sessions;
         } in
-        subst (HearingFollows who logins d wires v k p.wire) (sym bound_turn)
+        subst (HearingFollows who logins d wires v k p.wire) (sym bound_client_step)
         (works_on who logins d wires v k (Bound m) p enables InEnable (Enable ∷ []) (ReadsBound k m ∷ []) next (tt, tt) refl (ap next_number p.shown.client.epoch ∙ next_epoch v.epoch low) p.shown.client.own refl refl (All-nil IsForServer)
         (same_items who logins d wires v k (Bound m) p InBind InEnable is refl)
         (next, record { conn = p.conn; here = p.here; is = p.is; rest = p.rest; first = p.first; client = is; gives = refl }, refl) refl refl (λ j. refl) refl refl
@@ -111,15 +111,15 @@ module _ (who : Identity) (logins : ℕ → Login) (d : ItemDevice) (wires : Tab
     abbrev word : EnabledWord
     word = record { id = previd_of m; resume = true; max = Some RESUMABLE_SECONDS }
 
-    abbrev starts : Turn ItemOut ItemOut
+    abbrev starts : ClientStep ItemOut ItemOut
     starts = begins in_items now (previd_of m)
 
     some_digits : (text : List ℕ) → length text ≡ 16 → is_empty text ≡ false
     some_digits [] size = absurd (let no_way : ⊥ = cc in no_way)
     some_digits (b ∷ bs) size = refl
 
-    enabled_turn : turn_on (Whole (enabled_elem word)) d ≡ starts
-    enabled_turn =
+    enabled_client_step : client_step_on (Whole (enabled_elem word)) d ≡ starts
+    enabled_client_step =
         on_element d (enabled_elem word) (client_phase who (logins k) InEnable) (phase_here who logins d wires v k (Enabled m) p InEnable is)
         ∙ ap (enabling_with in_items now (enabled_elem word)) (enabled_written word (omega arith))
         ∙ ap (λ b. if not b then starts else other_element now (enabled_elem word)) (some_digits (previd_of m) (length-hex16_of m))
@@ -164,7 +164,7 @@ module _ (who : Identity) (logins : ℕ → Login) (d : ItemDevice) (wires : Tab
     enabled_read =
         let puts : List (UpWord ItemOut) = Up (St carbons_item) ∷ Up (St available_item) ∷ [] in
         let stanzas : All IsForServer (up_stanzas puts) = own_begun.for_server in
-        subst (HearingFollows who logins d wires v k p.wire) (sym enabled_turn)
+        subst (HearingFollows who logins d wires v k p.wire) (sym enabled_client_step)
         (works_on who logins d wires v k (Enabled m) p starts (InOnline m) puts (ReadsEnabled k m ∷ Puts k carbons_item ∷ Puts k available_item ∷ []) third_view (tt, (inl refl, (inl refl, tt))) refl p.shown.client.epoch own_begun refl refl stanzas
         (same_items who logins d wires v k (Enabled m) p InEnable (InOnline m) is refl) (
           first_view,
@@ -190,21 +190,21 @@ module _ (who : Identity) (logins : ℕ → Login) (d : ItemDevice) (wires : Tab
     abbrev s : SessionView ItemOut
     s = has_session.0
 
-    abbrev goes_on : Turn ItemOut ItemOut
+    abbrev goes_on : ClientStep ItemOut ItemOut
     goes_on = attaches in_items (acknowledges in_items now s (told_count h))
 
     within : IsWithin o.acked o.queue h
     within = resumed_within v k q h p.conn o p.rest (kept_here who logins d wires v k (Resumed q h) p) p.here p.is own p.first
 
-    abbrev too_high_turn : Turn ItemOut ItemOut
-    too_high_turn = counts_too_high in_items now (too_high s.waiting (told_count h))
+    abbrev too_high_client_step : ClientStep ItemOut ItemOut
+    too_high_client_step = counts_too_high in_items now (too_high s.waiting (told_count h))
 
-    resumed_turn : turn_on (Whole (resumed_elem told)) d ≡ goes_on
-    resumed_turn =
+    resumed_client_step : client_step_on (Whole (resumed_elem told)) d ≡ goes_on
+    resumed_client_step =
         on_element d (resumed_elem told) (client_phase who (logins k) (InResume q)) (phase_here who logins d wires v k (Resumed q h) p (InResume q) is)
         ∙ ap (resuming_with in_items now (resumed_elem told)) (resumed_written told (mod-lt h (omega arith)))
         ∙ ap (λ n. resumed_in in_items now n (told_count h)) has_session.1
-        ∙ ap (λ b. if b then too_high_turn else goes_on) (not_too_high o s h within has_session.2)
+        ∙ ap (λ b. if b then too_high_client_step else goes_on) (not_too_high o s h within has_session.2)
 
     abbrev left_over : List ItemOut
     left_over = drop (h - o.acked) o.queue
@@ -218,7 +218,7 @@ module _ (who : Identity) (logins : ℕ → Login) (d : ItemDevice) (wires : Tab
           sessions = alter (λ n t. resent_if (has (Some o.number) n) (is_flowing p.conn.wires) t) v.sessions;
         } in
         let after = acked_own o s h within has_session.2 in
-        subst (HearingFollows who logins d wires v k p.wire) (sym resumed_turn)
+        subst (HearingFollows who logins d wires v k p.wire) (sym resumed_client_step)
         (works_on who logins d wires v k (Resumed q h) p goes_on (InOnline o.number) (again left_over) (ReadsResumed k ∷ []) next (tt, tt) refl p.shown.client.epoch after refl
         (ap (resent in_items) after.queue ∙ again_items who (logins k) left_over) (subst (All IsForServer) (sym (again_stanzas left_over)) after.for_server)
         (same_items who logins d wires v k (Resumed q h) p (InResume q) (InOnline o.number) is refl) (

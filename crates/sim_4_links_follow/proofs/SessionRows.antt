@@ -9,14 +9,14 @@ use Rattle.std.specs.Option.{option_map}
 use Rattle.sm_acks.proofs.Senders.{ahead_exact}
 use Rattle.sm_acks.specs.Counters.{ahead}
 use Rattle.sm_acks.specs.declared.end.TheConstants.{MOST_UNACKNOWLEDGED}
-use Rattle.srv_state.specs.State.{Hall, Put, with_sessions}
+use Rattle.srv_state.specs.State.{Put, ServerState, with_sessions}
 use Rattle.srv_state.specs.Steps.{Say, acted}
 use Rattle.srv_state.specs.Steps.{Enable as ActEnable}
 use Rattle.srv_state.specs.declared.word.Word.TheVariants as word
 use Rattle.sm_resumption.specs.declared.answers.TheConstants.{RESUMABLE_SECONDS}
 use Rattle.sim_3_items.specs.Counted.{IsForClient}
 use Rattle.sim_3_items.specs.Identities.{Identity, Login}
-use Rattle.sim_3_items.specs.Servers.{IsRow, ServerShows}
+use Rattle.sim_3_items.specs.Servers.{IsRow, ServerRepresents}
 use Rattle.sim_3_items.specs.WordItems.{told_count, up_item}
 use Rattle.im_extensions.specs.StreamManagement.{ack_elem, enable_elem}
 use Rattle.sim_3_items.specs.ItemMoves.{step_of}
@@ -43,7 +43,7 @@ use Rattle.srv_handlers.specs.Managements.{acknowledging, refusing}
 use Rattle.im_stanza.specs.declared.conditions.Condition.TheVariants.{UnexpectedRequest}
 use Rattle.sim_4_links_follow.proofs.Emitted.{puts_at}
 use Rattle.sim_4_links_follow.proofs.Found.{Keeps}
-use Rattle.sim_4_links_follow.proofs.Servings.{Known, known_altered, known_same, row_shows, session_shows}
+use Rattle.sim_4_links_follow.proofs.Servings.{Known, known_altered, known_same, row_represents, session_represents}
 use Rattle.xml_writer.specs.Items.{ItemOut}
 
 -- ---- sessions that are changed so
@@ -132,16 +132,16 @@ known_enabled n flows v = known_altered (enabled_one n flows) v
 
 -- ---- the rows
 
-module _ (who : Identity) (logins : ℕ → Login) (h : Hall ItemOut) (wires : Table ItemWire) (v : View ItemOut) (k : ℕ) where
+module _ (who : Identity) (logins : ℕ → Login) (h : ServerState ItemOut) (wires : Table ItemWire) (v : View ItemOut) (k : ℕ) where
   -- a request is answered by the count
   module _ (p : IsFirst who logins h wires v k (Up Req)) (there : HasThere v k p.conn.phase true) where
-    pub request_step : on_item k (up_item who (logins k) (Up Req)) h ≡ record { hall = h; outs = puts_at k (ack_item (told_count there.0.handled) ∷ []) }
+    pub request_step : on_item k (up_item who (logins k) (Up Req)) h ≡ record { server_state = h; outs = puts_at k (ack_item (told_count there.0.handled) ∷ []) }
     request_step =
         let s = (live who logins h wires v k (Up Req) p true there).session in
         let c = counts_so who logins h wires v k (Up Req) p true there in
         session_row who logins h wires v k (Up Req) p true there (bare management (codes "r")) word.Request request_word
         ∙ ap (λ b. acted itself (cond b (Say k (ack_item s.handled) ∷ []) (refusing itself k UnexpectedRequest)) (step_of h)) c
-        ∙ ap (λ n. record { hall = h; outs = Put k (ack_item n) ∷ [] }) (live who logins h wires v k (Up Req) p true there).row.handled
+        ∙ ap (λ n. record { server_state = h; outs = Put k (ack_item n) ∷ [] }) (live who logins h wires v k (Up Req) p true there).row.handled
 
     request_follows : IsTaken who logins h wires v k p.wire (Up Req)
     request_follows =
@@ -154,23 +154,23 @@ module _ (who : Identity) (logins : ℕ → Login) (h : Hall ItemOut) (wires : T
           next = next;
           leads = (next, record { conn = p.conn; is = p.is; rest = p.rest; first = p.first; row = row; is_row = there.1; on = there.3; counted = there.4; gives = refl }, refl);
           does = refl;
-          server = row_shows who logins h v p.server k p.conn p.is (taken who logins h wires v k (Up Req) p p.conn.phase puts) v.row sessions (known_altered (λ q s. stated_if (has (Some row.number) q) s) v) refl p.server.row;
+          server = row_represents who logins h v p.server k p.conn p.is (taken who logins h wires v k (Up Req) p p.conn.phase puts) v.row sessions (known_altered (λ q s. stated_if (has (Some row.number) q) s) v) refl p.server.row;
           pipes = taken_pipes who logins h wires v k (Up Req) p p.conn.phase puts (ack_item (told_count row.handled) ∷ []) next (λ j. refl) refl (All-nil IsForClient);
           client = taken_client who logins h wires v k (Up Req) p p.conn.phase puts next refl refl refl refl;
         })
 
   -- stanzas are counted from now on
   module _ (p : IsFirst who logins h wires v k Enable) (there : HasThere v k p.conn.phase false) where
-    abbrev pub enabled_hall : Hall ItemOut
-    enabled_hall = with_sessions (with_session there.0.number (enables true) h.sessions) h
+    abbrev pub enabled_server_state : ServerState ItemOut
+    enabled_server_state = with_sessions (with_session there.0.number (enables true) h.sessions) h
 
-    pub enable_step : on_item k (up_item who (logins k) Enable) h ≡ record { hall = enabled_hall; outs = puts_at k (resumable_item there.0.number RESUMABLE_SECONDS ∷ []) }
+    pub enable_step : on_item k (up_item who (logins k) Enable) h ≡ record { server_state = enabled_server_state; outs = puts_at k (resumable_item there.0.number RESUMABLE_SECONDS ∷ []) }
     enable_step =
         let s = (live who logins h wires v k Enable p false there).session in
         let c = counts_so who logins h wires v k Enable p false there in
         session_row who logins h wires v k Enable p false there (enable_elem (record { resume = true })) (word.Enable true) enable_word
         ∙ ap (λ b. acted itself (cond b (refusing itself k UnexpectedRequest) (ActEnable s.shown.number true ∷ Say k (resumable_item s.shown.number RESUMABLE_SECONDS) ∷ [])) (step_of h)) c
-        ∙ ap (λ n. record { hall = with_sessions (with_session n (enables true) h.sessions) h; outs = Put k (resumable_item n RESUMABLE_SECONDS) ∷ [] }) (live who logins h wires v k Enable p false there).row.number
+        ∙ ap (λ n. record { server_state = with_sessions (with_session n (enables true) h.sessions) h; outs = Put k (resumable_item n RESUMABLE_SECONDS) ∷ [] }) (live who logins h wires v k Enable p false there).row.number
 
     enable_follows : IsTaken who logins h wires v k p.wire Enable
     enable_follows =
@@ -186,10 +186,10 @@ module _ (who : Identity) (logins : ℕ → Login) (h : Hall ItemOut) (wires : T
           leads = (next, record { conn = p.conn; is = p.is; rest = p.rest; first = p.first; row = row; is_row = there.1; on = there.3; uncounted = there.4; gives = refl }, refl);
           does = refl;
           server =
-              row_shows who logins enabled_hall (record v { row = Some after; sessions = sessions })
-              (session_shows who logins h v row after (enables true) sessions (known_enabled row.number (is_flowing p.conn.wires) v) p.server there.1 enables_keeps (enabled_row row) (few_wait who logins h wires v k Enable p false there))
+              row_represents who logins enabled_server_state (record v { row = Some after; sessions = sessions })
+              (session_represents who logins h v row after (enables true) sessions (known_enabled row.number (is_flowing p.conn.wires) v) p.server there.1 enables_keeps (enabled_row row) (few_wait who logins h wires v k Enable p false there))
               k p.conn p.is d (Some after) sessions (known_same (record v { row = Some after; sessions = sessions })) refl
-              (session_shows who logins h v row after (enables true) sessions (known_enabled row.number (is_flowing p.conn.wires) v) p.server there.1 enables_keeps (enabled_row row) (few_wait who logins h wires v k Enable p false there)).row;
+              (session_represents who logins h v row after (enables true) sessions (known_enabled row.number (is_flowing p.conn.wires) v) p.server there.1 enables_keeps (enabled_row row) (few_wait who logins h wires v k Enable p false there)).row;
           pipes = taken_pipes who logins h wires v k Enable p p.conn.phase puts (resumable_item row.number RESUMABLE_SECONDS ∷ []) next (λ j. refl) refl (All-nil IsForClient);
           client = taken_client who logins h wires v k Enable p p.conn.phase puts next refl refl refl refl;
         })
@@ -202,13 +202,13 @@ module _ (who : Identity) (logins : ℕ → Login) (h : Hall ItemOut) (wires : T
     low : told_count n < 2 ^ 32
     low = mod-lt n (omega arith)
 
-    abbrev pub acked_hall : Hall ItemOut
-    acked_hall = with_sessions (with_session there.0.number (acknowledged (told_count n)) h.sessions) h
+    abbrev pub acked_server_state : ServerState ItemOut
+    acked_server_state = with_sessions (with_session there.0.number (acknowledged (told_count n)) h.sessions) h
 
-    abbrev pub asked_hall : Hall ItemOut
-    asked_hall = with_sessions (with_session there.0.number (asks false) acked_hall.sessions) acked_hall
+    abbrev pub asked_server_state : ServerState ItemOut
+    asked_server_state = with_sessions (with_session there.0.number (asks false) acked_server_state.sessions) acked_server_state
 
-    pub count_step : on_item k (up_item who (logins k) (Up (Ack n))) h ≡ record { hall = asked_hall; outs = [] }
+    pub count_step : on_item k (up_item who (logins k) (Up (Ack n))) h ≡ record { server_state = asked_server_state; outs = [] }
     count_step =
         let here = live who logins h wires v k (Up (Ack n)) p true there in
         let s = here.session in
@@ -216,7 +216,7 @@ module _ (who : Identity) (logins : ℕ → Login) (h : Hall ItemOut) (wires : T
         ∙ ap (λ b. acted itself (cond b (acknowledging itself k s.shown.number (told_count n) (option_map (ack_answer (told_count n)) (session_of s.shown.number h.sessions))) (refusing itself k UnexpectedRequest)) (step_of h)) (counts_so who logins h wires v k (Up (Ack n)) p true there)
         ∙ ap (λ o. acted itself (acknowledging itself k s.shown.number (told_count n) (option_map (ack_answer (told_count n)) o)) (step_of h)) (numbered who logins h wires v k (Up (Ack n)) p true there)
         ∙ ap (λ a. acted itself (acknowledging itself k s.shown.number (told_count n) (Some a)) (step_of h)) (within_answer there.0 n within (few who logins h wires v k (Up (Ack n)) p true there) s here.row)
-        ∙ ap (λ m. record { hall = with_sessions (with_session m (asks false) (with_session m (acknowledged (told_count n)) h.sessions)) h; outs = [] }) here.row.number
+        ∙ ap (λ m. record { server_state = with_sessions (with_session m (asks false) (with_session m (acknowledged (told_count n)) h.sessions)) h; outs = [] }) here.row.number
 
     count_follows : IsTaken who logins h wires v k p.wire (Up (Ack n))
     count_follows =
@@ -226,26 +226,26 @@ module _ (who : Identity) (logins : ℕ → Login) (h : Hall ItemOut) (wires : T
         let sessions : Table (links.Session ItemOut) = alter (λ q s. acked_if (has (Some row.number) q) n s) v.sessions in
         let next : View ItemOut = record v { conns = with_at k d v.conns; row = Some after; sessions = sessions } in
         let queue_few = few who logins h wires v k (Up (Ack n)) p true there in
-        let acked : ServerShows who logins acked_hall (record v { row = Some after; sessions = sessions }) =
-        session_shows who logins h v row after (acknowledged (told_count n)) sessions (known_altered (λ q s. acked_if (has (Some row.number) q) n s) v) p.server there.1 (acknowledged_keeps (told_count n)) (acknowledged_row row n within queue_few)
+        let acked : ServerRepresents who logins acked_server_state (record v { row = Some after; sessions = sessions }) =
+        session_represents who logins h v row after (acknowledged (told_count n)) sessions (known_altered (λ q s. acked_if (has (Some row.number) q) n s) v) p.server there.1 (acknowledged_keeps (told_count n)) (acknowledged_row row n within queue_few)
         (λ s is. fewer (ahead (told_count n) s.acked) MOST_UNACKNOWLEDGED s.waiting (few_wait who logins h wires v k (Up (Ack n)) p true there s is)) in
         let few_left : length after.queue ≤ MOST_UNACKNOWLEDGED = fewer (n - row.acked) MOST_UNACKNOWLEDGED row.queue queue_few in
-        let asked : ServerShows who logins asked_hall (record v { row = Some after; sessions = sessions }) =
-        session_shows who logins acked_hall (record v { row = Some after; sessions = sessions }) after after (asks false) sessions (known_same (record v { row = Some after; sessions = sessions })) acked refl (asks_keeps false) (asked_row false after)
+        let asked : ServerRepresents who logins asked_server_state (record v { row = Some after; sessions = sessions }) =
+        session_represents who logins acked_server_state (record v { row = Some after; sessions = sessions }) after after (asks false) sessions (known_same (record v { row = Some after; sessions = sessions })) acked refl (asks_keeps false) (asked_row false after)
         (λ s is. subst (λ q. length q ≤ MOST_UNACKNOWLEDGED) (sym is.waiting) few_left) in
         subst (λ t. StepFollows who logins wires v k p.wire t []) (sym count_step) (record {
           moves = TakesCount k n ∷ [];
           next = next;
           leads = (next, record { conn = p.conn; is = p.is; rest = p.rest; first = p.first; row = row; is_row = there.1; on = there.3; counted = there.4; gives = refl }, refl);
           does = refl;
-          server = row_shows who logins asked_hall (record v { row = Some after; sessions = sessions }) asked k p.conn p.is d (Some after) sessions (known_same (record v { row = Some after; sessions = sessions })) refl asked.row;
+          server = row_represents who logins asked_server_state (record v { row = Some after; sessions = sessions }) asked k p.conn p.is d (Some after) sessions (known_same (record v { row = Some after; sessions = sessions })) refl asked.row;
           pipes = taken_pipes who logins h wires v k (Up (Ack n)) p p.conn.phase [] [] next (λ j. refl) refl (All-nil IsForClient);
           client = taken_client who logins h wires v k (Up (Ack n)) p p.conn.phase [] next refl refl refl refl;
         })
 
 -- ---- all three
 
-pub management_follows : (who : Identity) (logins : ℕ → Login) (h : Hall ItemOut) (wires : Table ItemWire) (v : View ItemOut) (k : ℕ) (word : UpWord ItemOut) (p : IsFirst who logins h wires v k word)
+pub management_follows : (who : Identity) (logins : ℕ → Login) (h : ServerState ItemOut) (wires : Table ItemWire) (v : View ItemOut) (k : ℕ) (word : UpWord ItemOut) (p : IsFirst who logins h wires v k word)
     → IsOfManagement word → IsTaken who logins h wires v k p.wire word
 management_follows who logins h wires v k Enable p is = enable_follows who logins h wires v k p (expected_up v k p.conn Enable p.rest (kept_here who logins h wires v k Enable p) p.is p.first)
 management_follows who logins h wires v k (Up Req) p is = request_follows who logins h wires v k p (expected_up v k p.conn (Up Req) p.rest (kept_here who logins h wires v k (Up Req) p) p.is p.first)

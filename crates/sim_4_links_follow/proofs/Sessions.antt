@@ -3,7 +3,7 @@ use Rattle.std.proofs.Common.{◌≡◌, ℕ, ◌≤◌, Bool, List, Some, lengt
 use Rattle.std.specs.List.{All}
 use Rattle.std.specs.Option.{option_map}
 use Rattle.sm_acks.specs.declared.end.TheConstants.{MOST_UNACKNOWLEDGED}
-use Rattle.srv_state.specs.State.{Hall}
+use Rattle.srv_state.specs.State.{ServerState}
 use Rattle.srv_state.specs.Steps.{acted}
 use Rattle.srv_state.specs.Streams.{standing_of}
 use Rattle.srv_state.specs.Words.{word_of}
@@ -14,10 +14,10 @@ use Rattle.srv_state.specs.declared.word.Word.{Word}
 use Rattle.sim_3_items.specs.Counted.{IsForClient}
 use Rattle.sim_3_items.specs.Frames.{KeepsClient, SameClient}
 use Rattle.sim_3_items.specs.Identities.{Identity, Login}
-use Rattle.sim_3_items.specs.Pipes.{IsWire, PipesShow}
+use Rattle.sim_3_items.specs.Pipes.{IsWire, PipesRepresent}
 use Rattle.sim_3_items.specs.Sent.{sent, sent_under}
 use Rattle.sim_3_items.specs.Servers.{IsRow}
-use Rattle.sim_3_items.specs.WordItems.{down_item, is_behind_login}
+use Rattle.sim_3_items.specs.WordItems.{down_item, is_after_login}
 use Rattle.xml_framer.specs.declared.items.Item.TheVariants as item
 use Rattle.sim_3_items.specs.ItemMoves.{step_of}
 use Rattle.sim_3_items.specs.ItemPipes.{ItemWire, handed_up, put_down}
@@ -41,15 +41,15 @@ use Rattle.sim_4_links_follow.proofs.Servings.{IsLive, live_of}
 use Rattle.sim_4_links_follow.proofs.Taken.{wire_taken}
 use Rattle.xml_writer.specs.Items.{ItemOut, Whole}
 
-module _ (who : Identity) (logins : ℕ → Login) (h : Hall ItemOut) (wires : Table ItemWire) (v : View ItemOut) (k : ℕ) (word : UpWord ItemOut) (p : IsFirst who logins h wires v k word) where
+module _ (who : Identity) (logins : ℕ → Login) (h : ServerState ItemOut) (wires : Table ItemWire) (v : View ItemOut) (k : ℕ) (word : UpWord ItemOut) (p : IsFirst who logins h wires v k word) where
   -- the connection as the word was taken and others were put
   abbrev pub taken : Phase → List (DownWord ItemOut) → Conn ItemOut
   taken at puts = record p.conn { phase = at; wires = send_down puts (left_up p.rest p.conn.wires) }
 
   pub taken_pipes : (at : Phase) (puts : List (DownWord ItemOut)) (items : List ItemOut) (next : View ItemOut) → ((j : ℕ) → next.conns j ≡ with_at k (taken at puts) v.conns j)
-      → items ≡ map (down_item who (logins k) k (is_behind_login p.conn.client)) puts → All IsForClient (down_stanzas puts) → PipesShow who logins (sent (puts_at k items) (with_at k (handed_up p.wire) wires)) next
+      → items ≡ map (down_item who (logins k) k (is_after_login p.conn.client)) puts → All IsForClient (down_stanzas puts) → PipesRepresent who logins (sent (puts_at k items) (with_at k (handed_up p.wire) wires)) next
   taken_pipes at puts items next conns same stanzas =
-      let here : sent_under k (puts_at k items) (handed_up p.wire) ≡ put_down (map (down_item who (logins k) k (is_behind_login p.conn.client)) puts) (handed_up p.wire)
+      let here : sent_under k (puts_at k items) (handed_up p.wire) ≡ put_down (map (down_item who (logins k) k (is_after_login p.conn.client)) puts) (handed_up p.wire)
       = puts_here k items (handed_up p.wire) ∙ ap (λ l. put_down l (handed_up p.wire)) same in
       shown_sent who logins wires v next k (taken at puts) p.wire (handed_up p.wire) (puts_at k items) p.pipes conns (puts_are_for k items)
       (subst (IsWire who (logins k) k (taken at puts)) (sym here) (wire_taken who (logins k) k p.conn p.wire (wire_here who logins h wires v k word p) word p.rest puts at p.first stanzas))
@@ -78,13 +78,13 @@ module _ (who : Identity) (logins : ℕ → Login) (h : Hall ItemOut) (wires : T
     counts_so = live.row.counted ∙ there.4
 
     pub seat : session_at k h.sessions ≡ Some session
-    seat = found_on h.next k who.account who.resource h.sessions session p.server.hall.sessions live.named (live.row.conn ∙ there.3)
+    seat = found_on h.next k who.account who.resource h.sessions session p.server.server_state.sessions live.named (live.row.conn ∙ there.3)
 
     pub numbered : session_of session.shown.number h.sessions ≡ Some session
-    numbered = numbered_here (is_named who.account who.resource) h.next 1 h.sessions session p.server.hall.sessions.ascending live.named
+    numbered = numbered_here (is_named who.account who.resource) h.next 1 h.sessions session p.server.server_state.sessions.ascending live.named
 
     pub few : length row.queue ≤ MOST_UNACKNOWLEDGED
-    few = subst (λ q. length q ≤ MOST_UNACKNOWLEDGED) live.row.waiting (p.server.hall.sessions.few session.shown.number session numbered)
+    few = subst (λ q. length q ≤ MOST_UNACKNOWLEDGED) live.row.waiting (p.server.server_state.sessions.few session.shown.number session numbered)
 
     pub few_wait : (s : Session ItemOut) → IsRow row s → length s.waiting ≤ MOST_UNACKNOWLEDGED
     few_wait s is = subst (λ q. length q ≤ MOST_UNACKNOWLEDGED) (sym is.waiting) few

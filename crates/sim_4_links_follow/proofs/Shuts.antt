@@ -3,9 +3,9 @@ use Rattle.std.proofs.Common.{◌≡◌, ℕ, List, [], ◌∷◌, ◌++◌, Som
 use Rattle.srv_state.specs.State.{Out, Shut}
 use Rattle.sim_3_items.specs.Frames.{KeepsClient, SameClient}
 use Rattle.sim_3_items.specs.Identities.{Identity, Login}
-use Rattle.sim_3_items.specs.Pipes.{IsWire, PipesShow}
+use Rattle.sim_3_items.specs.Pipes.{IsWire, PipesRepresent}
 use Rattle.sim_3_items.specs.Sent.{sent, sent_under}
-use Rattle.sim_3_items.specs.WordItems.{down_item, is_behind_login}
+use Rattle.sim_3_items.specs.WordItems.{down_item, is_after_login}
 use Rattle.sim_3_items.specs.ItemPipes.{ItemWire, handed_up, put_down, shut}
 use Rattle.sim_2_links.specs.SessionMoves.{shut as shut_conn}
 use Rattle.sim_2_links.specs.Stages.{Conn, Ending, tail_of}
@@ -27,8 +27,8 @@ pub shuts_here : (k : ℕ) (items : List ItemOut) (w : ItemWire) → sent_under 
 shuts_here k items w = sent_both k (puts_at k items) (Shut k ∷ []) w ∙ ap (sent_under k (Shut k ∷ [])) (puts_here k items w) ∙ one_here k shut (put_down items w)
 
 module _ (who : Identity) (logins : ℕ → Login) (wires : Table ItemWire) (v next : View ItemOut) (k : ℕ) (c : Conn ItemOut) (w : ItemWire) (ending : Ending) where
-  pub shut_pipes : PipesShow who logins wires v → IsWire who (logins k) k c w → ((j : ℕ) → next.conns j ≡ with_at k (shut_conn ending c) v.conns j) → (items : List ItemOut)
-      → items ≡ map (down_item who (logins k) k (is_behind_login c.client)) (tail_of ending) → PipesShow who logins (sent (shuts_at k items) (with_at k (handed_up w) wires)) next
+  pub shut_pipes : PipesRepresent who logins wires v → IsWire who (logins k) k c w → ((j : ℕ) → next.conns j ≡ with_at k (shut_conn ending c) v.conns j) → (items : List ItemOut)
+      → items ≡ map (down_item who (logins k) k (is_after_login c.client)) (tail_of ending) → PipesRepresent who logins (sent (shuts_at k items) (with_at k (handed_up w) wires)) next
   shut_pipes pipes is conns items same =
       shown_sent who logins wires v next k (shut_conn ending c) w (handed_up w) (shuts_at k items) pipes conns (shuts_are_for k items)
       (subst (IsWire who (logins k) k (shut_conn ending c)) (sym (shuts_here k items (handed_up w) ∙ ap (λ l. shut (put_down l (handed_up w))) same)) (wire_shut who (logins k) k c w is ending))

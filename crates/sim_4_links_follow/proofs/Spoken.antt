@@ -6,18 +6,18 @@ use Rattle.std.specs.List.{All}
 use Rattle.std.specs.Option.{option_map}
 use Rattle.std.specs.Str.{bytes_eq}
 use Rattle.cl_core.specs.Steps.{element_row, handles, item_step, online_in, stanza_row, stream_condition, told_row}
-use Rattle.cl_core.specs.UserCalls.{catch_up_answer, catches_up, say_answer, says as says_turn}
+use Rattle.cl_core.specs.UserCalls.{catch_up_answer, catches_up, say_answer, says as says_client_step}
 use Rattle.law_limits.specs.Answerable.{IsItemAnswerable}
 use Rattle.law_limits.specs.Within.{IsClientWithin}
 use Rattle.sim_3_images.proofs.ItemsHeard.{entered_twice, nothing_entered}
 use Rattle.sim_4_links_follow.proofs.HandMoves.{shown_wire}
 use Rattle.sim_4_links_follow.proofs.Hearing.{wire_heard}
 use Rattle.sim_4_links_follow.proofs.Turning.{own_session}
-use Rattle.sim_4_links_follow.proofs.Working.{client_works, never_apart, same_server, some_place}
+use Rattle.sim_4_links_follow.proofs.Working.{client_works, never_apart, same_server, some_position}
 use Rattle.cl_handlers.specs.AckRows.{request_row}
 use Rattle.cl_handlers.specs.SessionRows.{is_stanza}
 use Rattle.cl_handlers.specs.Speech.{in_items}
-use Rattle.cl_handlers.specs.Turns.{ends, is_apart}
+use Rattle.cl_handlers.specs.ClientSteps.{ends, is_apart}
 use Rattle.cl_handlers.specs.declared.events.PeerFault.TheVariants.{Stream}
 use Rattle.cl_handlers.specs.declared.phase.Phase.TheVariants as phase
 use Rattle.sim_4_links_follow.proofs.Courses.{Course, Enters, left_course, quiet_course, said_course, server_stays}
@@ -27,15 +27,15 @@ use Rattle.sim_4_links_follow.proofs.Rows.{catches_up_said, says_said, stanza_ou
 use Rattle.sim_4_links_follow.specs.Speaking.{IsBareAddress}
 use Rattle.sim_3_items.specs.Clients.{ClientFollows, IsOwn, client_phase}
 use Rattle.sim_3_items.specs.Counted.{IsForClient, IsForServer}
-use Rattle.sim_3_items.specs.Deeds.{Reads}
+use Rattle.sim_3_items.specs.Labels.{Reads}
 use Rattle.sim_3_items.specs.Identities.{Identity, Login}
 use Rattle.sim_3_items.specs.Pipes.{IsShown, IsWire}
-use Rattle.sim_3_items.specs.Reading.{HearingFollows, IsNextDown, IsRead, IsShownHere, SpeakingFollows, noted, where_here}
+use Rattle.sim_3_items.specs.Reading.{HearingFollows, IsNextDown, IsRead, IsRepresentedHere, SpeakingFollows, noted, where_here}
 use Rattle.sim_3_items.specs.Sent.{where_it}
 use Rattle.im_extensions.specs.StreamManagement.{ack_read, is_management}
-use Rattle.sim_3_items.specs.ItemMoves.{here_behind, left_where}
+use Rattle.sim_3_items.specs.ItemMoves.{here_after, left_where}
 use Rattle.sim_3_items.specs.ItemPipes.{ItemPipe, ItemWire, handed_down, left, put_up}
-use Rattle.sim_3_items.specs.ItemWorlds.{ItemDevice, read_of, silent_turn}
+use Rattle.sim_3_items.specs.ItemWorlds.{ItemDevice, read_of, silent_client_step}
 use Rattle.xml_framer.specs.declared.items.Item.TheVariants as item
 use Rattle.sim_2_links.proofs.CutLinks.{some_one}
 use Rattle.sim_2_links.proofs.Entries.{at_other, at_same, other_number, same_number}
@@ -82,25 +82,25 @@ idle : (f : ItemWire → ItemWire) (o : Option ItemWire) → option_map (where_i
 idle f None = refl
 idle f (Some w) = refl
 
-here_enters : (place : ℕ) (wires : Table ItemWire) → Enters (place + 1) (λ put. where_here (Some place) (put_up put) wires)
-here_enters place wires = record {
-  here = λ put more w. subst (λ b. option_map (where_it b (put_up put)) (wires (place + 1)) ≡ Some w → option_map (where_it b (put_up (put ++ more))) (wires (place + 1)) ≡ Some (put_up more w))
-      (sym (same_number (place + 1))) (by put more w (wires (place + 1)));
+here_enters : (position : ℕ) (wires : Table ItemWire) → Enters (position + 1) (λ put. where_here (Some position) (put_up put) wires)
+here_enters position wires = record {
+  here = λ put more w. subst (λ b. option_map (where_it b (put_up put)) (wires (position + 1)) ≡ Some w → option_map (where_it b (put_up (put ++ more))) (wires (position + 1)) ≡ Some (put_up more w))
+      (sym (same_number (position + 1))) (by put more w (wires (position + 1)));
   apart = λ put more j other.
-      ap (λ b. option_map (where_it b (put_up (put ++ more))) (wires j)) (other_number (place + 1) j other) ∙ idle (put_up (put ++ more)) (wires j)
-      ∙ sym (ap (λ b. option_map (where_it b (put_up put)) (wires j)) (other_number (place + 1) j other) ∙ idle (put_up put) (wires j));
+      ap (λ b. option_map (where_it b (put_up (put ++ more))) (wires j)) (other_number (position + 1) j other) ∙ idle (put_up (put ++ more)) (wires j)
+      ∙ sym (ap (λ b. option_map (where_it b (put_up put)) (wires j)) (other_number (position + 1) j other) ∙ idle (put_up put) (wires j));
 }
   where
     by : (put more : List ItemOut) (w : ItemWire) (o : Option ItemWire) → option_map (where_it true (put_up put)) o ≡ Some w → option_map (where_it true (put_up (put ++ more))) o ≡ Some (put_up more w)
     by put more w None is = absurd (let no_way : ⊥ = cc in no_way)
     by put more w (Some u) is = let same : put_up put u ≡ w = cc in ap Some (sym (put_twice put more u) ∙ ap (put_up more) same)
 
-spoken_enters : (h : Option ℕ) (wires : Table ItemWire) (place : ℕ) → h ≡ Some place → Enters (place + 1) (λ put. where_here h (put_up put) wires)
-spoken_enters h wires place is = subst (λ o. Enters (place + 1) (λ put. where_here o (put_up put) wires)) (sym is) (here_enters place wires)
+spoken_enters : (h : Option ℕ) (wires : Table ItemWire) (position : ℕ) → h ≡ Some position → Enters (position + 1) (λ put. where_here h (put_up put) wires)
+spoken_enters h wires position is = subst (λ o. Enters (position + 1) (λ put. where_here o (put_up put) wires)) (sym is) (here_enters position wires)
 
 silent_here : (h : Option ℕ) (wires : Table ItemWire) (n : ℕ) → where_here h (put_up []) wires n ≡ wires n
 silent_here None wires n = refl
-silent_here (Some place) wires n = by (nat_eq (place + 1) n) (wires n)
+silent_here (Some position) wires n = by (nat_eq (position + 1) n) (wires n)
   where
     by : (b : Bool) (o : Option ItemWire) → option_map (where_it b (put_up [])) o ≡ o
     by false o = idle (put_up []) o
@@ -156,14 +156,14 @@ module _ (who : Identity) (logins : ℕ → Login) (d : ItemDevice) (wires : Tab
   works : is_apart d.client.phase ≡ false
   works = ap is_apart (p.shown.client.phase k p.conn p.here p.is) ∙ never_apart who (logins k) p.conn.client
 
-  number : (place : ℕ) → d.here ≡ Some place → k ≡ place + 1
-  number place at = let had = p.shown.client.here k p.here in had.1 ∙ ap (λ n. n + 1) (some_place had.0 place (sym had.2 ∙ at))
+  number : (position : ℕ) → d.here ≡ Some position → k ≡ position + 1
+  number position at = let had = p.shown.client.here k p.here in had.1 ∙ ap (λ n. n + 1) (some_position had.0 position (sym had.2 ∙ at))
 
-  enters : (place : ℕ) → d.here ≡ Some place → Enters (place + 1) heard
-  enters place at = subst (λ n. Enters n heard) (number place at) (heard_enters k (handed_down p.wire) wires)
+  enters : (position : ℕ) → d.here ≡ Some position → Enters (position + 1) heard
+  enters position at = subst (λ n. Enters n heard) (number position at) (heard_enters k (handed_down p.wire) wires)
 
   -- the stanza is handled
-  handled_course : (o : Own ItemOut) (s : SessionView ItemOut) (e : Elem) → v.own ≡ Some o → p.conn.client ≡ InOnline o.number → IsOwn o s → z ≡ Whole e → Course who logins d v heard (handles in_items (silent_turn d.client) s e)
+  handled_course : (o : Own ItemOut) (s : SessionView ItemOut) (e : Elem) → v.own ≡ Some o → p.conn.client ≡ InOnline o.number → IsOwn o s → z ≡ Whole e → Course who logins d v heard (handles in_items (silent_client_step d.client) s e)
   handled_course o s e own client old whole =
       record {
         moves = ReadsStanza k z ∷ [];
@@ -172,7 +172,7 @@ module _ (who : Identity) (logins : ℕ → Login) (d : ItemDevice) (wires : Tab
         does = ap (λ i. Reads i ∷ []) whole;
         prompt = (tt, tt);
         client =
-            client_works who logins d v p.shown.client next k after (handles in_items (silent_turn d.client) s e).client p.here refl (at_same k after v.conns) refl p.shown.client.epoch (counted_own o s old)
+            client_works who logins d v p.shown.client next k after (handles in_items (silent_client_step d.client) s e).client p.here refl (at_same k after v.conns) refl p.shown.client.epoch (counted_own o s old)
             (p.shown.client.phase k p.conn p.here p.is);
         pipes =
             shown_at who logins wires (heard []) v next k after (put_up [] (handed_down p.wire)) p.shown.pipes (λ j. refl) (at_same k (put_up [] (handed_down p.wire)) wires)
@@ -194,13 +194,13 @@ module _ (who : Identity) (logins : ℕ → Login) (d : ItemDevice) (wires : Tab
   -- the client works on
   working : (u : T) → is_apart u.client.phase ≡ false → Course who logins d v heard u → HearingFollows who logins d wires v k p.wire u
   working u stands course =
-      subst (λ b. ClientFollows who logins (record { client = u.client; here = here_behind b d.here }) (with_at k (left_where b (put_up u.out.put (handed_down p.wire))) wires) v (noted u.out.notes))
+      subst (λ b. ClientFollows who logins (record { client = u.client; here = here_after b d.here }) (with_at k (left_where b (put_up u.out.put (handed_down p.wire))) wires) v (noted u.out.notes))
       (sym stands) course
 
   -- or leaves
   leaving : (t u : T) → is_apart t.client.phase ≡ false → Course who logins d v heard t → IsGone t u → HearingFollows who logins d wires v k p.wire u
   leaving t u stands course g =
-      subst (λ b. ClientFollows who logins (record { client = u.client; here = here_behind b d.here }) (with_at k (left_where b (put_up u.out.put (handed_down p.wire))) wires) v (noted u.out.notes))
+      subst (λ b. ClientFollows who logins (record { client = u.client; here = here_after b d.here }) (with_at k (left_where b (put_up u.out.put (handed_down p.wire))) wires) v (noted u.out.notes))
       (sym (ap is_apart g.phase)) (by course.next.here refl)
     where
       none_left : (w : ItemWire) → heard t.out.put k ≡ Some w → with_at k (left (put_up u.out.put (handed_down p.wire))) wires k ≡ Some (left w)
@@ -230,11 +230,11 @@ module _ (who : Identity) (logins : ℕ → Login) (d : ItemDevice) (wires : Tab
           → IsRead who logins d wires v k p.conn p.wire (Down (St z))
       by o s e own client stands old whole stanza online =
           subst (HearingFollows who logins d wires v k p.wire)
-          (sym (ap (λ i. item_step in_items (silent_turn d.client) (read_of i)) whole ∙ stanza_step (silent_turn d.client) s e online stands stanza (plain_stanza e stanza)))
+          (sym (ap (λ i. item_step in_items (silent_client_step d.client) (read_of i)) whole ∙ stanza_step (silent_client_step d.client) s e online stands stanza (plain_stanza e stanza)))
           (finish (stanza_row in_items first (stanza_of e)) (stanza_outcome first (stanza_of e) within.log (subst (λ i. IsItemAnswerable (read_of i)) whole answers).request))
         where
           first : T
-          first = handles in_items (silent_turn d.client) s e
+          first = handles in_items (silent_client_step d.client) s e
 
           course : Course who logins d v heard first
           course = handled_course o s e own client old whole
@@ -246,11 +246,11 @@ module _ (who : Identity) (logins : ℕ → Login) (d : ItemDevice) (wires : Tab
 
 -- ---- calls of the user
 
-module _ (who : Identity) (logins : ℕ → Login) (d : ItemDevice) (wires : Table ItemWire) (v : View ItemOut) (shown : IsShownHere who logins d wires v) where
+module _ (who : Identity) (logins : ℕ → Login) (d : ItemDevice) (wires : Table ItemWire) (v : View ItemOut) (shown : IsRepresentedHere who logins d wires v) where
   abbrev spoken : List ItemOut → Table ItemWire
   spoken put = where_here d.here (put_up put) wires
 
-  silent_course : Course who logins d v spoken (silent_turn d.client)
+  silent_course : Course who logins d v spoken (silent_client_step d.client)
   silent_course = record {
     moves = [];
     next = v;
@@ -262,19 +262,19 @@ module _ (who : Identity) (logins : ℕ → Login) (d : ItemDevice) (wires : Tab
     server = server_stays v;
   }
 
-  said_follows : (u : T) → IsSaid (silent_turn d.client) u → SpeakingFollows who logins d wires v u
-  said_follows u m = said_course who logins d v spoken (link_kept v shown.reached) (spoken_enters d.here wires) (silent_turn d.client) u m silent_course
+  said_follows : (u : T) → IsSaid (silent_client_step d.client) u → SpeakingFollows who logins d wires v u
+  said_follows u m = said_course who logins d v spoken (link_kept v shown.reached) (spoken_enters d.here wires) (silent_client_step d.client) u m silent_course
 
   low : (n : ℕ) → next_number n < 2 ^ 64
   low n = omega arith
 
   pub submission_follows : (to text : List ℕ) (private : Bool) (n : ℕ) → IsClientWithin d.client → IsBareAddress to → IsTextWithin most_text text → say_answer d.client text ≡ Ok n
-      → SpeakingFollows who logins d wires v (says_turn in_items (silent_turn d.client) to text private)
+      → SpeakingFollows who logins d wires v (says_client_step in_items (silent_client_step d.client) to text private)
   submission_follows to text private n within to_good text_good answer =
-      said_follows (says_turn in_items (silent_turn d.client) to text private)
-      (says_said (silent_turn d.client) to text private n answer
+      said_follows (says_client_step in_items (silent_client_step d.client) to text private)
+      (says_said (silent_client_step d.client) to text private n answer
       (submission_for_server d.client.account.resource to text d.client.epoch (next_number d.client.n) private within.account.resource within.epoch (low d.client.n) to_good text_good))
 
-  pub catch_up_follows : (most : ℕ) → IsClientWithin d.client → most < 2 ^ 32 → catch_up_answer d.client ≡ Ok tt → SpeakingFollows who logins d wires v (catches_up in_items (silent_turn d.client) most)
+  pub catch_up_follows : (most : ℕ) → IsClientWithin d.client → most < 2 ^ 32 → catch_up_answer d.client ≡ Ok tt → SpeakingFollows who logins d wires v (catches_up in_items (silent_client_step d.client) most)
   catch_up_follows most within small answer =
-      said_follows (catches_up in_items (silent_turn d.client) most) (catches_up_said (silent_turn d.client) most answer within.log.entries small)
+      said_follows (catches_up in_items (silent_client_step d.client) most) (catches_up_said (silent_client_step d.client) most answer within.log.entries small)

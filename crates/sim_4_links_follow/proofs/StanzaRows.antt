@@ -6,16 +6,16 @@ use Rattle.std.proofs.lemmas.Option.{same_Some}
 use Rattle.std.specs.List.{All, AllByRecursion}
 use Rattle.sm_acks.proofs.Senders.{counted_more}
 use Rattle.base_lemmas.proofs.Lists.{AllByRecursion-weaker}
-use Rattle.srv_state.specs.State.{Hall, Step, with_sessions}
+use Rattle.srv_state.specs.State.{ServerState, Step, with_sessions}
 use Rattle.srv_state.specs.Steps.{Act, Archive, Copy, Handle, Present, Send, Tell, acted}
 use Rattle.srv_state.specs.Words.{is_long, is_stanza, word_of}
 use Rattle.srv_state.specs.declared.word.Word.TheVariants as word
 use Rattle.sim_3_items.specs.Counted.{IsForClient, IsForServer}
-use Rattle.sim_3_items.specs.Deeds.{Takes, gives_all}
+use Rattle.sim_3_items.specs.Labels.{Takes, gives_all}
 use Rattle.sim_3_items.specs.Identities.{Identity, Login}
-use Rattle.sim_3_items.specs.Pipes.{PipesShow}
+use Rattle.sim_3_items.specs.Pipes.{PipesRepresent}
 use Rattle.sim_3_items.specs.Sent.{sent}
-use Rattle.sim_3_items.specs.Servers.{IsRow, ServerFollows, ServerShows}
+use Rattle.sim_3_items.specs.Servers.{IsRow, ServerFollows, ServerRepresents}
 use Rattle.sim_3_items.specs.WordItems.{told_count}
 use Rattle.sim_3_items.specs.ItemMoves.{step_of}
 use Rattle.sim_3_items.specs.ItemPipes.{ItemWire, handed_up}
@@ -43,19 +43,19 @@ use Rattle.sim_4_links_follow.proofs.Listening.{AreHeard, IsHeard, IsHeardBy, Is
 use Rattle.sim_4_links_follow.proofs.Own.{Goes}
 use Rattle.sim_4_links_follow.specs.Given.{IsGiven, IsOfSession, StepGives, acts_on}
 use Rattle.xml_trees.specs.Trees.{Elem}
-use Rattle.sim_4_links_follow.proofs.Servings.{IsLive, known_altered, known_same, live_of, row_shows, session_shows}
+use Rattle.sim_4_links_follow.proofs.Servings.{IsLive, known_altered, known_same, live_of, row_represents, session_represents}
 use Rattle.xml_writer.specs.Items.{ItemOut}
 
 -- ---- for any device: nothing is for a session of it that isn't counted
 
-module _ (who : Identity) (logins : ℕ → Login) (h : Hall ItemOut) (v : View ItemOut) (shows : ServerShows who logins h v) where
+module _ (who : Identity) (logins : ℕ → Login) (h : ServerState ItemOut) (v : View ItemOut) (represents : ServerRepresents who logins h v) where
   counted_at : (n : ℕ) → IsHeardBy h.sessions n → IsCountedAt v.row n
   counted_at n heard r is number =
-      let there = numbered_here (is_named who.account who.resource) h.next 1 h.sessions here.session shows.hall.sessions.ascending here.named in
+      let there = numbered_here (is_named who.account who.resource) h.next 1 h.sessions here.session represents.server_state.sessions.ascending here.named in
       by (heard here.session (subst (λ m. session_of m h.sessions ≡ Some here.session) (here.row.number ∙ number) there))
     where
       here : IsLive who h r
-      here = live_of who logins h v r shows is
+      here = live_of who logins h v r represents is
 
       counts : r.counted ≡ false → (here.session.shown.available ≡ true) ⊎ (here.session.shown.carbons ≡ true) → ⊥
       counts un (inl available) = let quiet = (here.row.quiet un).0 in let no_way : ⊥ = cc in no_way
@@ -93,7 +93,7 @@ handled_row r s is = record {
   for_client = is.for_client;
 }
 
-module _ (who : Identity) (logins : ℕ → Login) (h : Hall ItemOut) (wires : Table ItemWire) (v : View ItemOut) (k : ℕ) (z : ItemOut) (p : IsFirst who logins h wires v k (Up (St z))) where
+module _ (who : Identity) (logins : ℕ → Login) (h : ServerState ItemOut) (wires : Table ItemWire) (v : View ItemOut) (k : ℕ) (z : ItemOut) (p : IsFirst who logins h wires v k (Up (St z))) where
   there : HasThere v k p.conn.phase true
   there = expected_up v k p.conn (Up (St z)) p.rest (kept_here who logins h wires v k (Up (St z)) p) p.is p.first
 
@@ -111,11 +111,11 @@ module _ (who : Identity) (logins : ℕ → Login) (h : Hall ItemOut) (wires : T
     counted = counts_so who logins h wires v k (Up (St z)) p true there;
   }
 
-  abbrev counted_hall : Hall ItemOut
-  counted_hall = with_sessions (with_session row.number handles h.sessions) h
+  abbrev counted_server_state : ServerState ItemOut
+  counted_server_state = with_sessions (with_session row.number handles h.sessions) h
 
   abbrev counted_step : Step ItemOut
-  counted_step = record { hall = counted_hall; outs = [] }
+  counted_step = record { server_state = counted_server_state; outs = [] }
 
   module _ (x : IsOfSession who h z) where
     abbrev acts : List (Act ItemOut)
@@ -135,14 +135,14 @@ module _ (who : Identity) (logins : ℕ → Login) (h : Hall ItemOut) (wires : T
         ∙ ap (λ t. acted itself (at_bound itself k (word.Stanza false (stanza_of e)) (told t) (seated who logins h wires v k (Up (St z)) p true there) h) (step_of h)) same
         ∙ ap (λ o. acted itself (judging itself k (stanza_of e) (told x.session) (seated who logins h wires v k (Up (St z)) p true there) o h) (step_of h)) (x.stanza.fair (told x.session) h)
         ∙ ap (λ b. acted itself (cond b (Handle x.session.shown.number ∷ acts) acts) (step_of h)) x.counted
-        ∙ ap (λ n. acted itself acts (record { hall = with_sessions (with_session n handles h.sessions) h; outs = [] })) number
+        ∙ ap (λ n. acted itself acts (record { server_state = with_sessions (with_session n handles h.sessions) h; outs = [] })) number
 
     heard : AreHeard h.sessions acts
-    heard = handling_heard h (told x.session) own (stanza_of x.stanza.elem) p.server.hall.sessions.ascending x.stanza.bare
+    heard = handling_heard h (told x.session) own (stanza_of x.stanza.elem) p.server.server_state.sessions.ascending x.stanza.bare
       where
         own : IsHeardBy h.sessions x.session.shown.number
         own t found =
-            let here = numbered_here (is_named who.account who.resource) h.next 1 h.sessions x.session p.server.hall.sessions.ascending x.named in
+            let here = numbered_here (is_named who.account who.resource) h.next 1 h.sessions x.session p.server.server_state.sessions.ascending x.named in
             inl (subst (λ (u : Session ItemOut). u.shown.counted ≡ true) (same_Some x.session t (sym here ∙ found)) x.counted)
 
     -- ---- for its own device
@@ -159,18 +159,18 @@ module _ (who : Identity) (logins : ℕ → Login) (h : Hall ItemOut) (wires : T
     abbrev next : View ItemOut
     next = record v { conns = with_at k d v.conns; row = Some after; sessions = alter counted_one v.sessions }
 
-    counted_shows : ServerShows who logins counted_hall (record v { row = Some after; sessions = alter counted_one v.sessions })
-    counted_shows =
-        session_shows who logins h v row after handles (alter counted_one v.sessions) (known_altered counted_one v) p.server there.1 handles_keeps (handled_row row)
+    counted_represents : ServerRepresents who logins counted_server_state (record v { row = Some after; sessions = alter counted_one v.sessions })
+    counted_represents =
+        session_represents who logins h v row after handles (alter counted_one v.sessions) (known_altered counted_one v) p.server there.1 handles_keeps (handled_row row)
         (few_wait who logins h wires v k (Up (St z)) p true there)
 
-    abbrev counted_follows : ServerFollows who logins counted_hall (sent [] (with_at k (handed_up p.wire) wires)) v (Takes z ∷ [])
+    abbrev counted_follows : ServerFollows who logins counted_server_state (sent [] (with_at k (handed_up p.wire) wires)) v (Takes z ∷ [])
     counted_follows = record {
       moves = TakesStanza k z ∷ [];
       next = next;
       leads = (next, record { conn = p.conn; is = p.is; rest = p.rest; first = p.first; row = row; is_row = there.1; on = there.3; counted = there.4; gives = refl }, refl);
       does = refl;
-      server = row_shows who logins counted_hall (record v { row = Some after; sessions = alter counted_one v.sessions }) counted_shows k p.conn p.is d (Some after) (alter counted_one v.sessions) (known_same (record v { row = Some after; sessions = alter counted_one v.sessions })) refl counted_shows.row;
+      server = row_represents who logins counted_server_state (record v { row = Some after; sessions = alter counted_one v.sessions }) counted_represents k p.conn p.is d (Some after) (alter counted_one v.sessions) (known_same (record v { row = Some after; sessions = alter counted_one v.sessions })) refl counted_represents.row;
       pipes = taken_pipes who logins h wires v k (Up (St z)) p p.conn.phase [] [] next (λ j. refl) refl (All-nil IsForClient);
       client = taken_client who logins h wires v k (Up (St z)) p p.conn.phase [] next refl refl refl refl;
     }
@@ -196,12 +196,12 @@ module _ (who : Identity) (logins : ℕ → Login) (h : Hall ItemOut) (wires : T
 
     -- ---- for another
 
-    module _ (whom : Identity) (others : ℕ → Login) (u : View ItemOut) (apart : AreApart who whom) (reached : LinkReached u) (shows : ServerShows whom others h u) (pipes : PipesShow whom others wires u) where
+    module _ (whom : Identity) (others : ℕ → Login) (u : View ItemOut) (apart : AreApart who whom) (reached : LinkReached u) (represents : ServerRepresents whom others h u) (pipes : PipesRepresent whom others wires u) where
       not_its_session : IsNotOf u.row row.number
       not_its_session r is number_is =
           let mine = live who logins h wires v k (Up (St z)) p true there in
-          let its = live_of whom others h u r shows is in
-          let its_number = numbered_here (is_named whom.account whom.resource) h.next 1 h.sessions its.session shows.hall.sessions.ascending its.named in
+          let its = live_of whom others h u r represents is in
+          let its_number = numbered_here (is_named whom.account whom.resource) h.next 1 h.sessions its.session represents.server_state.sessions.ascending its.named in
           let at : its.session.shown.number ≡ mine.session.shown.number = its.row.number ∙ number_is ∙ sym mine.row.number in
           let one : its.session ≡ mine.session = same_Some its.session mine.session (sym its_number ∙ ap (λ n. session_of n h.sessions) at ∙ numbered who logins h wires v k (Up (St z)) p true there) in
           let a = named_as who.account who.resource mine.session (found_is (is_named who.account who.resource) h.sessions mine.session mine.named) in
@@ -210,9 +210,9 @@ module _ (who : Identity) (logins : ℕ → Login) (h : Hall ItemOut) (wires : T
 
       all_acts : Goes whom others (with_at k (handed_up p.wire) wires) u (Handle row.number ∷ acts) (acted itself acts counted_step)
       all_acts =
-          acts_go whom others (with_at k (handed_up p.wire) wires) (Handle row.number ∷ acts) (step_of h) u reached shows
-          (pipes_stay who whom others h wires u apart shows pipes k p.wire [] p.there (wire_here who logins h wires v k (Up (St z)) p).of (λ j w other. refl))
-          (not_its_session, all_fair whom others h u shows acts heard)
+          acts_go whom others (with_at k (handed_up p.wire) wires) (Handle row.number ∷ acts) (step_of h) u reached represents
+          (pipes_stay who whom others h wires u apart represents pipes k p.wire [] p.there (wire_here who logins h wires v k (Up (St z)) p).of (λ j w other. refl))
+          (not_its_session, all_fair whom others h u represents acts heard)
 
       given_too : (given : List ItemOut) (o q : Option (Row ItemOut)) → IsGiven (Handle row.number ∷ acts) given o q → IsGiven acts given o q
       given_too given None q is = is

@@ -6,11 +6,11 @@ use Rattle.std.proofs.lemmas.Option.{same_Some}
 use Rattle.std.specs.Option.{option_map}
 use Rattle.sm_acks.specs.declared.end.TheConstants.{MOST_UNACKNOWLEDGED}
 use Rattle.srv_state.specs.State.{Put, Shut, Step}
-use Rattle.srv_state.specs.Steps.{Send, act, ask_where, in_sessions, is_due, overflow, part, part_where, put, put_where, queue, send_told, shut}
+use Rattle.srv_state.specs.Steps.{Send, act, ask_where, in_sessions, is_due, overflow, part, part_where, put, put_where, queue, send_by_info, shut}
 use Rattle.sim_3_items.specs.Identities.{Identity, Login}
-use Rattle.sim_3_items.specs.Pipes.{PipesShow}
+use Rattle.sim_3_items.specs.Pipes.{PipesRepresent}
 use Rattle.sim_3_items.specs.Sent.{sent}
-use Rattle.sim_3_items.specs.Servers.{ServerShows}
+use Rattle.sim_3_items.specs.Servers.{ServerRepresents}
 use Rattle.sim_3_items.specs.ItemPipes.{ItemWire}
 use Rattle.sim_3_items.specs.ItemWorlds.{itself}
 use Rattle.sim_2_links.specs.Links.{LinkKept}
@@ -47,14 +47,14 @@ one_more zs z few room =
 
 module _ (who : Identity) (logins : ℕ → Login) (wires : Table ItemWire) (v : View ItemOut) (kept : LinkKept v) where
   abbrev pub Stands : Step ItemOut → Type 0
-  Stands s = ServerShows who logins s.hall v × PipesShow who logins (sent s.outs wires) v
+  Stands s = ServerRepresents who logins s.server_state v × PipesRepresent who logins (sent s.outs wires) v
 
   put_stands : (k : ℕ) (z : ItemOut) (s : Step ItemOut) → v.conns k ≡ None → Stands s → Stands (put k z s)
   put_stands k z s none stands = (stands.0, more_put_out who logins wires v s.outs (Put k z ∷ []) (sent_elsewhere who logins (sent s.outs wires) v stands.1 k (Put k z ∷ []) (puts_are_for k (z ∷ [])) none))
 
   shut_stands : (k : ℕ) (s : Step ItemOut) → v.conns k ≡ None → Stands s → Stands (shut k s)
   shut_stands k s none stands =
-      (conn_ends who logins s.hall v stands.0 kept k none, more_put_out who logins wires v s.outs (Shut k ∷ []) (sent_elsewhere who logins (sent s.outs wires) v stands.1 k (Shut k ∷ []) (shut_is_for k) none))
+      (conn_ends who logins s.server_state v stands.0 kept k none, more_put_out who logins wires v s.outs (Shut k ∷ []) (sent_elsewhere who logins (sent s.outs wires) v stands.1 k (Shut k ∷ []) (shut_is_for k) none))
 
   part_stands : (k : ℕ) (z : ItemOut) (s : Step ItemOut) → v.conns k ≡ None → Stands s → Stands (part itself k z s)
   part_stands k z s none stands = shut_stands k (put k Closing (put k z s)) none (put_stands k Closing (put k z s) none (put_stands k z s none stands))
@@ -64,7 +64,7 @@ module _ (who : Identity) (logins : ℕ → Login) (wires : Table ItemWire) (v :
   module _ (n : ℕ) (z : ItemOut) (apart : IsNotOf v.row n) where
     asks_stands : (s : Step ItemOut) → Stands s → Stands (in_sessions (with_session n (asks true)) s)
     asks_stands s stands =
-        (session_kept who logins s.hall v stands.0 n (asks true) (asks_keeps true) (λ t is. stands.0.hall.sessions.few n t is) (apart_row who logins s.hall v stands.0 n (asks true) apart), stands.1)
+        (session_kept who logins s.server_state v stands.0 n (asks true) (asks_keeps true) (λ t is. stands.0.server_state.sessions.few n t is) (apart_row who logins s.server_state v stands.0 n (asks true) apart), stands.1)
 
     module _ (o : Option ℕ) (away : (k : ℕ) → o ≡ Some k → v.conns k ≡ None) where
       where_stands : (s : Step ItemOut) → Stands s → Stands (put_where o z s)
@@ -89,17 +89,17 @@ module _ (who : Identity) (logins : ℕ → Login) (wires : Table ItemWire) (v :
           go None is = stands
           go (Some k) is = put_stands k request_item (in_sessions (with_session n (asks true)) s) (away k is) (asks_stands s stands)
 
-    module _ (s : Step ItemOut) (stands : Stands s) (x : Session ItemOut) (is : session_of n s.hall.sessions ≡ Some x) where
+    module _ (s : Step ItemOut) (stands : Stands s) (x : Session ItemOut) (is : session_of n s.server_state.sessions ≡ Some x) where
       away : (k : ℕ) → x.shown.conn ≡ Some k → v.conns k ≡ None
-      away k on = not_its_conn who logins s.hall v stands.0 n k x apart is on
+      away k on = not_its_conn who logins s.server_state v stands.0 n k x apart is on
 
       waits_stands : (length x.waiting == MOST_UNACKNOWLEDGED) ≡ false → Stands (in_sessions (with_session n (waits z)) s)
-      waits_stands room = (session_kept who logins s.hall v stands.0 n (waits z) (waits_keeps z) few (apart_row who logins s.hall v stands.0 n (waits z) apart), stands.1)
+      waits_stands room = (session_kept who logins s.server_state v stands.0 n (waits z) (waits_keeps z) few (apart_row who logins s.server_state v stands.0 n (waits z) apart), stands.1)
         where
-          few : (t : Session ItemOut) → session_of n s.hall.sessions ≡ Some t → length (t.waiting ++ z ∷ []) ≤ MOST_UNACKNOWLEDGED
+          few : (t : Session ItemOut) → session_of n s.server_state.sessions ≡ Some t → length (t.waiting ++ z ∷ []) ≤ MOST_UNACKNOWLEDGED
           few t there =
               subst (λ (u : Session ItemOut). length (u.waiting ++ z ∷ []) ≤ MOST_UNACKNOWLEDGED) (same_Some x t (sym is ∙ there))
-              (one_more x.waiting z (stands.0.hall.sessions.few n x is) room)
+              (one_more x.waiting z (stands.0.server_state.sessions.few n x is) room)
 
       queue_stands : (length x.waiting == MOST_UNACKNOWLEDGED) ≡ false → Stands (queue itself n z (told x) s)
       queue_stands room =
@@ -107,7 +107,7 @@ module _ (who : Identity) (logins : ℕ → Login) (wires : Table ItemWire) (v :
           (where_stands x.shown.conn away (in_sessions (with_session n (waits z)) s) (waits_stands room))
 
       overflow_stands : Stands (overflow itself n (told x) s)
-      overflow_stands = parts_stands x.shown.conn away (in_sessions (without n) s) (error_item ResourceConstraint) (other_ends who logins s.hall v stands.0 n apart, stands.1)
+      overflow_stands = parts_stands x.shown.conn away (in_sessions (without n) s) (error_item ResourceConstraint) (other_ends who logins s.server_state v stands.0 n apart, stands.1)
 
       by_room : (b : Bool) → (length x.waiting == MOST_UNACKNOWLEDGED) ≡ b → Stands (cond b (overflow itself n (told x) s) (queue itself n z (told x) s))
       by_room true full = overflow_stands
@@ -118,8 +118,8 @@ module _ (who : Identity) (logins : ℕ → Login) (wires : Table ItemWire) (v :
       by_count false = where_stands x.shown.conn away s stands
 
     pub send_stands : (s : Step ItemOut) → Stands s → Stands (act itself (Send n z) s)
-    send_stands s stands = go (session_of n s.hall.sessions) refl
+    send_stands s stands = go (session_of n s.server_state.sessions) refl
       where
-        go : (o : Option (Session ItemOut)) → session_of n s.hall.sessions ≡ o → Stands (send_told itself n z (option_map told o) s)
+        go : (o : Option (Session ItemOut)) → session_of n s.server_state.sessions ≡ o → Stands (send_by_info itself n z (option_map told o) s)
         go None is = stands
         go (Some x) is = by_count s stands x is x.shown.counted

@@ -2,27 +2,27 @@
 use Rattle.std.proofs.Common.{◌≡◌, ◌⊎◌, ℕ, ◌+◌, ◌≤◌, false, List, [], ◌++◌, Option, Some, None, refl, sym, ap, subst, ◌∙◌, inl, inr}
 use Rattle.std.proofs.lemmas.Bool.{cases_eq}
 use Rattle.std.specs.Prelude.{is_none}
-use Rattle.srv_state.specs.State.{Hall}
-use Rattle.sim_3_items.specs.Clients.{ClientShows, IsOwnShown, client_phase}
-use Rattle.sim_3_items.specs.Deeds.{deeds_of}
+use Rattle.srv_state.specs.State.{ServerState}
+use Rattle.sim_3_items.specs.Clients.{ClientRepresents, IsOwnRepresented, client_phase}
+use Rattle.sim_3_items.specs.Labels.{labels_of}
 use Rattle.sim_3_items.specs.Frames.{KeepsClient, KeepsServer, SameClient, SameServer}
 use Rattle.sim_3_items.specs.Identities.{Identity, Login}
-use Rattle.sim_3_items.specs.Servers.{IsRowShown, ServerShows, conn_shown, open_conn}
+use Rattle.sim_3_items.specs.Servers.{IsRowRepresented, ServerRepresents, conn_shown, open_conn}
 use Rattle.sim_3_items.specs.ItemWorlds.{ItemDevice}
 use Rattle.sim_2_links.proofs.Entries.{at_other, at_same}
 use Rattle.sim_2_links.specs.Machine.{LinkMove, LinkReached, LinkReaches, nothing_yet}
 use Rattle.sim_2_links.specs.Stages.{Conn}
 use Rattle.sim_2_links.specs.Views.{Session, Table, View, with_at}
 use Rattle.sim_2_links.specs.Wires.{is_flowing}
-use Rattle.sim_4_links_follow.proofs.MoreMoves.{deeds_both, then_reaches}
+use Rattle.sim_4_links_follow.proofs.MoreMoves.{labels_both, then_reaches}
 use Rattle.sm_live.specs.Sessions.{session_named}
 use Rattle.xml_writer.specs.Items.{ItemOut}
 
 -- ---- moves, one after the other
 
 -- none, and again none
-pub no_deeds : {A : Type 0} (moves more : List (LinkMove A)) → deeds_of moves ≡ [] → deeds_of more ≡ [] → deeds_of (moves ++ more) ≡ []
-no_deeds moves more first then_so = deeds_both moves more ∙ ap (λ ds. ds ++ deeds_of more) first ∙ then_so
+pub no_labels : {A : Type 0} (moves more : List (LinkMove A)) → labels_of moves ≡ [] → labels_of more ≡ [] → labels_of (moves ++ more) ≡ []
+no_labels moves more first then_so = labels_both moves more ∙ ap (λ ds. ds ++ labels_of more) first ∙ then_so
 
 pub reached_along : {A : Type 0} (moves : List (LinkMove A)) (v last : View A) → LinkReached v → LinkReaches moves v last → LinkReached last
 reached_along moves v last reached along = record { moves = reached.moves ++ moves; reaches = then_reaches reached.moves moves nothing_yet v last reached.reaches along }
@@ -37,15 +37,15 @@ shown_same : (who : Identity) (x : Login) (b c : Conn ItemOut) → c.phase ≡ b
 shown_same who x b c phase ending gone =
     ap (λ p. open_conn who x p b.ending b.gone) (sym phase) ∙ ap (λ e. open_conn who x c.phase e b.gone) (sym ending) ∙ ap (λ g. open_conn who x c.phase c.ending g) (sym gone)
 
-pub server_stays : (who : Identity) (logins : ℕ → Login) (h : Hall ItemOut) (v next : View ItemOut) → SameServer v next → ServerShows who logins h v → ServerShows who logins h next
-server_stays who logins h v next same shows = record {
-  served = shows.served;
-  hall = shows.hall;
-  conns = λ k c is. let b = was_so k c is in shows.conns k b.0 b.1 ∙ shown_same who (logins k) b.0 c b.2 b.3 b.4;
-  row = subst (λ o. IsRowShown o (session_named who.account who.resource h.sessions)) (sym same.row) shows.row;
-  seated = λ k c s is seat. let b = was_so k c is in shows.seated k b.0 s b.1 seat;
-  owned = λ q t s is found. let old = same.known q t is in shows.owned q old.0 s old.1 found;
-  free = subst (λ n. n ≤ h.next) (sym same.free) shows.free;
+pub server_stays : (who : Identity) (logins : ℕ → Login) (h : ServerState ItemOut) (v next : View ItemOut) → SameServer v next → ServerRepresents who logins h v → ServerRepresents who logins h next
+server_stays who logins h v next same represents = record {
+  served = represents.served;
+  server_state = represents.server_state;
+  conns = λ k c is. let b = was_so k c is in represents.conns k b.0 b.1 ∙ shown_same who (logins k) b.0 c b.2 b.3 b.4;
+  row = subst (λ o. IsRowRepresented o (session_named who.account who.resource h.sessions)) (sym same.row) represents.row;
+  seated = λ k c s is seat. let b = was_so k c is in represents.seated k b.0 s b.1 seat;
+  owned = λ q t s is found. let old = same.known q t is in represents.owned q old.0 s old.1 found;
+  free = subst (λ n. n ≤ h.next) (sym same.free) represents.free;
 }
   where
     was_so : (k : ℕ) (c : Conn ItemOut) → next.conns k ≡ Some c → (b : Conn ItemOut) × (v.conns k ≡ Some b) × (c.phase ≡ b.phase) × (c.ending ≡ b.ending) × (c.gone ≡ b.gone)
@@ -92,20 +92,20 @@ client_then : (o : Option (Conn ItemOut)) (b : Conn ItemOut) → KeepsClient (So
 client_then None b kept = absurd kept
 client_then (Some c) b kept = (c, refl, kept.1)
 
-pub client_stays : (who : Identity) (logins : ℕ → Login) (d : ItemDevice) (v next : View ItemOut) → SameClient v next → ClientShows who logins d v → ClientShows who logins d next
-client_stays who logins d v next same shows = record {
-  account = shows.account;
-  epoch = shows.epoch ∙ sym same.epoch;
-  own = subst (λ o. IsOwnShown o d.client.session) (sym same.own) shows.own;
-  apart = shows.apart ∙ ap is_none (sym same.here);
-  here = λ k is. shows.here k (sym same.here ∙ is);
-  has = λ place at. has place (shows.has place at);
+pub client_stays : (who : Identity) (logins : ℕ → Login) (d : ItemDevice) (v next : View ItemOut) → SameClient v next → ClientRepresents who logins d v → ClientRepresents who logins d next
+client_stays who logins d v next same represents = record {
+  account = represents.account;
+  epoch = represents.epoch ∙ sym same.epoch;
+  own = subst (λ o. IsOwnRepresented o d.client.session) (sym same.own) represents.own;
+  apart = represents.apart ∙ ap is_none (sym same.here);
+  here = λ k is. represents.here k (sym same.here ∙ is);
+  has = λ position at. has position (represents.has position at);
   phase = λ k c here is.
       let b = client_was (v.conns k) c (subst (KeepsClient (v.conns k)) is (same.conns k)) in
-      shows.phase k b.0 (sym same.here ∙ here) b.1 ∙ ap (client_phase who (logins k)) (sym b.2);
+      represents.phase k b.0 (sym same.here ∙ here) b.1 ∙ ap (client_phase who (logins k)) (sym b.2);
 }
   where
-    has : (place : ℕ) → (b : Conn ItemOut) × (v.conns (place + 1) ≡ Some b) × ((v.here ≡ Some (place + 1)) ⊎ (is_flowing b.wires ≡ false)) → (c : Conn ItemOut) × (next.conns (place + 1) ≡ Some c) × ((next.here ≡ Some (place + 1)) ⊎ (is_flowing c.wires ≡ false))
-    has place b =
-        let c = client_then (next.conns (place + 1)) b.0 (subst (λ o. KeepsClient o (next.conns (place + 1))) b.1 (same.conns (place + 1))) in
+    has : (position : ℕ) → (b : Conn ItemOut) × (v.conns (position + 1) ≡ Some b) × ((v.here ≡ Some (position + 1)) ⊎ (is_flowing b.wires ≡ false)) → (c : Conn ItemOut) × (next.conns (position + 1) ≡ Some c) × ((next.here ≡ Some (position + 1)) ⊎ (is_flowing c.wires ≡ false))
+    has position b =
+        let c = client_then (next.conns (position + 1)) b.0 (subst (λ o. KeepsClient o (next.conns (position + 1))) b.1 (same.conns (position + 1))) in
         (c.0, c.1, elim b.2 [ inl here ↦ inl (same.here ∙ here) | inr ended ↦ inr (c.2 ended) ])

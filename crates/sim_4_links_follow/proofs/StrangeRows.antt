@@ -5,7 +5,7 @@ use Rattle.std.proofs.lemmas.List.Elements.{All-nil}
 use Rattle.std.proofs.lemmas.Option.{same_Some}
 use Rattle.std.specs.List.{Contains}
 use Rattle.std.specs.Option.{option_map}
-use Rattle.srv_state.specs.State.{Hall}
+use Rattle.srv_state.specs.State.{ServerState}
 use Rattle.srv_state.specs.Steps.{acted}
 use Rattle.srv_state.specs.Streams.{standing_of}
 use Rattle.srv_state.specs.declared.connection.Phase.TheVariants as phase
@@ -42,7 +42,7 @@ use Rattle.srv_handlers.specs.Resumptions.{at_resume, resent_where, resuming}
 use Rattle.im_stanza.specs.declared.conditions.Condition.TheVariants.{ItemNotFound}
 use Rattle.srv_core.specs.Ready.{at_ready_or_bound}
 use Rattle.sim_4_links_follow.proofs.Emitted.{puts_at}
-use Rattle.sim_4_links_follow.proofs.Servings.{known_same, live_of, row_shows}
+use Rattle.sim_4_links_follow.proofs.Servings.{known_same, live_of, row_represents}
 use Rattle.xml_writer.specs.Items.{ItemOut}
 
 -- what the word for a resumption tells of the sessions: it was stated by a client that read that it is counted
@@ -52,7 +52,7 @@ pub record Asked (v : View ItemOut) (q n : ℕ) : Type 0 where
   pub read : session.read ≡ true
   pub stated : Contains session.down.stated n
 
-module _ (who : Identity) (logins : ℕ → Login) (h : Hall ItemOut) (wires : Table ItemWire) (v : View ItemOut) (k q n : ℕ) (p : IsFirst who logins h wires v k (ResumeAt q n)) where
+module _ (who : Identity) (logins : ℕ → Login) (h : ServerState ItemOut) (wires : Table ItemWire) (v : View ItemOut) (k q n : ℕ) (p : IsFirst who logins h wires v k (ResumeAt q n)) where
   kept : LinkKept v
   kept = kept_here who logins h wires v k (ResumeAt q n) p
 
@@ -95,7 +95,7 @@ module _ (who : Identity) (logins : ℕ → Login) (h : Hall ItemOut) (wires : T
         let some = found.1 in
         let no_way : ⊥ = cc in no_way
 
-    strange_step : on_item k (up_item who (logins k) (ResumeAt q n)) h ≡ record { hall = h; outs = puts_at k (refused_item ItemNotFound ∷ []) }
+    strange_step : on_item k (up_item who (logins k) (ResumeAt q n)) h ≡ record { server_state = h; outs = puts_at k (refused_item ItemNotFound ∷ []) }
     strange_step =
         resume_step
         ∙ ap (λ o. acted itself (resuming itself k who.account (previd_of q) (told_count n) (resume_answer (told_count n) o) (resent_where (told_count n) o)) (step_of h)) strange
@@ -110,7 +110,7 @@ module _ (who : Identity) (logins : ℕ → Login) (h : Hall ItemOut) (wires : T
           next = next;
           leads = (next, record { conn = p.conn; is = p.is; p = q; h = n; rest = p.rest; first = p.first; no_row = no_row; gives = refl }, refl);
           does = refl;
-          server = row_shows who logins h v p.server k p.conn p.is d v.row v.sessions (known_same v) refl p.server.row;
+          server = row_represents who logins h v p.server k p.conn p.is d v.row v.sessions (known_same v) refl p.server.row;
           pipes = taken_pipes who logins h wires v k (ResumeAt q n) p p.conn.phase puts (refused_item ItemNotFound ∷ []) next (λ j. refl) refl (All-nil IsForClient);
           client = taken_client who logins h wires v k (ResumeAt q n) p p.conn.phase puts next refl refl refl refl;
         })

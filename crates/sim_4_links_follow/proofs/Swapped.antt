@@ -6,7 +6,7 @@ use Rattle.std.proofs.lemmas.List.{append_assoc}
 use Rattle.std.specs.List.{find}
 use Rattle.std.specs.Map.{remove_entry}
 use Rattle.std.specs.Option.{option_map}
-use Rattle.srv_state.specs.State.{Hall, Out, Put, is_number}
+use Rattle.srv_state.specs.State.{Out, Put, ServerState, is_number}
 use Rattle.sim_3_items.specs.Sent.{sent, sent_under}
 use Rattle.sim_3_images.proofs.Lookups.{number_is}
 use Rattle.sim_3_items.specs.ItemPipes.{ItemWire}
@@ -37,11 +37,11 @@ sent_swapped f k some others apart for_f for_k wires j = go (wires j)
     go (Some u) = ap Some (under u)
 
 -- a request that may go out behind them
-pub asked_hall : (k m : ℕ) (due : Bool) (h : Hall ItemOut) (some outs : List (Out ItemOut)) → (asked_where k m due h (some ++ outs)).hall ≡ (asked_where k m due h outs).hall
-asked_hall k m true h some outs = refl
-asked_hall k m false h some outs = refl
+pub asked_server_state : (k m : ℕ) (due : Bool) (h : ServerState ItemOut) (some outs : List (Out ItemOut)) → (asked_where k m due h (some ++ outs)).server_state ≡ (asked_where k m due h outs).server_state
+asked_server_state k m true h some outs = refl
+asked_server_state k m false h some outs = refl
 
-pub asked_outs : (k m : ℕ) (due : Bool) (h : Hall ItemOut) (some outs : List (Out ItemOut)) → (asked_where k m due h (some ++ outs)).outs ≡ some ++ (asked_where k m due h outs).outs
+pub asked_outs : (k m : ℕ) (due : Bool) (h : ServerState ItemOut) (some outs : List (Out ItemOut)) → (asked_where k m due h (some ++ outs)).outs ≡ some ++ (asked_where k m due h outs).outs
 asked_outs k m true h some outs = append_assoc some outs (Put k request_item ∷ [])
 asked_outs k m false h some outs = refl
 

@@ -5,9 +5,9 @@ use Rattle.std.specs.List.{All}
 use Rattle.sim_3_items.specs.Counted.{IsForClient, IsForServer}
 use Rattle.sim_3_items.specs.Identities.{Identity, Login}
 use Rattle.sim_3_items.specs.Pipes.{IsWire}
-use Rattle.sim_3_items.specs.WordItems.{down_item, is_behind_login, up_item}
+use Rattle.sim_3_items.specs.WordItems.{down_item, is_after_login, up_item}
 use Rattle.sim_3_images.proofs.PutSteps.{items_ended_entered}
-use Rattle.sim_3_items.specs.ItemPipes.{ItemWire, handed_up, put_down, shut, up_end_told}
+use Rattle.sim_3_items.specs.ItemPipes.{ItemWire, handed_up, put_down, shut, up_end_reported}
 use Rattle.sim_2_links.proofs.Counting.{down_stanzas_with}
 use Rattle.sim_2_links.proofs.Prompt.{same_flow_down, same_up}
 use Rattle.sim_2_links.specs.SessionMoves.{shut as shut_conn}
@@ -45,10 +45,10 @@ no_stanza P Closes = All-nil P
 module _ (who : Identity) (x : Login) (k : ℕ) (c : Conn ItemOut) (w : ItemWire) (is : IsWire who x k c w) where
   -- the server takes the first word, and puts others
   pub wire_taken : (word : UpWord ItemOut) (rest : List (UpWord ItemOut)) (puts : List (DownWord ItemOut)) (p : Phase) → up_words c.wires ≡ word ∷ rest → All IsForClient (down_stanzas puts)
-      → IsWire who x k (record c { phase = p; wires = send_down puts (left_up rest c.wires) }) (put_down (map (down_item who x k (is_behind_login c.client)) puts) (handed_up w))
+      → IsWire who x k (record c { phase = p; wires = send_down puts (left_up rest c.wires) }) (put_down (map (down_item who x k (is_after_login c.client)) puts) (handed_up w))
   wire_taken word rest puts p first more =
       let f : UpWord ItemOut → ItemOut = up_item who x in
-      let g : DownWord ItemOut → ItemOut = down_item who x k (is_behind_login c.client) in
+      let g : DownWord ItemOut → ItemOut = down_item who x k (is_after_login c.client) in
       record {
         of = is.of;
         login = is.login;
@@ -67,9 +67,9 @@ module _ (who : Identity) (x : Login) (k : ℕ) (c : Conn ItemOut) (w : ItemWire
 
   -- it puts words
   pub wire_put : (puts : List (DownWord ItemOut)) → All IsForClient (down_stanzas puts)
-      → IsWire who x k (record c { wires = send_down puts c.wires }) (put_down (map (down_item who x k (is_behind_login c.client)) puts) w)
+      → IsWire who x k (record c { wires = send_down puts c.wires }) (put_down (map (down_item who x k (is_after_login c.client)) puts) w)
   wire_put puts more =
-      let g : DownWord ItemOut → ItemOut = down_item who x k (is_behind_login c.client) in
+      let g : DownWord ItemOut → ItemOut = down_item who x k (is_after_login c.client) in
       record {
         of = is.of;
         login = is.login;
@@ -83,9 +83,9 @@ module _ (who : Identity) (x : Login) (k : ℕ) (c : Conn ItemOut) (w : ItemWire
       }
 
   -- it ends the stream, with these words, and shuts the connection
-  pub wire_shut : (ending : Ending) → IsWire who x k (shut_conn ending c) (shut (put_down (map (down_item who x k (is_behind_login c.client)) (tail_of ending)) w))
+  pub wire_shut : (ending : Ending) → IsWire who x k (shut_conn ending c) (shut (put_down (map (down_item who x k (is_after_login c.client)) (tail_of ending)) w))
   wire_shut ending =
-      let g : DownWord ItemOut → ItemOut = down_item who x k (is_behind_login c.client) in
+      let g : DownWord ItemOut → ItemOut = down_item who x k (is_after_login c.client) in
       let puts : List (DownWord ItemOut) = tail_of ending in
       let ws : Wires ItemOut = send_down puts c.wires in
       record {
@@ -101,7 +101,7 @@ module _ (who : Identity) (x : Login) (k : ℕ) (c : Conn ItemOut) (w : ItemWire
       }
 
   -- it hears of the end
-  pub wire_gone : IsWire who x k (record c { gone = true }) (up_end_told w)
+  pub wire_gone : IsWire who x k (record c { gone = true }) (up_end_reported w)
   wire_gone = record {
     of = is.of;
     login = is.login;

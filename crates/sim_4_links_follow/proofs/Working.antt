@@ -1,17 +1,17 @@
 -- A step of the client is moves of the links, where it works on with its connection, and where it leaves it.
 use Rattle.std.proofs.Common.{◌≡◌, ℕ, ◌+◌, true, false, List, [], ◌∷◌, Some, None, length, map, is_none, refl, sym, ap, subst, ◌∙◌, inl}
 use Rattle.std.specs.List.{All}
-use Rattle.cl_handlers.specs.Clients.{ClientView, Turn}
-use Rattle.cl_handlers.specs.Turns.{is_apart}
-use Rattle.sim_3_items.specs.Clients.{ClientShows, IsOwnShown, client_phase}
+use Rattle.cl_handlers.specs.Clients.{ClientStep, ClientView}
+use Rattle.cl_handlers.specs.ClientSteps.{is_apart}
+use Rattle.sim_3_items.specs.Clients.{ClientRepresents, IsOwnRepresented, client_phase}
 use Rattle.sim_3_items.specs.Counted.{IsForServer}
-use Rattle.sim_3_items.specs.Deeds.{ArePrompt, deeds_of}
+use Rattle.sim_3_items.specs.Labels.{ArePrompt, labels_of}
 use Rattle.sim_3_items.specs.Frames.{KeepsServer, SameServer}
 use Rattle.sim_3_items.specs.Identities.{Identity, Login}
 use Rattle.sim_3_items.specs.Pipes.{IsWire}
-use Rattle.sim_3_items.specs.Reading.{HearingFollows, IsNextDown, noted, wire_behind}
-use Rattle.sim_3_items.specs.WordItems.{down_item, is_behind_login, up_item}
-use Rattle.sim_3_items.specs.ItemMoves.{here_behind, left_where}
+use Rattle.sim_3_items.specs.Reading.{HearingFollows, IsNextDown, noted, wire_after}
+use Rattle.sim_3_items.specs.WordItems.{down_item, is_after_login, up_item}
+use Rattle.sim_3_items.specs.ItemMoves.{here_after, left_where}
 use Rattle.sim_3_items.specs.ItemPipes.{ItemWire, handed_down, left, put_up}
 use Rattle.sim_3_items.specs.ItemWorlds.{ItemDevice}
 use Rattle.sim_2_links.proofs.CutLinks.{cut_conn, some_one}
@@ -60,56 +60,56 @@ same_server v next k c after is conns row free known phase ending gone = record 
 
 -- ---- the client
 
-pub some_place : (a b : ℕ) → Some a ≡ Some b → a ≡ b
-some_place a b same = cc
+pub some_position : (a b : ℕ) → Some a ≡ Some b → a ≡ b
+some_position a b same = cc
 
-module _ (who : Identity) (logins : ℕ → Login) (d : ItemDevice) (v : View ItemOut) (old : ClientShows who logins d v) where
+module _ (who : Identity) (logins : ℕ → Login) (d : ItemDevice) (v : View ItemOut) (old : ClientRepresents who logins d v) where
   -- it works on with its connection
   pub client_works : (next : View ItemOut) (k : ℕ) (c : Conn ItemOut) (client : ClientView ItemOut) → v.here ≡ Some k → next.here ≡ v.here → next.conns k ≡ Some c → client.account ≡ d.client.account → client.epoch ≡ next.epoch
-      → IsOwnShown next.own client.session → client.phase ≡ client_phase who (logins k) c.client → ClientShows who logins (record { client = client; here = d.here }) next
+      → IsOwnRepresented next.own client.session → client.phase ≡ client_phase who (logins k) c.client → ClientRepresents who logins (record { client = client; here = d.here }) next
   client_works next k c client here same conn account epoch own phase = record {
     account = account ∙ old.account;
     epoch = epoch;
     own = own;
     apart = ap is_apart phase ∙ never_apart who (logins k) c.client ∙ ap is_none (sym now);
     here = λ j at. old.here j (sym same ∙ at);
-    has = λ place at. (c, there place at, inl (works_there place at));
+    has = λ position at. (c, there position at, inl (works_there position at));
     phase = λ j e at is. phase_at j e (one_here j at) is;
   }
     where
       now : next.here ≡ Some k
       now = same ∙ here
 
-      number : (place : ℕ) → d.here ≡ Some place → k ≡ place + 1
-      number place at = let had = old.here k here in had.1 ∙ ap (λ n. n + 1) (some_place had.0 place (sym had.2 ∙ at))
+      number : (position : ℕ) → d.here ≡ Some position → k ≡ position + 1
+      number position at = let had = old.here k here in had.1 ∙ ap (λ n. n + 1) (some_position had.0 position (sym had.2 ∙ at))
 
-      there : (place : ℕ) → d.here ≡ Some place → next.conns (place + 1) ≡ Some c
-      there place at = subst (λ n. next.conns n ≡ Some c) (number place at) conn
+      there : (position : ℕ) → d.here ≡ Some position → next.conns (position + 1) ≡ Some c
+      there position at = subst (λ n. next.conns n ≡ Some c) (number position at) conn
 
-      works_there : (place : ℕ) → d.here ≡ Some place → next.here ≡ Some (place + 1)
-      works_there place at = now ∙ ap Some (number place at)
+      works_there : (position : ℕ) → d.here ≡ Some position → next.here ≡ Some (position + 1)
+      works_there position at = now ∙ ap Some (number position at)
 
       one_here : (j : ℕ) → next.here ≡ Some j → k ≡ j
-      one_here j at = some_place k j (sym now ∙ at)
+      one_here j at = some_position k j (sym now ∙ at)
 
       phase_at : (j : ℕ) (e : Conn ItemOut) → k ≡ j → next.conns j ≡ Some e → client.phase ≡ client_phase who (logins j) e.client
       phase_at j e at is = subst (λ n. client.phase ≡ client_phase who (logins n) e.client) at (phase ∙ ap (λ (a : Conn ItemOut). client_phase who (logins k) a.client) (some_one (next.conns k) c e conn (subst (λ n. next.conns n ≡ Some e) (sym at) is)))
 
   -- it has left its connection, and has none
-  pub client_leaves : (next : View ItemOut) (client : ClientView ItemOut) → next.here ≡ None → client.account ≡ d.client.account → client.epoch ≡ next.epoch → IsOwnShown next.own client.session → is_apart client.phase ≡ true
-      → ClientShows who logins (record { client = client; here = None }) next
+  pub client_leaves : (next : View ItemOut) (client : ClientView ItemOut) → next.here ≡ None → client.account ≡ d.client.account → client.epoch ≡ next.epoch → IsOwnRepresented next.own client.session → is_apart client.phase ≡ true
+      → ClientRepresents who logins (record { client = client; here = None }) next
   client_leaves next client none account epoch own apart = record {
     account = account ∙ old.account;
     epoch = epoch;
     own = own;
     apart = apart ∙ ap is_none (sym none);
-    here = λ j at. absurd (no_place j at);
-    has = λ place at. absurd (let no_way : ⊥ = cc in no_way);
-    phase = λ j e at is. absurd (no_place j at);
+    here = λ j at. absurd (no_position j at);
+    has = λ position at. absurd (let no_way : ⊥ = cc in no_way);
+    phase = λ j e at is. absurd (no_position j at);
   }
     where
-      no_place : (j : ℕ) → next.here ≡ Some j → ⊥
-      no_place j at = let both = sym none ∙ at in cc both
+      no_position : (j : ℕ) → next.here ≡ Some j → ⊥
+      no_position j at = let both = sym none ∙ at in cc both
 
 -- ---- behind a word
 
@@ -129,16 +129,16 @@ module _ (who : Identity) (logins : ℕ → Login) (d : ItemDevice) (wires : Tab
 
   -- the items that are left are those of their words also behind it
   abbrev pub SameItems : Client → Type 0
-  SameItems client = map (down_item who (logins k) k (is_behind_login p.conn.client)) p.rest ≡ map (down_item who (logins k) k (is_behind_login client)) p.rest
+  SameItems client = map (down_item who (logins k) k (is_after_login p.conn.client)) p.rest ≡ map (down_item who (logins k) k (is_after_login client)) p.rest
 
-  pub same_items : (before client : Client) → p.conn.client ≡ before → is_behind_login before ≡ is_behind_login client → SameItems client
-  same_items before client is same = ap (λ b. map (down_item who (logins k) k b) p.rest) (ap is_behind_login is ∙ same)
+  pub same_items : (before client : Client) → p.conn.client ≡ before → is_after_login before ≡ is_after_login client → SameItems client
+  same_items before client is same = ap (λ b. map (down_item who (logins k) k b) p.rest) (ap is_after_login is ∙ same)
 
   -- the client works on: it comes to a state and puts words
-  pub works_on : (t : Turn ItemOut ItemOut) (client : Client) (puts : List (UpWord ItemOut)) (moves : List (LinkMove ItemOut)) (next : View ItemOut) → ArePrompt moves
-      → t.client.account ≡ d.client.account → t.client.epoch ≡ next.epoch → IsOwnShown next.own t.client.session → t.client.phase ≡ client_phase who (logins k) client
+  pub works_on : (t : ClientStep ItemOut ItemOut) (client : Client) (puts : List (UpWord ItemOut)) (moves : List (LinkMove ItemOut)) (next : View ItemOut) → ArePrompt moves
+      → t.client.account ≡ d.client.account → t.client.epoch ≡ next.epoch → IsOwnRepresented next.own t.client.session → t.client.phase ≡ client_phase who (logins k) client
       → t.out.put ≡ map (up_item who (logins k)) puts → All IsForServer (up_stanzas puts) → SameItems client
-      → LinkReaches moves v next → deeds_of moves ≡ noted t.out.notes
+      → LinkReaches moves v next → labels_of moves ≡ noted t.out.notes
       → next.here ≡ v.here → ((j : ℕ) → next.conns j ≡ with_at k (heard client puts) v.conns j) → next.row ≡ v.row → next.free ≡ v.free → Known next.sessions v
       → HearingFollows who logins d wires v k p.wire t
   works_on t client puts moves next prompt account epoch own phase put stanzas items leads does here conns row free known =
@@ -149,11 +149,11 @@ module _ (who : Identity) (logins : ℕ → Login) (d : ItemDevice) (wires : Tab
         does = does;
         prompt = prompt;
         client =
-            subst (λ b. ClientShows who logins (record { client = t.client; here = here_behind b d.here }) next) (sym works)
+            subst (λ b. ClientRepresents who logins (record { client = t.client; here = here_after b d.here }) next) (sym works)
             (client_works who logins d v p.shown.client next k (heard client puts) t.client p.here here (conns k ∙ at_same k (heard client puts) v.conns) account epoch own phase);
         pipes =
-            shown_at who logins wires (with_at k (wire_behind t p.wire) wires) v next k (heard client puts) (wire_behind t p.wire) p.shown.pipes conns (at_same k (wire_behind t p.wire) wires)
-            (λ j apart. at_other k (wire_behind t p.wire) wires j apart)
+            shown_at who logins wires (with_at k (wire_after t p.wire) wires) v next k (heard client puts) (wire_after t p.wire) p.shown.pipes conns (at_same k (wire_after t p.wire) wires)
+            (λ j apart. at_other k (wire_after t p.wire) wires j apart)
             (subst (λ b. IsWire who (logins k) k (heard client puts) (left_where b (put_up t.out.put (handed_down p.wire)))) (sym works)
             (subst (λ items. IsWire who (logins k) k (heard client puts) (put_up items (handed_down p.wire))) (sym put)
             (wire_heard_as who (logins k) k p.conn p.wire wire_here word p.rest puts client p.first items stanzas)));
@@ -164,7 +164,7 @@ module _ (who : Identity) (logins : ℕ → Login) (d : ItemDevice) (wires : Tab
       works = ap is_apart phase ∙ never_apart who (logins k) client
 
   -- the client leaves the connection, and puts nothing
-  pub leaves_here : (t : Turn ItemOut ItemOut) → t.client.account ≡ d.client.account → t.client.epoch ≡ d.client.epoch → t.client.session ≡ d.client.session → is_apart t.client.phase ≡ true → t.out.put ≡ [] → noted t.out.notes ≡ []
+  pub leaves_here : (t : ClientStep ItemOut ItemOut) → t.client.account ≡ d.client.account → t.client.epoch ≡ d.client.epoch → t.client.session ≡ d.client.session → is_apart t.client.phase ≡ true → t.out.put ≡ [] → noted t.out.notes ≡ []
       → HearingFollows who logins d wires v k p.wire t
   leaves_here t account epoch session apart put notes =
       record {
@@ -174,11 +174,11 @@ module _ (who : Identity) (logins : ℕ → Login) (d : ItemDevice) (wires : Tab
         does = sym notes;
         prompt = (tt, (tt, tt));
         client =
-            subst (λ b. ClientShows who logins (record { client = t.client; here = here_behind b d.here }) next) (sym apart)
-            (client_leaves who logins d v p.shown.client next t.client refl account (epoch ∙ p.shown.client.epoch) (subst (IsOwnShown v.own) (sym session) p.shown.client.own) apart);
+            subst (λ b. ClientRepresents who logins (record { client = t.client; here = here_after b d.here }) next) (sym apart)
+            (client_leaves who logins d v p.shown.client next t.client refl account (epoch ∙ p.shown.client.epoch) (subst (IsOwnRepresented v.own) (sym session) p.shown.client.own) apart);
         pipes =
-            shown_at who logins wires (with_at k (wire_behind t p.wire) wires) v next k after (wire_behind t p.wire) p.shown.pipes (λ j. refl) (at_same k (wire_behind t p.wire) wires)
-            (λ j other. at_other k (wire_behind t p.wire) wires j other)
+            shown_at who logins wires (with_at k (wire_after t p.wire) wires) v next k after (wire_after t p.wire) p.shown.pipes (λ j. refl) (at_same k (wire_after t p.wire) wires)
+            (λ j other. at_other k (wire_after t p.wire) wires j other)
             (subst (λ b. IsWire who (logins k) k after (left_where b (put_up t.out.put (handed_down p.wire)))) (sym apart)
             (subst (λ items. IsWire who (logins k) k after (left (put_up items (handed_down p.wire)))) (sym put)
             (subst (IsWire who (logins k) k after) (sym (left_silent p.wire)) (wire_left who (logins k) k p.conn p.wire wire_here))));

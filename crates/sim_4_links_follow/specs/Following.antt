@@ -1,16 +1,16 @@
 -- A move of a world, and the links of a device: they have moved with it, or it is none of theirs.
 use Rattle.std.specs.Prelude.{◌≡◌, ℕ, ◌≤◌, List, [], ◌∷◌, Some, None, nat_eq, slice_get, if◌then◌else◌}
 use Rattle.std.specs.List.{AllByRecursion}
-use Rattle.srv_state.specs.State.{Hall}
+use Rattle.srv_state.specs.State.{ServerState}
 use Rattle.srv_state.specs.declared.connection.Connection.{Connection}
-use Rattle.sim_3_items.specs.Clients.{ClientShows}
-use Rattle.sim_3_items.specs.Deeds.{ArePrompt, Deed, deeds_of}
+use Rattle.sim_3_items.specs.Clients.{ClientRepresents}
+use Rattle.sim_3_items.specs.Labels.{ArePrompt, Label, labels_of}
 use Rattle.sim_3_items.specs.Identities.{Identity, IsLogin, Login}
-use Rattle.sim_3_items.specs.Pipes.{PipesShow}
+use Rattle.sim_3_items.specs.Pipes.{PipesRepresent}
 use Rattle.sim_3_items.specs.Reading.{IsNextDown}
-use Rattle.sim_3_items.specs.Servers.{ServerShows}
-use Rattle.sim_3_items.specs.Shows.{Shows}
-use Rattle.sim_3_items.specs.WordItems.{down_item, is_behind_login}
+use Rattle.sim_3_items.specs.Servers.{ServerRepresents}
+use Rattle.sim_3_items.specs.Represents.{Represents}
+use Rattle.sim_3_items.specs.WordItems.{down_item, is_after_login}
 use Rattle.sim_3_items.specs.ItemMoves.{CatchUp, Close, Cut, Dial, Down, DownEnd, Forget, ItemMove, Say, Tick, Up, UpEnd}
 use Rattle.sim_3_items.specs.ItemPipes.{ItemWire}
 use Rattle.sim_3_items.specs.ItemWorlds.{ItemDevice, ItemWorld}
@@ -25,34 +25,34 @@ use Rattle.xml_writer.specs.Items.{ItemOut}
 
 -- the links have moved, and of stanzas as is said, with a request behind each that is awaited; and these are then the
 -- pipes and both ends
-pub record BothFollow (who : Identity) (logins : ℕ → Login) (h : Hall ItemOut) (d : ItemDevice) (wires : Table ItemWire) (v : View ItemOut) (done : List (Deed ItemOut)) : Type 0 where
+pub record BothFollow (who : Identity) (logins : ℕ → Login) (h : ServerState ItemOut) (d : ItemDevice) (wires : Table ItemWire) (v : View ItemOut) (done : List (Label ItemOut)) : Type 0 where
   pub moves : List (LinkMove ItemOut)
   pub next : View ItemOut
   pub leads : LinkReaches moves v next
-  pub does : deeds_of moves ≡ done
+  pub does : labels_of moves ≡ done
   pub prompt : ArePrompt moves
-  pub server : ServerShows who logins h next
-  pub client : ClientShows who logins d next
-  pub pipes : PipesShow who logins wires next
+  pub server : ServerRepresents who logins h next
+  pub client : ClientRepresents who logins d next
+  pub pipes : PipesRepresent who logins wires next
 
 -- and this is then the world
-pub record WorldFollows (who : Identity) (logins : ℕ → Login) (w : ItemWorld) (v : View ItemOut) (done : List (Deed ItemOut)) : Type 0 where
+pub record WorldFollows (who : Identity) (logins : ℕ → Login) (w : ItemWorld) (v : View ItemOut) (done : List (Label ItemOut)) : Type 0 where
   pub moves : List (LinkMove ItemOut)
   pub next : View ItemOut
   pub leads : LinkReaches moves v next
-  pub does : deeds_of moves ≡ done
+  pub does : labels_of moves ≡ done
   pub prompt : ArePrompt moves
-  pub shows : Shows who logins w next
+  pub represents : Represents who logins w next
 
 -- ---- cuts
 
 -- the links are cut at the same words, and both ends have what they had
-pub record CutFollows (who : Identity) (logins : ℕ → Login) (h : Hall ItemOut) (d : ItemDevice) (wires : Table ItemWire) (v : View ItemOut) (k i j : ℕ) : Type 0 where
+pub record CutFollows (who : Identity) (logins : ℕ → Login) (h : ServerState ItemOut) (d : ItemDevice) (wires : Table ItemWire) (v : View ItemOut) (k i j : ℕ) : Type 0 where
   pub next : View ItemOut
   pub cuts : IsCut k i j v next
-  pub server : ServerShows who logins h next
-  pub client : ClientShows who logins d next
-  pub pipes : PipesShow who logins wires next
+  pub server : ServerRepresents who logins h next
+  pub client : ClientRepresents who logins d next
+  pub pipes : PipesRepresent who logins wires next
 
 -- ---- dials
 
@@ -67,7 +67,7 @@ pub record IsDrawn (who : Identity) (x : Login) (own other : List ℕ) : Type 0 
   pub yours : x.yours ≡ other
 
 -- no connection is open, and no session is on one, with a number above those dialled
-pub record AreDialled (n : ℕ) (h : Hall ItemOut) : Type 0 where
+pub record AreDialled (n : ℕ) (h : ServerState ItemOut) : Type 0 where
   pub conns : AllByRecursion (λ (e : ℕ × Connection). e.0 ≤ n) h.conns
   pub seats : (k : ℕ) (s : Session ItemOut) → session_at k h.sessions ≡ Some s → k ≤ n
 
@@ -77,15 +77,15 @@ pub record AreDialled (n : ℕ) (h : Hall ItemOut) : Type 0 where
 pub record HasNextDown (who : Identity) (logins : ℕ → Login) (d : ItemDevice) (wires : Table ItemWire) (v : View ItemOut) (k : ℕ) (w : ItemWire) (i : ItemOut) : Type 0 where
   pub word : DownWord ItemOut
   pub next : IsNextDown who logins d wires v k word
-  pub is : down_item who (logins k) k (is_behind_login next.conn.client) word ≡ i
+  pub is : down_item who (logins k) k (is_after_login next.conn.client) word ≡ i
   pub same : next.wire ≡ w
 
 -- an item is the first on its way down on the connection of a device
-pub record IsNextItem (place device : ℕ) (w : ItemWorld) (d : ItemDevice) (wire : ItemWire) (i : ItemOut) : Type 0 where
-  pub there : slice_get w.wires place ≡ Some wire
+pub record IsNextItem (position device : ℕ) (w : ItemWorld) (d : ItemDevice) (wire : ItemWire) (i : ItemOut) : Type 0 where
+  pub there : slice_get w.wires position ≡ Some wire
   pub of : wire.device ≡ device
   pub has : slice_get w.devices device ≡ Some d
-  pub here : d.here ≡ Some place
+  pub here : d.here ≡ Some position
   pub items : List ItemOut
   pub first : wire.down.items ≡ i ∷ items
 
@@ -99,12 +99,12 @@ IsOfNobody (Close device) w = slice_get w.devices device ≡ None
 IsOfNobody (Say device to text private) w = slice_get w.devices device ≡ None
 IsOfNobody (CatchUp device most) w = slice_get w.devices device ≡ None
 IsOfNobody (Tick milliseconds) w = ⊥
-IsOfNobody (Up place) w = slice_get w.wires place ≡ None
-IsOfNobody (Down place) w = slice_get w.wires place ≡ None
-IsOfNobody (UpEnd place) w = slice_get w.wires place ≡ None
-IsOfNobody (DownEnd place) w = slice_get w.wires place ≡ None
-IsOfNobody (Cut place up down) w = slice_get w.wires place ≡ None
+IsOfNobody (Up position) w = slice_get w.wires position ≡ None
+IsOfNobody (Down position) w = slice_get w.wires position ≡ None
+IsOfNobody (UpEnd position) w = slice_get w.wires position ≡ None
+IsOfNobody (DownEnd position) w = slice_get w.wires position ≡ None
+IsOfNobody (Cut position up down) w = slice_get w.wires position ≡ None
 
 -- the device whose connection this was has it no more, or nothing is under way to it
 abbrev pub IsOnNone : ℕ → ItemWire → ItemWorld → Type 0
-IsOnNone place wire w = (d : ItemDevice) → slice_get w.devices wire.device ≡ Some d → d.here ≡ Some place → wire.down.items ≡ []
+IsOnNone position wire w = (d : ItemDevice) → slice_get w.devices wire.device ≡ Some d → d.here ≡ Some position → wire.down.items ≡ []

@@ -4,7 +4,7 @@ pub mod Taking
 -- law: what a move of a world is in the links of a device
 pub mod Following
 -- law: what a step leaves of other devices
-pub mod Beside
+pub mod OtherDevices
 -- law: which words
 pub mod Reads
 -- law: what a client's user writes to

@@ -8,9 +8,9 @@ ghost use Rattle.cl_handlers.specs.Speech.{in_items};
 ghost use Rattle.sim_4_links_follow.specs.Speaking.{IsBareAddress};
 ghost use Rattle.sim_3_items.specs.Counted.{IsForServer};
 ghost use Rattle.sim_3_items.specs.Identities.{Identity, Login};
-ghost use Rattle.sim_3_items.specs.Reading.{IsNextDown, IsRead, IsShownHere, SpeakingFollows};
+ghost use Rattle.sim_3_items.specs.Reading.{IsNextDown, IsRead, IsRepresentedHere, SpeakingFollows};
 ghost use Rattle.sim_3_items.specs.ItemPipes.{ItemWire};
-ghost use Rattle.sim_3_items.specs.ItemWorlds.{ItemDevice, read_of, silent_turn};
+ghost use Rattle.sim_3_items.specs.ItemWorlds.{ItemDevice, read_of, silent_client_step};
 ghost use Rattle.sim_2_links.specs.Views.{Table, View};
 ghost use Rattle.sim_2_links.specs.Words.{Down, St};
 ghost use Rattle.sm_outbox.specs.Submissions.{origin_of};
@@ -48,16 +48,16 @@ pub fn stanzas_are_read()
 /// is online, and else waits; also where the connection's end was told. It is to an account's address, and its text is
 /// within the bounds of texts.
 pub fn submissions_follow()
-    ensures { (who : Identity) (logins : ℕ → Login) (d : ItemDevice) (wires : Table ItemWire) (v : View ItemOut) (shown : IsShownHere who logins d wires v) (to text : List ℕ) (private : Bool) (n : ℕ)
+    ensures { (who : Identity) (logins : ℕ → Login) (d : ItemDevice) (wires : Table ItemWire) (v : View ItemOut) (shown : IsRepresentedHere who logins d wires v) (to text : List ℕ) (private : Bool) (n : ℕ)
         → IsClientWithin d.client → IsBareAddress to → IsTextWithin most_text text → say_answer d.client text ≡ Ok n
-        → SpeakingFollows who logins d wires v (says in_items (silent_turn d.client) to text private) }
+        → SpeakingFollows who logins d wires v (says in_items (silent_client_step d.client) to text private) }
 {}
 
 /// A law: so is the request for a page of the archive, where the user asks for it.
 pub fn catch_ups_follow()
-    ensures { (who : Identity) (logins : ℕ → Login) (d : ItemDevice) (wires : Table ItemWire) (v : View ItemOut) (shown : IsShownHere who logins d wires v) (most : ℕ)
+    ensures { (who : Identity) (logins : ℕ → Login) (d : ItemDevice) (wires : Table ItemWire) (v : View ItemOut) (shown : IsRepresentedHere who logins d wires v) (most : ℕ)
         → IsClientWithin d.client → most < 2 ^ 32 → catch_up_answer d.client ≡ Ok tt
-        → SpeakingFollows who logins d wires v (catches_up in_items (silent_turn d.client) most) }
+        → SpeakingFollows who logins d wires v (catches_up in_items (silent_client_step d.client) most) }
 {}
 
 /// A law: the addresses of a schedule's accounts, to which alone its users write, are bare, in normal form and short.

@@ -1,10 +1,10 @@
 //! What a server does on a stanza is moves of the links.
 ghost use Rattle.std.specs.Prelude.{◌≡◌, ℕ, [], ◌∷◌};
-ghost use Rattle.srv_state.specs.State.{Hall};
-ghost use Rattle.sim_3_items.specs.Deeds.{Takes};
+ghost use Rattle.srv_state.specs.State.{ServerState};
+ghost use Rattle.sim_3_items.specs.Labels.{Takes};
 ghost use Rattle.sim_3_items.specs.Identities.{Identity, Login};
-ghost use Rattle.sim_3_items.specs.Pipes.{PipesShow};
-ghost use Rattle.sim_3_items.specs.Servers.{ServerShows};
+ghost use Rattle.sim_3_items.specs.Pipes.{PipesRepresent};
+ghost use Rattle.sim_3_items.specs.Servers.{ServerRepresents};
 ghost use Rattle.sim_3_items.specs.ItemPipes.{ItemWire};
 ghost use Rattle.sim_2_links.specs.Machine.{LinkReached};
 ghost use Rattle.sim_2_links.specs.Views.{Table, View};
@@ -18,14 +18,14 @@ ghost use Rattle.xml_writer.specs.Items.{ItemOut};
 /// sends to its session: all of it, or, where the session ends since no more stanzas may wait in its queue, what was
 /// sent before that (`follows`).
 pub fn stanzas_follow()
-    ensures comes { (who : Identity) (logins : ℕ → Login) (h : Hall ItemOut) (wires : Table ItemWire) (v : View ItemOut) (k : ℕ) (z : ItemOut) → IsFirst who logins h wires v k (Up (St z)) → IsOfSession who h z }
-    ensures follows { (who : Identity) (logins : ℕ → Login) (h : Hall ItemOut) (wires : Table ItemWire) (v : View ItemOut) (k : ℕ) (z : ItemOut) (p : IsFirst who logins h wires v k (Up (St z))) (x : IsOfSession who h z)
+    ensures comes { (who : Identity) (logins : ℕ → Login) (h : ServerState ItemOut) (wires : Table ItemWire) (v : View ItemOut) (k : ℕ) (z : ItemOut) → IsFirst who logins h wires v k (Up (St z)) → IsOfSession who h z }
+    ensures follows { (who : Identity) (logins : ℕ → Login) (h : ServerState ItemOut) (wires : Table ItemWire) (v : View ItemOut) (k : ℕ) (z : ItemOut) (p : IsFirst who logins h wires v k (Up (St z))) (x : IsOfSession who h z)
         → StepGives who logins wires v k p.wire (on_item k z h) (acts_on who h z x) (Takes z ∷ []) }
 {}
 
 /// A law: to each other device the server gives what the row sends to that one's session, in the same way; else nothing
 /// moves there.
 pub fn stanzas_reach_others()
-    ensures { (who whom : Identity) (logins others : ℕ → Login) (h : Hall ItemOut) (wires : Table ItemWire) (v u : View ItemOut) (k : ℕ) (z : ItemOut) (p : IsFirst who logins h wires v k (Up (St z))) (x : IsOfSession who h z)
-        → AreApart who whom → LinkReached u → ServerShows whom others h u → PipesShow whom others wires u → StepGives whom others wires u k p.wire (on_item k z h) (acts_on who h z x) [] }
+    ensures { (who whom : Identity) (logins others : ℕ → Login) (h : ServerState ItemOut) (wires : Table ItemWire) (v u : View ItemOut) (k : ℕ) (z : ItemOut) (p : IsFirst who logins h wires v k (Up (St z))) (x : IsOfSession who h z)
+        → AreApart who whom → LinkReached u → ServerRepresents whom others h u → PipesRepresent whom others wires u → StepGives whom others wires u k p.wire (on_item k z h) (acts_on who h z x) [] }
 {}

@@ -1,13 +1,13 @@
--- Lists along which deeds are in time, and those of the sessions in which the deeds are done: they differ by what the client
--- learned, and drifts change neither.
+-- Lists along which labels are in time, and those of the sessions in which the labels are done: they differ by what the
+-- client learned, and drifts change neither.
 use Rattle.std.proofs.Common.{◌≡◌, ◌≤◌, List, [], ◌∷◌, ◌++◌, drop, refl, sym, ap, subst, ◌∙◌, arith, inl, inr}
-use Rattle.sim_3_items.specs.Deeds.{Deed, Drops, Enters, Gives, Learns, Names, Reads, Says, Takes}
+use Rattle.sim_3_items.specs.Labels.{Drops, Enters, Gives, Label, Learns, Names, Reads, Says, Takes}
 use Rattle.sim_3_items.specs.Downs.{down_stanza}
 use Rattle.sim_3_items.specs.Items.{stanzas_read}
 use Rattle.sim_3_items.specs.Ups.{up_stanza}
 use Rattle.sim_5_devices.specs.InTime.{AreInTime, read_by, taken_by}
-use Rattle.sim_5_devices.proofs.SessionDeedsSteps.{IsStep}
-use Rattle.sim_5_devices.specs.Deeds.{Binds, Counts, Does, Drift, Drifts, Ends, drifted}
+use Rattle.sim_5_devices.proofs.SessionLabelsSteps.{IsStep}
+use Rattle.sim_5_devices.specs.Labels.{Binds, Counts, Does, Ends, SessionStep, SessionSteps, session_stepped}
 use Rattle.sim_1_applications.specs.Devices.{Session, Sessions, fresh}
 use Rattle.xml_writer.specs.Items.{ItemOut}
 
@@ -24,30 +24,30 @@ alike_same s = record { up_got = refl; up_rest = refl; acked = omega arith; down
 
 -- ---- drifts
 
-alike_drifts : (xs : List Drift) (s : Session) (d next : Sessions) → Drifts xs d next → AreAlike s d.now → AreAlike s next.now
-alike_drifts [] s d next same a = subst (λ (x : Sessions). AreAlike s x.now) (sym same) a
-alike_drifts (Binds ∷ xs) s d next by a = alike_drifts xs s (drifted Binds d) next by.1 a
-alike_drifts (Counts ∷ xs) s d next by a =
-    alike_drifts xs s (drifted Counts d) next by.1 (record { up_got = a.up_got; up_rest = a.up_rest; acked = a.acked; down_got = a.down_got; down_rest = a.down_rest })
-alike_drifts (Ends ∷ xs) s d next by a = alike_drifts xs s (drifted Ends d) next by.1 a
+alike_session_steps : (xs : List SessionStep) (s : Session) (d next : Sessions) → SessionSteps xs d next → AreAlike s d.now → AreAlike s next.now
+alike_session_steps [] s d next same a = subst (λ (x : Sessions). AreAlike s x.now) (sym same) a
+alike_session_steps (Binds ∷ xs) s d next by a = alike_session_steps xs s (session_stepped Binds d) next by.1 a
+alike_session_steps (Counts ∷ xs) s d next by a =
+    alike_session_steps xs s (session_stepped Counts d) next by.1 (record { up_got = a.up_got; up_rest = a.up_rest; acked = a.acked; down_got = a.down_got; down_rest = a.down_rest })
+alike_session_steps (Ends ∷ xs) s d next by a = alike_session_steps xs s (session_stepped Ends d) next by.1 a
 
--- ---- deeds
+-- ---- labels
 
--- the lists behind a deed
-abbrev pub behind : Deed ItemOut → Session → Session
-behind (Says z) s = record s { up_rest = s.up_rest ++ up_stanza z ∷ [] }
-behind (Takes z) s = taken_by (up_stanza z) s
-behind (Gives z) s = record s { down_rest = s.down_rest ++ down_stanza z ∷ [] }
-behind (Reads z) s = read_by (down_stanza z) s
-behind Names s = fresh
-behind _ s = s
+-- the lists behind a label
+abbrev pub following : Label ItemOut → Session → Session
+following (Says z) s = record s { up_rest = s.up_rest ++ up_stanza z ∷ [] }
+following (Takes z) s = taken_by (up_stanza z) s
+following (Gives z) s = record s { down_rest = s.down_rest ++ down_stanza z ∷ [] }
+following (Reads z) s = read_by (down_stanza z) s
+following Names s = fresh
+following _ s = s
 
-alike_does : (x : Deed ItemOut) (s : Session) (d next : Sessions) → Does stanzas_read x d next → AreAlike s d.now → AreAlike (behind x s) next.now
+alike_does : (x : Label ItemOut) (s : Session) (d next : Sessions) → Does stanzas_read x d next → AreAlike s d.now → AreAlike (following x s) next.now
 alike_does (Says z) s d next does a =
-    subst (λ (n : Sessions). AreAlike (behind (Says z) s) n.now) (sym does.1)
+    subst (λ (n : Sessions). AreAlike (following (Says z) s) n.now) (sym does.1)
     (record { up_got = a.up_got; up_rest = ap (λ l. l ++ up_stanza z ∷ []) a.up_rest; acked = a.acked; down_got = a.down_got; down_rest = a.down_rest })
 alike_does (Takes z) s d next does a =
-    subst (λ (n : Sessions). AreAlike (behind (Takes z) s) n.now) (sym does.is) (record {
+    subst (λ (n : Sessions). AreAlike (following (Takes z) s) n.now) (sym does.is) (record {
       up_got = ap (λ l. l ++ up_stanza z ∷ []) a.up_got;
       up_rest = ap (drop 1) (sym does.first ∙ a.up_rest);
       acked = a.acked;
@@ -55,10 +55,10 @@ alike_does (Takes z) s d next does a =
       down_rest = a.down_rest;
     })
 alike_does (Gives z) s d next does a =
-    subst (λ (n : Sessions). AreAlike (behind (Gives z) s) n.now) (sym does.1)
+    subst (λ (n : Sessions). AreAlike (following (Gives z) s) n.now) (sym does.1)
     (record { up_got = a.up_got; up_rest = a.up_rest; acked = a.acked; down_got = a.down_got; down_rest = ap (λ l. l ++ down_stanza z ∷ []) a.down_rest })
 alike_does (Reads z) s d next does a =
-    subst (λ (n : Sessions). AreAlike (behind (Reads z) s) n.now) (sym does.is) (record {
+    subst (λ (n : Sessions). AreAlike (following (Reads z) s) n.now) (sym does.is) (record {
       up_got = a.up_got;
       up_rest = a.up_rest;
       acked = a.acked;
@@ -76,19 +76,19 @@ alike_does Drops s d next (inr off) a = subst (λ (n : Sessions). AreAlike s n.n
 
 -- ---- in time
 
--- behind a deed that is in time the others are
-time_behind : (x : Deed ItemOut) (more : List (Deed ItemOut)) (s : Session) → AreInTime (x ∷ more) s → AreInTime more (behind x s)
-time_behind (Says z) more s time = time.1
-time_behind (Takes z) more s time = time
-time_behind (Gives z) more s time = time.1
-time_behind (Reads z) more s time = time
-time_behind Names more s time = time
-time_behind Enters more s time = time
-time_behind Learns more s time = time
-time_behind Drops more s time = time
+-- behind a label that is in time the others are
+time_after : (x : Label ItemOut) (more : List (Label ItemOut)) (s : Session) → AreInTime (x ∷ more) s → AreInTime more (following x s)
+time_after (Says z) more s time = time.1
+time_after (Takes z) more s time = time
+time_after (Gives z) more s time = time.1
+time_after (Reads z) more s time = time
+time_after Names more s time = time
+time_after Enters more s time = time
+time_after Learns more s time = time
+time_after Drops more s time = time
 
--- behind a step of one deed, or of none
-pub step_behind : (deeds more : List (Deed ItemOut)) (s : Session) (d next : Sessions) → IsStep stanzas_read deeds d next → AreAlike s d.now → AreInTime (deeds ++ more) s → (t : Session) × AreAlike t next.now × AreInTime more t
-step_behind [] more s d next step a time = (s, alike_drifts step.0 s d next step.1 a, time)
-step_behind (x ∷ []) more s d next step a time = (behind x s, alike_does x s d next step a, time_behind x more s time)
-step_behind (x ∷ y ∷ deeds) more s d next step a time = absurd step
+-- behind a step of one label, or of none
+pub step_after : (labels more : List (Label ItemOut)) (s : Session) (d next : Sessions) → IsStep stanzas_read labels d next → AreAlike s d.now → AreInTime (labels ++ more) s → (t : Session) × AreAlike t next.now × AreInTime more t
+step_after [] more s d next step a time = (s, alike_session_steps step.0 s d next step.1 a, time)
+step_after (x ∷ []) more s d next step a time = (following x s, alike_does x s d next step a, time_after x more s time)
+step_after (x ∷ y ∷ labels) more s d next step a time = absurd step

@@ -1,6 +1,6 @@
 -- Moves that are prompt, taken with their requests, are moves of prompt runs.
 use Rattle.std.proofs.Common.{◌≡◌, ℕ, Bool, false, List, [], ◌∷◌, ◌++◌, refl, sym, subst, inl, inr}
-use Rattle.sim_3_items.specs.Deeds.{ArePrompt, IsAskedAt, IsPromptBefore, awaits}
+use Rattle.sim_3_items.specs.Labels.{ArePrompt, IsAskedAt, IsPromptBefore, awaits}
 use Rattle.sim_2_links.specs.Covers.{IsPrompt, PromptMove, PromptMoves, PromptReached, PromptReaches}
 use Rattle.sim_2_links.specs.Machine.{AsksToBind, AsksToResume, Cuts, Demands, Detaches, Dials, EndsRow, Foots, Forgets, Hears, HearsEarly, Keeps, LetsGo, LinkMove, LinkMoves, LinkReached, LinkReaches, Parks, Puts, Queues, ReadsBound, ReadsCount, ReadsEnabled, ReadsFailed, ReadsHand, ReadsRequest, ReadsResumed, ReadsStanza, Requests, Serves, Shuts, TakesBind, TakesCount, TakesEnable, TakesFoot, TakesHand, TakesHighResume, TakesLateResume, TakesRequest, TakesResume, TakesStanza, TakesStrangeResume, nothing_yet}
 use Rattle.sim_2_links.specs.Paging.{Paging, PagingMoves, PagingReached, PagingReaches}

@@ -1,6 +1,6 @@
 -- What the server's row sends for a page request of its session's account: the page's entries, and its end.
 use Rattle.std.proofs.Common.{◌≡◌, ℕ, ◌-◌, ◌≤◌, List, [], ◌∷◌, ◌++◌, Option, Some, None, map, refl, sym, ap, ap₂, ◌∙◌, arith, if◌then◌else◌}
-use Rattle.cmd_direct.specs.Direct.{query_behind}
+use Rattle.cmd_direct.specs.Direct.{query_after}
 use Rattle.im_forwarding.specs.Queries.{query_asked}
 use Rattle.im_forwarding.specs.Results.{AskerView, entry_item, fin_item}
 use Rattle.im_mam.specs.declared.archive_query.MamQuery.{MamQuery}
@@ -21,10 +21,10 @@ use Rattle.sim_5_devices.proofs.Entries.{at_first}
 use Rattle.sim_5_devices.proofs.Queries.{query_read}
 use Rattle.sim_5_devices.specs.Exchanges.{Serves, all_sent, answers_to}
 use Rattle.sim_5_devices.specs.Shown.{AreGiven}
-use Rattle.sm_live.specs.declared.told.Told.{Told}
+use Rattle.sm_live.specs.declared.told.SessionInfo.{SessionInfo}
 use Rattle.srv_core.specs.Stanzas.{handling}
 use Rattle.srv_handlers.specs.Requests.{answering_iq, asker_of, envelope_of, paging, query_request, querying_in, sending_entries, sending_entry, serving}
-use Rattle.srv_state.specs.State.{Hall, Kept}
+use Rattle.srv_state.specs.State.{Kept, ServerState}
 use Rattle.srv_state.specs.Steps.{Act, Send}
 use Rattle.xml_trees.specs.Trees.{Elem, child, no_nodes}
 use Rattle.xml_writer.specs.Items.{ItemOut}
@@ -49,7 +49,7 @@ request_elem q after most = page_elem (queryid_text q) after most
 abbrev pub request_iq : ℕ → Option (List ℕ) → ℕ → IqView
 request_iq q after most = record { from = None; to = None; id = queryid_text q; kind = iq.Set; payload = child (request_elem q after most) no_nodes }
 
-served : (q : ℕ) (after : Option (List ℕ)) (most : ℕ) (t : Told) (h : Hall ItemOut)
+served : (q : ℕ) (after : Option (List ℕ)) (most : ℕ) (t : SessionInfo) (h : ServerState ItemOut)
     → handling itself (stanza_of (setting_elem (queryid_text q) (child (request_elem q after most) no_nodes))) t h ≡ serving itself (Some (query_request (query_asked (request_elem q after most)))) (request_iq q after most) t h
 served q after most t h = refl
 
@@ -60,13 +60,13 @@ asker bare full q = record { by = bare; full = full; queryid = queryid_text q }
 abbrev pub envelope : List ℕ → ℕ → EnvelopeView
 envelope full q = record { from = None; to = Some full; id = queryid_text q }
 
-pub answers_are : (bare full : List ℕ) (kept : Kept) (t : Told) (h : Hall ItemOut) (q most : ℕ) (after : Option (List ℕ)) (cut : CutView) → Serves bare full kept t h → most ≤ 100
-    → page_of (kept_by kept.owner kept.entries) (query_behind after most) ≡ Some cut → AreGiven kept.entries cut.numbers
+pub answers_are : (bare full : List ℕ) (kept : Kept) (t : SessionInfo) (h : ServerState ItemOut) (q most : ℕ) (after : Option (List ℕ)) (cut : CutView) → Serves bare full kept t h → most ≤ 100
+    → page_of (kept_by kept.owner kept.entries) (query_after after most) ≡ Some cut → AreGiven kept.entries cut.numbers
     → answers_to (page_item (queryid_text q) after most) t h ≡ map (entry_item (asker bare full q)) (entries_at kept.entries cut.numbers) ++ fin_item (envelope full q) cut ∷ []
 answers_are bare full kept t h q most after cut serves small page given =
     let n = t.number in
     let v = request_iq q after most in
-    let query : MamQuery = record { queryid = queryid_text q; query = query_behind after most } in
+    let query : MamQuery = record { queryid = queryid_text q; query = query_after after most } in
     let own : AskerView = asker_of t (queryid_text q) h in
     ap (all_sent n) (served q after most t h)
     ∙ ap (λ o. all_sent n (serving itself (Some (query_request o)) v t h)) (query_read (queryid_text q) most (omega arith) after)

@@ -6,11 +6,11 @@ use Rattle.std.specs.Option.{option_map}
 use Rattle.std.specs.Str.{bytes_eq}
 use Rattle.cl_core.specs.PageRows.{iq_row}
 use Rattle.cl_core.specs.Steps.{connected_step, element_row, handles, item_step, online_in, stanza_row}
-use Rattle.cl_handlers.specs.Clients.{ClientView, Turn}
+use Rattle.cl_handlers.specs.Clients.{ClientStep, ClientView}
 use Rattle.cl_handlers.specs.MessageRows.{is_own_or_absent, other_message, result_row, result_to}
 use Rattle.cl_handlers.specs.SessionRows.{is_stanza}
 use Rattle.cl_handlers.specs.Speech.{in_items}
-use Rattle.cl_handlers.specs.Turns.{is_apart, with_log}
+use Rattle.cl_handlers.specs.ClientSteps.{is_apart, with_log}
 use Rattle.cl_handlers.specs.declared.phase.Phase.TheVariants.{Online}
 use Rattle.cmd_direct.specs.Direct.{as_logged}
 use Rattle.im_forwarding.specs.Results.{archived_result, entry_elem, entry_item}
@@ -39,23 +39,23 @@ use Rattle.xml_trees.specs.Trees.{Elem}
 use Rattle.xml_writer.specs.Items.{ItemOut}
 
 -- one after another
-pub taken_both : (t : Turn ItemOut ItemOut) (xs ys : List ItemOut) → taken t (xs ++ ys) ≡ taken (taken t xs) ys
+pub taken_both : (t : ClientStep ItemOut ItemOut) (xs ys : List ItemOut) → taken t (xs ++ ys) ≡ taken (taken t xs) ys
 taken_both t [] ys = refl
 taken_both t (x ∷ xs) ys = taken_both (item_step in_items t (read_of x)) xs ys
 
 -- a stanza comes where the client is online
-read_there : (t : Turn ItemOut ItemOut) (s : SessionView ItemOut) (e : Elem) → t.client.phase ≡ Online → t.client.session ≡ Some s → is_named streams_ns (codes "error") e ≡ false → is_stanza e ≡ true
+read_there : (t : ClientStep ItemOut ItemOut) (s : SessionView ItemOut) (e : Elem) → t.client.phase ≡ Online → t.client.session ≡ Some s → is_named streams_ns (codes "error") e ≡ false → is_stanza e ≡ true
     → item_step in_items t (Element e) ≡ stanza_row in_items (handles in_items t s e) (stanza_of e)
 read_there t s e online session other stanza =
     ap (λ p. if is_apart p then t else connected_step in_items t (Element e)) online
     ∙ rw other (ap (λ p. element_row in_items t p e) online ∙ ap (λ o. online_in in_items t o e) session ∙ rw stanza refl)
 
-pub iq_comes : (t : Turn ItemOut ItemOut) (s : SessionView ItemOut) (v : IqView) → t.client.phase ≡ Online → t.client.session ≡ Some s → IsNormal v.from → IsNormal v.to
+pub iq_comes : (t : ClientStep ItemOut ItemOut) (s : SessionView ItemOut) (v : IqView) → t.client.phase ≡ Online → t.client.session ≡ Some s → IsNormal v.from → IsNormal v.to
     → item_step in_items t (Element (iq_elem v)) ≡ iq_row in_items (handles in_items t s (iq_elem v)) v
 iq_comes t s v online session from to = read_there t s (iq_elem v) online session refl refl ∙ ap (stanza_row in_items (handles in_items t s (iq_elem v))) (iq_read v from to)
 
 -- the client has taken these results of the page, and so many stanzas wait as did
-pub record IsAlong (c : ClientView ItemOut) (page : OpenPage) (queue : List ItemOut) (results : List LogEntry) (t : Turn ItemOut ItemOut) : Type 0 where
+pub record IsAlong (c : ClientView ItemOut) (page : OpenPage) (queue : List ItemOut) (results : List LogEntry) (t : ClientStep ItemOut ItemOut) : Type 0 where
   pub account : t.client.account ≡ c.account
   pub online : t.client.phase ≡ Online
   pub pages : t.client.pages ≡ c.pages
@@ -74,7 +74,7 @@ not_full max n low = grind (arith, nat_tests)
 
 module _ (bare full : List ℕ) (bare_normal : normal bare ≡ Ok bare) (full_normal : normal full ≡ Ok full) (c : ClientView ItemOut) (page : OpenPage) (queue : List ItemOut)
     (q : ℕ) (own : c.account.bare ≡ bare) (id : page.queryid ≡ queryid_text q) where
-  entry_comes : (t : Turn ItemOut ItemOut) (s : SessionView ItemOut) (e : EntryView) → t.client.phase ≡ Online → t.client.session ≡ Some s → t.client.account.bare ≡ bare → IsPlainEntry e
+  entry_comes : (t : ClientStep ItemOut ItemOut) (s : SessionView ItemOut) (e : EntryView) → t.client.phase ≡ Online → t.client.session ≡ Some s → t.client.account.bare ≡ bare → IsPlainEntry e
       → item_step in_items t (Element (entry_elem (asker bare full q) e)) ≡ result_to (handles in_items t s (entry_elem (asker bare full q) e)) (page_for (queryid_text q) t.client.log.page) (as_logged e)
   entry_comes t s e online session is_own plain =
       let x = entry_elem (asker bare full q) e in
@@ -88,7 +88,7 @@ module _ (bare full : List ℕ) (bare_normal : normal bare ≡ Ok bare) (full_no
       ∙ ap (result_row h) (result_again q e plain)
       ∙ ap (result_to h (page_for (queryid_text q) t.client.log.page)) (logged_again e plain)
 
-  one_along : (t : Turn ItemOut ItemOut) (results : List LogEntry) (e : EntryView) → IsAlong c page queue results t → length results < page.max → IsPlainEntry e
+  one_along : (t : ClientStep ItemOut ItemOut) (results : List LogEntry) (e : EntryView) → IsAlong c page queue results t → length results < page.max → IsPlainEntry e
       → IsAlong c page queue (results ++ as_logged e ∷ []) (item_step in_items t (Element (entry_elem (asker bare full q) e)))
   one_along t results e a low plain =
       let h = handles in_items t a.session (entry_elem (asker bare full q) e) in
@@ -109,7 +109,7 @@ module _ (bare full : List ℕ) (bare_normal : normal bare ≡ Ok bare) (full_no
         page_is = ap (option_map (λ (p : OpenPage). record p { results = p.results ++ as_logged e ∷ [] })) a.page_is;
       })
 
-  pub all_along : (es : List EntryView) (t : Turn ItemOut ItemOut) (results : List LogEntry) → IsAlong c page queue results t → length results + length (map as_logged es) ≤ page.max → AllByRecursion IsPlainEntry es
+  pub all_along : (es : List EntryView) (t : ClientStep ItemOut ItemOut) (results : List LogEntry) → IsAlong c page queue results t → length results + length (map as_logged es) ≤ page.max → AllByRecursion IsPlainEntry es
       → IsAlong c page queue (results ++ map as_logged es) (taken t (map (entry_item (asker bare full q)) es))
   all_along [] t results a low plain = subst (λ rs. IsAlong c page queue rs t) (sym (append-nil results)) a
   all_along (e ∷ es) t results a low plain =

@@ -7,15 +7,15 @@ use Rattle.mam_archive.specs.Entries.{EntryView}
 use Rattle.mam_archive.specs.Ids.{id_of}
 use Rattle.cl_core.specs.UserCalls.{catch_up_in, catches_up, catches_up_in, outbox_bound}
 use Rattle.cl_core.specs.declared.faults.CatchUpStart.TheVariants as start
-use Rattle.cl_handlers.specs.Clients.{ClientView, Turn}
+use Rattle.cl_handlers.specs.Clients.{ClientStep, ClientView}
 use Rattle.cl_handlers.specs.Speech.{in_items}
-use Rattle.sim_3_items.specs.Deeds.{Says}
+use Rattle.sim_3_items.specs.Labels.{Says}
 use Rattle.sim_3_items.specs.Reading.{noted}
 use Rattle.sim_3_items.specs.Meant.{IsEntryNumber, requested}
-use Rattle.sim_3_items.specs.ItemWorlds.{silent_turn}
+use Rattle.sim_3_items.specs.ItemWorlds.{silent_client_step}
 use Rattle.sim_5_devices.proofs.Entries.{last_at}
-use Rattle.sim_5_devices.proofs.LogReadingsSteps.{begun_shows}
-use Rattle.sim_5_devices.specs.Shown.{AreGiven, IsGiven, LogShows, page_shown, queryid_of}
+use Rattle.sim_5_devices.proofs.LogReadingsSteps.{begun_represents}
+use Rattle.sim_5_devices.specs.Shown.{AreGiven, IsGiven, LogRepresents, page_shown, queryid_of}
 use Rattle.mam_log.specs.LogPages.{last_id}
 use Rattle.mam_log.specs.Views.{with_begun}
 use Rattle.sm_outbox.specs.Sessions.{SessionView}
@@ -23,10 +23,10 @@ use Rattle.sm_outbox.specs.Submissions.{next_number}
 use Rattle.im_requests.specs.Messages.{page_item}
 use Rattle.cmd_schedule.specs.Contents.{Owned}
 use Rattle.sim_3_items.specs.Built.{IsUpAs}
-use Rattle.sim_3_items.specs.Submitted.{SubmissionsShow}
+use Rattle.sim_3_items.specs.Submitted.{SubmissionsRepresent}
 use Rattle.sim_1_applications.proofs.Lists.{all_rest}
 use Rattle.sim_1_applications.proofs.Logs.{last_of_run}
-use Rattle.sim_1_applications.specs.Answers.{behind, last_in}
+use Rattle.sim_1_applications.specs.Answers.{following, last_in}
 use Rattle.sim_1_applications.specs.Devices.{Device, Reading, log_of}
 use Rattle.sim_1_applications.specs.Events.{CatchUp, May, ask, put_up}
 use Rattle.sim_1_applications.specs.Events as events
@@ -37,15 +37,15 @@ use Rattle.sim_5_devices.specs.Told.{IsCatchingUp, SameSaid, next_request}
 use Rattle.xml_writer.specs.Items.{ItemOut}
 use Rattle.sim_5_devices.proofs.Saying.{next_is}
 
-pub last_behind : (a : List ℕ) (n : ℕ) (b : List ℕ) → last_in (a ++ n ∷ b) ≡ last_in (n ∷ b)
-last_behind [] n b = refl
-last_behind (m ∷ []) n b = refl
-last_behind (m ∷ k ∷ a) n b = last_behind (k ∷ a) n b
+pub last_after : (a : List ℕ) (n : ℕ) (b : List ℕ) → last_in (a ++ n ∷ b) ≡ last_in (n ∷ b)
+last_after [] n b = refl
+last_after (m ∷ []) n b = refl
+last_after (m ∷ k ∷ a) n b = last_after (k ∷ a) n b
 
 -- the last number of all runs is that of the last one
 same_last : (broken : List (List ℕ)) (run : List ℕ) → (run ≡ [] → broken ≡ []) → last_in (flat_map (λ r. r) broken ++ run) ≡ last_in run
 same_last broken [] none = ap (λ (rs : List (List ℕ)). last_in (flat_map (λ r. r) rs ++ [])) (none refl)
-same_last broken (n ∷ run) none = last_behind (flat_map (λ r. r) broken) n run
+same_last broken (n ∷ run) none = last_after (flat_map (λ r. r) broken) n run
 
 all_last : (P : ℕ → Type 0) (xs : List ℕ) → AllByRecursion P xs → IfSome (last_in xs) P
 all_last P [] all = tt
@@ -76,10 +76,10 @@ module _ (keep : ℕ) (history : List EntryView) (c : ClientView ItemOut) (x : D
   request_is = λ i. page_item (queryid_of (page_number i)) (after_is i) most
 
   -- it is an entry's
-  place_is : IfSome (last_in b.run) IsEntryNumber
-  place_is = by b.run p.runs.is_run (all_rest (IsGiven history) (flat_map (λ r. r) b.broken) b.run p.given.logged)
+  position_is : IfSome (last_in b.run) IsEntryNumber
+  position_is = by b.run p.runs.is_run (all_rest (IsGiven history) (flat_map (λ r. r) b.broken) b.run p.given.logged)
     where
-      by : (run : List ℕ) → run ≡ behind p.runs.from (length run) → AreGiven history run → IfSome (last_in run) IsEntryNumber
+      by : (run : List ℕ) → run ≡ following p.runs.from (length run) → AreGiven history run → IfSome (last_in run) IsEntryNumber
       by [] is given = tt
       by (n ∷ run) is given =
           let last = last_of_run p.runs.from n run is in
@@ -91,71 +91,71 @@ module _ (keep : ℕ) (history : List EntryView) (c : ClientView ItemOut) (x : D
     refl,
     record {
       number_fits = subst (λ n. n + 1 < 2 ^ 64) p.pages p.pages_fit;
-      place = place_is;
+      position = position_is;
       max_fits = let few = p.few in omega (arith, few);
     },
   )
 
-  record IsAsking (t : Turn ItemOut ItemOut) : Type 0 where
-    shows : (began : ℕ) → SubmissionsShow t.client (ask (last_in b.run) most began x).sessions
-    log : (began : ℕ) → LogShows keep history t.client.log (ask (last_in b.run) most began x).reading
+  record IsAsking (t : ClientStep ItemOut ItemOut) : Type 0 where
+    represents : (began : ℕ) → SubmissionsRepresent t.client (ask (last_in b.run) most began x).sessions
+    log : (began : ℕ) → LogRepresents keep history t.client.log (ask (last_in b.run) most began x).reading
     pages : t.client.pages ≡ b.asked + 1
     same : SameSaid c t.client
     account : t.client.account ≡ c.account
     put : noted t.out.notes ≡ Says (requested (next_request b most)) ∷ []
     may : May (CatchUp most) x
 
-  asking : (s : SessionView ItemOut) → c.session ≡ Some s → is_some c.log.page ≡ false → IsAsking (catches_up_in in_items (silent_turn c) (Some s) most)
+  asking : (s : SessionView ItemOut) → c.session ≡ Some s → is_some c.log.page ≡ false → IsAsking (catches_up_in in_items (silent_client_step c) (Some s) most)
   asking s is free = record {
-    shows = λ began. request_told c e x.sessions s request_put (next_request b most) p.shows p.acked same is refl;
+    represents = λ began. request_told c e x.sessions s request_put (next_request b most) p.represents p.acked same is refl;
     log = λ began. begun began;
     pages = page_number;
     same = same;
     account = refl;
     put = ap (λ z. Says z ∷ []) request_is;
-    may = ((stands c x.sessions s is p.shows).online, no_open, p.some, p.few);
+    may = ((stands c x.sessions s is p.represents).online, no_open, p.some, p.few);
   }
     where
       e : ClientView ItemOut
-      e = (catches_up_in in_items (silent_turn c) (Some s) most).client
+      e = (catches_up_in in_items (silent_client_step c) (Some s) most).client
 
       same : SameSaid c e
       same = record { epoch = refl; n = refl; said = refl }
 
-      begun : (began : ℕ) → LogShows keep history e.log (ask (last_in b.run) most began x).reading
+      begun : (began : ℕ) → LogRepresents keep history e.log (ask (last_in b.run) most began x).reading
       begun began =
-          subst (λ k. LogShows keep history (with_begun c.log (queryid_of k) most) (ask (last_in b.run) most began x).reading) (sym page_number)
-          (subst (λ after. LogShows keep history (with_begun c.log (queryid_of (b.asked + 1)) most) (events.asking after most began b).reading) log_last
-          (begun_shows keep history c.log b p.log most began p.given.logged))
+          subst (λ k. LogRepresents keep history (with_begun c.log (queryid_of k) most) (ask (last_in b.run) most began x).reading) (sym page_number)
+          (subst (λ after. LogRepresents keep history (with_begun c.log (queryid_of (b.asked + 1)) most) (events.asking after most began b).reading) log_last
+          (begun_represents keep history c.log b p.log most began p.given.logged))
 
       no_open : b.page ≡ None
       no_open = no_page (page_shown history) b.page (sym p.log.page ∙ has_none c.log.page free)
 
-  by : (session : Option (SessionView ItemOut)) → c.session ≡ session → catch_up_in c session ≡ Ok tt → IsAsking (catches_up_in in_items (silent_turn c) session most)
+  by : (session : Option (SessionView ItemOut)) → c.session ≡ session → catch_up_in c session ≡ Ok tt → IsAsking (catches_up_in in_items (silent_client_step c) session most)
   by None is e = absurd (let no_way : ⊥ = cc in no_way)
   by (Some s) is e = within (nat_le outbox_bound (length s.waiting.queue)) (is_some c.log.page) tt refl e
     where
-      within : (full busy : Bool) (done : Unit {0}) → is_some c.log.page ≡ busy → (if full then Err start.OutboxFull else (if busy then Err start.Underway else Ok done)) ≡ Ok done → IsAsking (catches_up_in in_items (silent_turn c) (Some s) most)
+      within : (full busy : Bool) (done : Unit {0}) → is_some c.log.page ≡ busy → (if full then Err start.OutboxFull else (if busy then Err start.Underway else Ok done)) ≡ Ok done → IsAsking (catches_up_in in_items (silent_client_step c) (Some s) most)
       within true busy done at e = absurd (let no_way : ⊥ = cc in no_way)
       within false true done at e = absurd (let no_way : ⊥ = cc in no_way)
       within false false done at e = asking s is at
 
-  asked : IsAsking (catches_up in_items (silent_turn c) most)
+  asked : IsAsking (catches_up in_items (silent_client_step c) most)
   asked = by c.session refl p.taken
 
-  pub asks_shows : (began : ℕ) → SubmissionsShow (catches_up in_items (silent_turn c) most).client (ask (last_in b.run) most began x).sessions
-  asks_shows = asked.shows
+  pub asks_represents : (began : ℕ) → SubmissionsRepresent (catches_up in_items (silent_client_step c) most).client (ask (last_in b.run) most began x).sessions
+  asks_represents = asked.represents
 
-  pub asks_log : (began : ℕ) → LogShows keep history (catches_up in_items (silent_turn c) most).client.log (ask (last_in b.run) most began x).reading
+  pub asks_log : (began : ℕ) → LogRepresents keep history (catches_up in_items (silent_client_step c) most).client.log (ask (last_in b.run) most began x).reading
   asks_log = asked.log
 
-  pub asks_pages : (catches_up in_items (silent_turn c) most).client.pages ≡ b.asked + 1
+  pub asks_pages : (catches_up in_items (silent_client_step c) most).client.pages ≡ b.asked + 1
   asks_pages = asked.pages
 
-  pub asks_same : SameSaid c (catches_up in_items (silent_turn c) most).client × ((catches_up in_items (silent_turn c) most).client.account ≡ c.account)
+  pub asks_same : SameSaid c (catches_up in_items (silent_client_step c) most).client × ((catches_up in_items (silent_client_step c) most).client.account ≡ c.account)
   asks_same = (asked.same, asked.account)
 
-  pub asks_put : noted (catches_up in_items (silent_turn c) most).out.notes ≡ Says (requested (next_request b most)) ∷ []
+  pub asks_put : noted (catches_up in_items (silent_client_step c) most).out.notes ≡ Says (requested (next_request b most)) ∷ []
   asks_put = asked.put
 
   pub asks_may : May (CatchUp most) x

@@ -7,7 +7,7 @@ use Rattle.std.specs.Prelude.{nat_lt}
 use Rattle.sm_acks.proofs.Senders.{ahead_exact}
 use Rattle.sm_acks.specs.Counters.{ahead}
 use Rattle.cl_handlers.specs.AckRows.{ack_row, acknowledges}
-use Rattle.cl_handlers.specs.Clients.{Turn}
+use Rattle.cl_handlers.specs.Clients.{ClientStep}
 use Rattle.cl_handlers.specs.SessionRows.{attaches, resumed_row}
 use Rattle.cl_handlers.specs.Speech.{in_items}
 use Rattle.cmd_network.specs.DeviceLines as device
@@ -16,7 +16,7 @@ use Rattle.sm_outbox.specs.Submissions.{in_state}
 use Rattle.sm_outbox.specs.Waiting.{acked, count_true, is_too_high, submissions_to}
 use Rattle.sm_outbox.specs.declared.said.SaidState.TheVariants as state
 use Rattle.cmd_report.specs.declared.report.SaidMark.TheVariants.{Acknowledged, Waiting}
-use Rattle.sim_3_items.specs.Submitted.{SubmissionsShow, is_message, outstanding}
+use Rattle.sim_3_items.specs.Submitted.{SubmissionsRepresent, is_message, outstanding}
 use Rattle.sim_1_applications.proofs.Numbered.{messages_append}
 use Rattle.sim_1_applications.specs.Devices.{Sessions, up_put}
 use Rattle.sim_1_applications.specs.Events.{acknowledged}
@@ -27,9 +27,9 @@ use Rattle.sim_5_devices.proofs.Shown.{Stands, past_lines, settled_of, shown, st
 use Rattle.sim_5_devices.specs.Told.{IsCounted, SameLog}
 use Rattle.xml_writer.specs.Items.{ItemOut}
 
-module _ (t : Turn ItemOut ItemOut) (d : Sessions) (s : SessionView ItemOut) (n h : ℕ) (counted : IsCounted t.client d s n h) where
+module _ (t : ClientStep ItemOut ItemOut) (d : Sessions) (s : SessionView ItemOut) (n h : ℕ) (counted : IsCounted t.client d s n h) where
   st : Stands t.client d s
-  st = stands t.client d s counted.session counted.shows
+  st = stands t.client d s counted.session counted.represents
 
   near : n - d.now.acked ≤ 10000
   near = let high = counted.high in let few = counted.few in omega (arith, high, few)
@@ -100,10 +100,10 @@ module _ (t : Turn ItemOut ItemOut) (d : Sessions) (s : SessionView ItemOut) (n 
     kinds = ap₂ drop is_ahead st.kinds ∙ drop-map is_message (n - d.now.acked) (outstanding d) ∙ ap (map is_message) are_others;
   }
 
-  pub acked_told : SubmissionsShow (acknowledges in_items t s h).client (acknowledged n d)
+  pub acked_told : SubmissionsRepresent (acknowledges in_items t s h).client (acknowledged n d)
   acked_told = shown (acknowledges in_items t s h).client (acknowledged n d) (with_waiting s (acked s.waiting h)) refl acked_stands
 
-  pub attached_told : SubmissionsShow (attaches in_items (acknowledges in_items t s h)).client (acknowledged n d)
+  pub attached_told : SubmissionsRepresent (attaches in_items (acknowledges in_items t s h)).client (acknowledged n d)
   attached_told = record { epoch = acked_told.epoch; n = acked_told.n; online = acked_told.online; said = acked_told.said; waiting = acked_told.waiting }
 
   -- and it is none above what was put
@@ -116,10 +116,10 @@ module _ (t : Turn ItemOut ItemOut) (d : Sessions) (s : SessionView ItemOut) (n 
   same_attached : SameLog t.client (attaches in_items (acknowledges in_items t s h)).client
   same_attached = record { account = refl; epoch = refl; log = refl; pages = refl }
 
-  pub row_told : SubmissionsShow (ack_row in_items t s h).client (acknowledged n d)
+  pub row_told : SubmissionsRepresent (ack_row in_items t s h).client (acknowledged n d)
   row_told = rw not_high acked_told
 
-  pub resumed_told : SubmissionsShow (resumed_row in_items t s h).client (acknowledged n d)
+  pub resumed_told : SubmissionsRepresent (resumed_row in_items t s h).client (acknowledged n d)
   resumed_told = rw not_high attached_told
 
   pub rows_same : SameLog t.client (ack_row in_items t s h).client × SameLog t.client (resumed_row in_items t s h).client

@@ -6,7 +6,7 @@ use Rattle.mam_archive.specs.Entries.{EntryView, numbered}
 use Rattle.cmd_direct.specs.Direct.{as_logged}
 use Rattle.mam_log.specs.Views.{LogView}
 use Rattle.sim_5_devices.proofs.Entries.{at_first}
-use Rattle.sim_5_devices.specs.Shown.{AreGiven, ArePageGiven, IsGiven, IsReadingGiven, LogShows, page_shown}
+use Rattle.sim_5_devices.specs.Shown.{AreGiven, ArePageGiven, IsGiven, IsReadingGiven, LogRepresents, page_shown}
 use Rattle.sim_1_applications.proofs.Lists.{all_weaker}
 use Rattle.sim_1_applications.specs.Devices.{OpenPage, Reading, log_of}
 use Rattle.sim_1_applications.specs.Reported.{entries_at, history_at, take_of}
@@ -43,12 +43,12 @@ module _ (history more : List EntryView) where
   pub reading_given : (b : Reading) → IsReadingGiven history b → IsReadingGiven (history ++ more) b
   reading_given b g = record { logged = all_given (log_of b) g.logged; page = (page_given b.page g.page).0; held = g.held }
 
-  pub log_grown : (keep : ℕ) (log : LogView) (b : Reading) → IsReadingGiven history b → LogShows keep history log b → LogShows keep (history ++ more) log b
-  log_grown keep log b g shows = record {
-    entries = shows.entries ∙ ap (map as_logged) (sym (same_entries (log_of b) g.logged));
-    tiles = shows.tiles;
-    page = shows.page ∙ sym (page_given b.page g.page).1;
-    held = shows.held;
+  pub log_grown : (keep : ℕ) (log : LogView) (b : Reading) → IsReadingGiven history b → LogRepresents keep history log b → LogRepresents keep (history ++ more) log b
+  log_grown keep log b g represents = record {
+    entries = represents.entries ∙ ap (map as_logged) (sym (same_entries (log_of b) g.logged));
+    tiles = represents.tiles;
+    page = represents.page ∙ sym (page_given b.page g.page).1;
+    held = represents.held;
   }
 
 -- ---- a history of takes
@@ -72,9 +72,9 @@ history_more owned takes new account =
     )
 
 pub takes_grown : (keep : ℕ) (owned : List Owned) (takes new : List sessions.Take) (account : List ℕ) (log : LogView) (b : Reading)
-    → LogShows keep (history_at owned takes account) log b × IsReadingGiven (history_at owned takes account) b
-    → LogShows keep (history_at owned (takes ++ new) account) log b × IsReadingGiven (history_at owned (takes ++ new) account) b
+    → LogRepresents keep (history_at owned takes account) log b × IsReadingGiven (history_at owned takes account) b
+    → LogRepresents keep (history_at owned (takes ++ new) account) log b × IsReadingGiven (history_at owned (takes ++ new) account) b
 takes_grown keep owned takes new account log b read =
     let history = history_at owned takes account in
     let more = history_more owned takes new account in
-    subst (λ h. LogShows keep h log b × IsReadingGiven h b) (sym more.1) (log_grown history more.0 keep log b read.1 read.0, reading_given history more.0 b read.1)
+    subst (λ h. LogRepresents keep h log b × IsReadingGiven h b) (sym more.1) (log_grown history more.0 keep log b read.1 read.0, reading_given history more.0 b read.1)

@@ -2,7 +2,7 @@
 use Rattle.std.proofs.Common.{◌≡◌, ◌≢◌, ◌≤◌, ◌+◌, ◌==◌, ℕ, Bool, true, false, List, [], ◌∷◌, ◌++◌, Option, Some, None, length, take, refl, ap, ◌∙◌, if◌then◌else◌, arith}
 use Rattle.std.specs.Option.{option_map, option_map_or}
 use Rattle.std.specs.Prelude.{◌&&◌, nat_lt, not}
-use Rattle.sim_5_devices.proofs.DeedsInTimeEnds.{many_more, queries_one, reply_ends}
+use Rattle.sim_5_devices.proofs.LabelsInTimeEnds.{many_more, queries_one, reply_ends}
 use Rattle.sim_5_devices.specs.Pages.{IsPaged}
 use Rattle.sim_2_links.proofs.Many.{many_append}
 use Rattle.sim_2_links.specs.Paging.{many, one_if}

@@ -1,19 +1,19 @@
--- session deeds
-pub mod Drifting
-pub mod SessionDeedsSteps
+-- session labels
+pub mod SessionStepping
+pub mod SessionLabelsSteps
 pub mod Sorted
 pub mod Given
 pub mod Worlds
-pub mod AllDrifts
+pub mod AllSessionSteps
 -- links in time
 pub mod Alike
 pub mod Put
 pub mod Along
 pub mod Staying
 pub mod Rest
--- deeds in time
-pub mod DeedsInTimeEnds
+-- labels in time
 pub mod Kept
+pub mod LabelsInTimeEnds
 pub mod Timely
 -- log readings
 pub mod Entries
@@ -33,7 +33,7 @@ pub mod Grown
 pub mod Stanzas
 pub mod Forwards
 pub mod Names
-pub mod Turns
+pub mod ClientSteps
 pub mod Quiet
 pub mod Lives
 pub mod Found

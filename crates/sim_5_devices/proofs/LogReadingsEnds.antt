@@ -17,12 +17,12 @@ use Rattle.mam_log.specs.Views.{LogView, advance_of, after_fin, end_of, first_re
 use Rattle.mam_log.specs.declared.fin.FinFault.TheVariants as fault
 use Rattle.mam_log.specs.declared.log_entry.LogEntry.{LogEntry}
 use Rattle.sim_5_devices.proofs.Entries.{among_ids, at_both, ids_at, last_at, length_at, logged_at, same_ids}
-use Rattle.sim_5_devices.specs.Shown.{AreGiven, ArePageGiven, IsFinOf, IsGiven, IsReadingGiven, LogShows, id_logged, page_shown, tile_shown}
+use Rattle.sim_5_devices.specs.Shown.{AreGiven, ArePageGiven, IsFinOf, IsGiven, IsReadingGiven, LogRepresents, id_logged, page_shown, tile_shown}
 use Rattle.mam_pages.specs.declared.fin.Fin.{Fin}
 use Rattle.sim_1_applications.proofs.Lists.{all_weaker}
 use Rattle.sim_1_applications.specs.Answers.{last_in}
 use Rattle.sim_1_applications.specs.Devices.{OpenPage, Reading, log_of}
-use Rattle.sim_1_applications.specs.Events.{Around, are_new, is_broken, is_empty, is_number_among, over, same_place, tile}
+use Rattle.sim_1_applications.specs.Events.{Around, are_new, is_broken, is_empty, is_number_among, over, same_position, tile}
 
 abbrev Small : List ℕ → Type 0
 Small ns = AllByRecursion (λ n. n < 2 ^ 64) ns
@@ -39,16 +39,16 @@ Alike xs ys = (n : ℕ) → is_number_among n xs ≡ is_number_among n ys
 among_both : (n : ℕ) (xs ys : List ℕ) → is_number_among n (xs ++ ys) ≡ (is_number_among n xs || is_number_among n ys)
 among_both n xs ys = list_any-append (λ m. n == m) xs ys
 
-or_turned : (x y : Bool) → (x || y) ≡ (y || x)
-or_turned true true = refl
-or_turned true false = refl
-or_turned false true = refl
-or_turned false false = refl
+or_rendered : (x y : Bool) → (x || y) ≡ (y || x)
+or_rendered true true = refl
+or_rendered true false = refl
+or_rendered false true = refl
+or_rendered false false = refl
 
 -- one more in both, at either end
 alike_more : (n : ℕ) (xs ys : List ℕ) → Alike xs ys → Alike (xs ++ n ∷ []) (n ∷ ys)
 alike_more n xs ys same m =
-    among_both m xs (n ∷ []) ∙ ap₂ (λ x y. x || y) (same m) (or-false (m == n)) ∙ or_turned (is_number_among m ys) (m == n)
+    among_both m xs (n ∷ []) ∙ ap₂ (λ x y. x || y) (same m) (or-false (m == n)) ∙ or_rendered (is_number_among m ys) (m == n)
 
 no_repeat : (known : List ℕ) (ns : List ℕ) (log : List ℕ) → Small known → Small ns → Alike known log → are_new log ns ≡ true → first_repeat (map id_of known) (map id_of ns) ≡ None
 no_repeat known [] log small few alike new = refl
@@ -57,19 +57,19 @@ no_repeat known (n ∷ ns) log small few alike new =
     let fresh : list_any (λ other. bytes_eq (id_of n) other) (map id_of known) ≡ false = among_ids n known few.0 small ∙ alike n ∙ not-true (is_number_among n log) parts.0 in
     rw fresh
     (ap (λ ids. first_repeat ids (map id_of ns)) (sym (map-append id_of known (n ∷ [])))
-    ∙ no_repeat (known ++ n ∷ []) ns (n ∷ log) (all_behind known n small few.0) few.1 (alike_more n known log alike) parts.1)
+    ∙ no_repeat (known ++ n ∷ []) ns (n ∷ log) (all_after known n small few.0) few.1 (alike_more n known log alike) parts.1)
   where
-    all_behind : (known : List ℕ) (n : ℕ) → Small known → n < 2 ^ 64 → Small (known ++ n ∷ [])
-    all_behind [] n small one = (one, tt)
-    all_behind (m ∷ known) n small one = (small.0, all_behind known n small.1 one)
+    all_after : (known : List ℕ) (n : ℕ) → Small known → n < 2 ^ 64 → Small (known ++ n ∷ [])
+    all_after [] n small one = (one, tt)
+    all_after (m ∷ known) n small one = (small.0, all_after known n small.1 one)
 
 -- ---- places
 
-same_places : (m n : Option ℕ) → ((k : ℕ) → m ≡ Some k → k < 2 ^ 64) → ((k : ℕ) → n ≡ Some k → k < 2 ^ 64) → same_id (option_map id_of m) (option_map id_of n) ≡ same_place m n
-same_places None None few less = refl
-same_places None (Some n) few less = refl
-same_places (Some m) None few less = refl
-same_places (Some m) (Some n) few less = same_ids m n (few m refl) (less n refl)
+same_positions : (m n : Option ℕ) → ((k : ℕ) → m ≡ Some k → k < 2 ^ 64) → ((k : ℕ) → n ≡ Some k → k < 2 ^ 64) → same_id (option_map id_of m) (option_map id_of n) ≡ same_position m n
+same_positions None None few less = refl
+same_positions None (Some n) few less = refl
+same_positions (Some m) None few less = refl
+same_positions (Some m) (Some n) few less = same_ids m n (few m refl) (less n refl)
 
 -- ---- what is held no more
 
@@ -114,7 +114,7 @@ log_grows : (page : OpenPage) (b : Reading) (way : Bool) → flat_map (λ run. r
 log_grows page b true = ap (λ l. l ++ page.results) (flat_map-append (λ run. run) b.broken (b.run ∷ []) ∙ ap (λ l. flat_map (λ run. run) b.broken ++ l) (append-nil b.run))
 log_grows page b false = sym (append_assoc (flat_map (λ run. run) b.broken) b.run page.results)
 
-module _ (keep : ℕ) (history : List EntryView) (log : LogView) (b : Reading) (shows : LogShows keep history log b) (given : IsReadingGiven history b) (page : OpenPage) (is : b.page ≡ Some page) where
+module _ (keep : ℕ) (history : List EntryView) (log : LogView) (b : Reading) (represents : LogRepresents keep history log b) (given : IsReadingGiven history b) (page : OpenPage) (is : b.page ≡ Some page) where
   results : AreGiven history page.results
   results = by b.page is given.page
     where
@@ -133,17 +133,17 @@ module _ (keep : ℕ) (history : List EntryView) (log : LogView) (b : Reading) (
   module _ (q : ℕ) (complete : Bool) (last : Option ℕ) (count : ℕ) (fin : Fin) (fits : IsFinOf fin complete last count) (small : (k : ℕ) → last ≡ Some k → k < 2 ^ 64) where
     -- what the application asks of an end
     abbrev pub IsGood : Type 0
-    IsGood = (page.number == q && same_place last (last_in page.results) && are_new (log_of b) page.results && (complete || not (is_empty page.results))) ≡ true
+    IsGood = (page.number == q && same_position last (last_in page.results) && are_new (log_of b) page.results && (complete || not (is_empty page.results))) ≡ true
 
     pub ends_well : IsGood → end_of log (page_shown history page) fin ≡ Ok (outcome_of complete)
     ends_well good =
-        let parts = and_parts (page.number == q && same_place last (last_in page.results) && are_new (log_of b) page.results) (complete || not (is_empty page.results)) good in
-        let before = and_parts (page.number == q && same_place last (last_in page.results)) (are_new (log_of b) page.results) parts.0 in
-        let place = and_parts (page.number == q) (same_place last (last_in page.results)) before.0 in
+        let parts = and_parts (page.number == q && same_position last (last_in page.results) && are_new (log_of b) page.results) (complete || not (is_empty page.results)) good in
+        let before = and_parts (page.number == q && same_position last (last_in page.results)) (are_new (log_of b) page.results) parts.0 in
+        let position = and_parts (page.number == q) (same_position last (last_in page.results)) before.0 in
         let same : same_id fin.last (last_id (logged_at history page.results)) ≡ true =
-        ap₂ same_id fits.last (last_at history page.results results) ∙ same_places last (last_in page.results) small small_last ∙ place.1 in
+        ap₂ same_id fits.last (last_at history page.results results) ∙ same_positions last (last_in page.results) small small_last ∙ position.1 in
         let fresh : first_repeat (ids_of log.entries) (ids_of (logged_at history page.results)) ≡ None =
-        ap₂ first_repeat (ap ids_of shows.entries ∙ ids_at history (log_of b) given.logged) (ids_at history page.results results)
+        ap₂ first_repeat (ap ids_of represents.entries ∙ ids_at history (log_of b) given.logged) (ids_at history page.results results)
         ∙ no_repeat (log_of b) page.results (log_of b) (small_of history (log_of b) given.logged) (small_of history page.results results) (λ n. refl) before.1 in
         rw same (rw fresh (ap (λ c. advance_of c (page_shown history page)) fits.complete ∙ advances complete page.results results parts.1))
       where
@@ -153,18 +153,18 @@ module _ (keep : ℕ) (history : List EntryView) (log : LogView) (b : Reading) (
         advances false [] g some = absurd (false≢true some)
         advances false (n ∷ ns) g some = rw (length_at history (n ∷ ns) g) (rw (some_not_below (length ns)) refl)
 
-  pub over_shows : (a : Around) (complete : Bool) (last : Option ℕ) (count : ℕ) (fin : Fin) → IsFinOf fin complete last count → count ≡ min (option_map_or (λ answer. answer.last) page.answer a.last) keep → LogShows keep history (after_fin log fin) (over a complete count page b)
-  over_shows a complete last count fin fits total =
-      subst (λ l. LogShows keep history l (over a complete count page b)) (sym (ap (λ o. elim o [ None ↦ log | Some p ↦ with_page log p fin ]) (shows.page ∙ ap (option_map (page_shown history)) is)))
+  pub over_represents : (a : Around) (complete : Bool) (last : Option ℕ) (count : ℕ) (fin : Fin) → IsFinOf fin complete last count → count ≡ min (option_map_or (λ answer. answer.last) page.answer a.last) keep → LogRepresents keep history (after_fin log fin) (over a complete count page b)
+  over_represents a complete last count fin fits total =
+      subst (λ l. LogRepresents keep history l (over a complete count page b)) (sym (ap (λ o. elim o [ None ↦ log | Some p ↦ with_page log p fin ]) (represents.page ∙ ap (option_map (page_shown history)) is)))
       (record {
         entries =
-            ap (λ es. es ++ logged_at history page.results) shows.entries ∙ sym (at_both history (log_of b) page.results)
+            ap (λ es. es ++ logged_at history page.results) represents.entries ∙ sym (at_both history (log_of b) page.results)
             ∙ ap (logged_at history) (sym (log_grows page b (is_broken page.after b.run page.results)));
         tiles =
-            ap₂ (λ ts t. ts ++ t ∷ []) shows.tiles (tile_is complete fits.complete)
+            ap₂ (λ ts t. ts ++ t ∷ []) represents.tiles (tile_is complete fits.complete)
             ∙ sym (map-append (tile_shown keep) b.tiles (tile a complete count page ∷ []));
         page = refl;
-        held = unheld_by (ids_of (logged_at history page.results)) page.results (ids_at history page.results results) (small_of history page.results results) log.held b.held given.held shows.held;
+        held = unheld_by (ids_of (logged_at history page.results)) page.results (ids_at history page.results results) (small_of history page.results results) log.held b.held given.held represents.held;
       })
     where
       tile_is : (c : Bool) → fin.complete ≡ c

@@ -14,7 +14,7 @@ use Rattle.mam_log.specs.LogPages.{ids_of, last_id}
 use Rattle.mam_log.specs.Views.{LogView, OpenPage as LogPage, with_begun, with_result, without_page}
 use Rattle.mam_log.specs.declared.log_entry.LogEntry.{LogEntry}
 use Rattle.sim_5_devices.proofs.Entries.{among_ids, at_both, at_first, ids_at, last_at, logged_at}
-use Rattle.sim_5_devices.specs.Shown.{AreGiven, IsGiven, IsReadingGiven, LogShows, id_logged, page_shown, queryid_of}
+use Rattle.sim_5_devices.specs.Shown.{AreGiven, IsGiven, IsReadingGiven, LogRepresents, id_logged, page_shown, queryid_of}
 use Rattle.sim_1_applications.proofs.Lists.{all_weaker}
 use Rattle.sim_1_applications.specs.Answers.{last_in}
 use Rattle.sim_1_applications.specs.Devices.{OpenPage, Reading, log_of}
@@ -32,47 +32,47 @@ below_or_not k n = elim (leb_tells (suc k) n) [
   ]
 ]
 
-module _ (keep : ℕ) (history : List EntryView) (log : LogView) (b : Reading) (shows : LogShows keep history log b) where
-  pub result_shows : (n : ℕ) (page : OpenPage) (g : IsGiven history n) → b.page ≡ Some page
-      → LogShows keep history (with_result log (as_logged g.entry)) (record b { page = Some (record page { results = page.results ++ n ∷ []; answer = page.answer }) })
-  result_shows n page g is = record {
-    entries = shows.entries;
-    tiles = shows.tiles;
+module _ (keep : ℕ) (history : List EntryView) (log : LogView) (b : Reading) (represents : LogRepresents keep history log b) where
+  pub result_represents : (n : ℕ) (page : OpenPage) (g : IsGiven history n) → b.page ≡ Some page
+      → LogRepresents keep history (with_result log (as_logged g.entry)) (record b { page = Some (record page { results = page.results ++ n ∷ []; answer = page.answer }) })
+  result_represents n page g is = record {
+    entries = represents.entries;
+    tiles = represents.tiles;
     page =
-        ap (option_map (λ (p : LogPage). record p { results = p.results ++ as_logged g.entry ∷ [] })) (shows.page ∙ ap (option_map (page_shown history)) is)
+        ap (option_map (λ (p : LogPage). record p { results = p.results ++ as_logged g.entry ∷ [] })) (represents.page ∙ ap (option_map (page_shown history)) is)
         ∙ ap (λ results. Some (record (page_shown history page) { results = results }))
         (ap (λ es. logged_at history page.results ++ map as_logged es) (sym (at_first history n [] g)) ∙ sym (at_both history page.results (n ∷ [])));
-    held = shows.held;
+    held = represents.held;
   }
 
-  pub begun_shows : (max began : ℕ) → AreGiven history (log_of b)
-      → LogShows keep history (with_begun log (queryid_of (b.asked + 1)) max) (asking (last_in (log_of b)) max began b).reading
-  begun_shows max began g = record {
-    entries = shows.entries;
-    tiles = shows.tiles;
-    page = ap (λ after. Some (record { queryid = queryid_of (b.asked + 1); max = max; after = after; results = [] })) (ap last_id shows.entries ∙ last_at history (log_of b) g);
-    held = shows.held;
+  pub begun_represents : (max began : ℕ) → AreGiven history (log_of b)
+      → LogRepresents keep history (with_begun log (queryid_of (b.asked + 1)) max) (asking (last_in (log_of b)) max began b).reading
+  begun_represents max began g = record {
+    entries = represents.entries;
+    tiles = represents.tiles;
+    page = ap (λ after. Some (record { queryid = queryid_of (b.asked + 1); max = max; after = after; results = [] })) (ap last_id represents.entries ∙ last_at history (log_of b) g);
+    held = represents.held;
   }
 
-  pub restarted_shows : (page : OpenPage) (began : ℕ) → b.page ≡ Some page
-      → LogShows keep history (with_restart log (queryid_of (b.asked + 1))) (asking None page.max began b).reading
-  restarted_shows page began is = record {
-    entries = shows.entries;
-    tiles = shows.tiles;
-    page = ap (option_map (λ (p : LogPage). record p { queryid = queryid_of (b.asked + 1); after = None; results = [] })) (shows.page ∙ ap (option_map (page_shown history)) is);
-    held = shows.held;
+  pub restarted_represents : (page : OpenPage) (began : ℕ) → b.page ≡ Some page
+      → LogRepresents keep history (with_restart log (queryid_of (b.asked + 1))) (asking None page.max began b).reading
+  restarted_represents page began is = record {
+    entries = represents.entries;
+    tiles = represents.tiles;
+    page = ap (option_map (λ (p : LogPage). record p { queryid = queryid_of (b.asked + 1); after = None; results = [] })) (represents.page ∙ ap (option_map (page_shown history)) is);
+    held = represents.held;
   }
 
-  pub dropped_shows : LogShows keep history (without_page log) (record b { page = None })
-  dropped_shows = record { entries = shows.entries; tiles = shows.tiles; page = refl; held = shows.held }
+  pub dropped_represents : LogRepresents keep history (without_page log) (record b { page = None })
+  dropped_represents = record { entries = represents.entries; tiles = represents.tiles; page = refl; held = represents.held }
 
   -- ---- what is held
 
   ids_held : ids_of log.held ≡ map id_of b.held
-  ids_held = shows.held
+  ids_held = represents.held
 
   many_held : length log.held ≡ length b.held
-  many_held = sym (length-map log.held id_logged) ∙ ap length shows.held ∙ length-map b.held id_of
+  many_held = sym (length-map log.held id_logged) ∙ ap length represents.held ∙ length-map b.held id_of
 
   small_log : AreGiven history (log_of b) → AllByRecursion (λ m. m < 2 ^ 64) (log_of b)
   small_log g = all_weaker (IsGiven history) (λ m. m < 2 ^ 64) (log_of b) (λ m given. given.small) g
@@ -80,7 +80,7 @@ module _ (keep : ℕ) (history : List EntryView) (log : LogView) (b : Reading) (
   may_is : (n : ℕ) → IsReadingGiven history b → n < 2 ^ 64 → may_hold log (id_of n) ≡ not (holds n b)
   may_is n g few =
       ap₂ (λ x y. not x && (not y && nat_lt (length log.held) 10000))
-      (ap (λ ids. list_any (λ other. bytes_eq (id_of n) other) ids) (ap ids_of shows.entries ∙ ids_at history (log_of b) g.logged) ∙ among_ids n (log_of b) few (small_log g.logged))
+      (ap (λ ids. list_any (λ other. bytes_eq (id_of n) other) ids) (ap ids_of represents.entries ∙ ids_at history (log_of b) g.logged) ∙ among_ids n (log_of b) few (small_log g.logged))
       (ap (λ ids. list_any (λ other. bytes_eq (id_of n) other) ids) ids_held ∙ among_ids n b.held few g.held)
       ∙ ap (λ k. not (is_number_among n (log_of b)) && (not (is_number_among n b.held) && nat_lt k 10000)) many_held
       ∙ by (is_number_among n (log_of b)) (is_number_among n b.held) (length b.held)
@@ -91,16 +91,16 @@ module _ (keep : ℕ) (history : List EntryView) (log : LogView) (b : Reading) (
       by false false k = below_or_not k 10000
 
   held_by : (e : LogEntry) (n : ℕ) → e.id ≡ id_of n → (may : Bool) (held : Bool) → may ≡ not held
-      → LogShows keep history (if may then record log { held = log.held ++ e ∷ [] } else log) (record b { held = if held then b.held else b.held ++ n ∷ [] })
+      → LogRepresents keep history (if may then record log { held = log.held ++ e ∷ [] } else log) (record b { held = if held then b.held else b.held ++ n ∷ [] })
   held_by e n is true true same = absurd (true≢false same)
   held_by e n is true false same = record {
-    entries = shows.entries;
-    tiles = shows.tiles;
-    page = shows.page;
-    held = map-append id_logged log.held (e ∷ []) ∙ ap₂ (λ xs x. xs ++ x ∷ []) shows.held is ∙ sym (map-append id_of b.held (n ∷ []));
+    entries = represents.entries;
+    tiles = represents.tiles;
+    page = represents.page;
+    held = map-append id_logged log.held (e ∷ []) ∙ ap₂ (λ xs x. xs ++ x ∷ []) represents.held is ∙ sym (map-append id_of b.held (n ∷ []));
   }
-  held_by e n is false true same = shows
+  held_by e n is false true same = represents
   held_by e n is false false same = absurd (false≢true same)
 
-  pub held_shows : (e : LogEntry) (n : ℕ) → e.id ≡ id_of n → n < 2 ^ 64 → IsReadingGiven history b → LogShows keep history (after_hold log e) (hold n b)
-  held_shows e n is few g = held_by e n is (may_hold log e.id) (holds n b) (ap (may_hold log) is ∙ may_is n g few)
+  pub held_represents : (e : LogEntry) (n : ℕ) → e.id ≡ id_of n → n < 2 ^ 64 → IsReadingGiven history b → LogRepresents keep history (after_hold log e) (hold n b)
+  held_represents e n is few g = held_by e n is (may_hold log e.id) (holds n b) (ap (may_hold log) is ∙ may_is n g few)

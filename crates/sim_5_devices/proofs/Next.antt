@@ -4,7 +4,7 @@ use Rattle.std.specs.List.{slice_get}
 use Rattle.std.specs.Option.{option_map_or}
 use Rattle.sim_1_applications.proofs.Answered.{AResult, AnEnd, Kind, NoPlace, kind_of, next_answer}
 use Rattle.sim_1_applications.proofs.Handled.{read_kept}
-use Rattle.sim_1_applications.specs.Devices.{Answer, Device, OpenPage, World, first_of, last_of}
+use Rattle.sim_1_applications.specs.Devices.{Answer, AppWorld, Device, OpenPage, first_of, last_of}
 use Rattle.sim_1_applications.specs.Events.{Around, around, reads}
 use Rattle.sim_1_applications.specs.Kept.{DeviceRead, PageKept, Read, Taken}
 use Rattle.sim_1_applications.specs.Stanzas.{Accepted, Bounced, Down, Fin, Live, NotFound, Res}
@@ -61,7 +61,7 @@ module _ (keep : ℕ) (x : Around) (d : Device) (online : d.sessions.online ≡ 
       by None = tt
       by (Some page) = tt
 
-module _ (w : World) (read : Read w) (i : ℕ) (d : Device) (there : slice_get w.devices i ≡ Some d) (online : d.sessions.online ≡ true) (z : Down) (rest : List Down)
+module _ (w : AppWorld) (read : Read w) (i : ℕ) (d : Device) (there : slice_get w.devices i ≡ Some d) (online : d.sessions.online ≡ true) (z : Down) (rest : List Down)
     (split : d.sessions.now.down_rest ≡ z ∷ rest) where
   known : DeviceRead w.keep (first_of w.keep (last_of w.takes d.account)) (last_of w.takes d.account) d
   known = read.devices i d there

@@ -10,7 +10,7 @@ use Rattle.mam_archive.specs.Ids.{id_of}
 use Rattle.mam_log.specs.LogPages.{ids_of, last_id}
 use Rattle.mam_log.specs.Views.{LogView, OpenPage, advance_of, after_fin, end_of, first_repeat, is_among, outcome_of, same_id, with_page}
 use Rattle.mam_log.specs.declared.log_entry.LogEntry.{LogEntry}
-use Rattle.mam_pages.specs.Spans.{numbers_behind}
+use Rattle.mam_pages.specs.Spans.{numbers_after}
 use Rattle.mam_pages.specs.declared.fin.Fin.{Fin}
 use Rattle.sim_1_applications.specs.Answers.{last_in}
 use Rattle.sim_5_devices.proofs.Entries.{same_ids}
@@ -19,19 +19,19 @@ use Rattle.sim_5_devices.proofs.Lives.{same_again}
 -- ---- ids of numbers behind another
 
 -- a number above them has another id
-pub not_among : (k b count : ℕ) → b + count < k → k < 2 ^ 64 → list_any (λ other. bytes_eq (id_of k) other) (map id_of (numbers_behind b count)) ≡ false
+pub not_among : (k b count : ℕ) → b + count < k → k < 2 ^ 64 → list_any (λ other. bytes_eq (id_of k) other) (map id_of (numbers_after b count)) ≡ false
 not_among k b zero above few = refl
 not_among k b (suc count) above few =
     let differ : bytes_eq (id_of k) (id_of (suc b)) ≡ false = same_ids k (suc b) few (omega arith) ∙ ne_eqb k (suc b) (λ is. omega (arith, is, above)) in
-    let rest : list_any (λ other. bytes_eq (id_of k) other) (map id_of (numbers_behind (suc b) count)) ≡ false = not_among k (suc b) count (omega arith) few in
+    let rest : list_any (λ other. bytes_eq (id_of k) other) (map id_of (numbers_after (suc b) count)) ≡ false = not_among k (suc b) count (omega arith) few in
     rw differ rest
 
 -- none of them repeats
-pub no_repeat : (known : List (List ℕ)) (b count : ℕ) → b + count < 2 ^ 64 → ((k : ℕ) → b < k → k ≤ b + count → is_among (id_of k) known ≡ false) → first_repeat known (map id_of (numbers_behind b count)) ≡ None
+pub no_repeat : (known : List (List ℕ)) (b count : ℕ) → b + count < 2 ^ 64 → ((k : ℕ) → b < k → k ≤ b + count → is_among (id_of k) known ≡ false) → first_repeat known (map id_of (numbers_after b count)) ≡ None
 no_repeat known b zero few new = refl
 no_repeat known b (suc count) few new =
     let first : list_any (λ other. bytes_eq (id_of (suc b)) other) known ≡ false = new (suc b) (omega arith) (omega arith) in
-    let rest : first_repeat (known ++ id_of (suc b) ∷ []) (map id_of (numbers_behind (suc b) count)) ≡ None =
+    let rest : first_repeat (known ++ id_of (suc b) ∷ []) (map id_of (numbers_after (suc b) count)) ≡ None =
     no_repeat (known ++ id_of (suc b) ∷ []) (suc b) count (omega arith)
     (λ k above below.
     let differ : bytes_eq (id_of k) (id_of (suc b)) ≡ false = same_ids k (suc b) (omega arith) (omega arith) ∙ ne_eqb k (suc b) (λ is. omega (arith, is, above)) in
@@ -40,19 +40,19 @@ no_repeat known b (suc count) few new =
     rw first rest
 
 -- the entries behind them aren't logged when they are
-pub still_unlogged : (entries results : List LogEntry) (b count last : ℕ) → ids_of results ≡ map id_of (numbers_behind b count) → last < 2 ^ 64 → ((k : ℕ) → b < k → k ≤ last → is_among (id_of k) (ids_of entries) ≡ false)
+pub still_unlogged : (entries results : List LogEntry) (b count last : ℕ) → ids_of results ≡ map id_of (numbers_after b count) → last < 2 ^ 64 → ((k : ℕ) → b < k → k ≤ last → is_among (id_of k) (ids_of entries) ≡ false)
     → (k : ℕ) → b + count < k → k ≤ last → is_among (id_of k) (ids_of (entries ++ results)) ≡ false
 still_unlogged entries results b count last ids few new k above below =
     let old : list_any (λ other. bytes_eq (id_of k) other) (ids_of entries) ≡ false = new k (omega arith) below in
-    let these : list_any (λ other. bytes_eq (id_of k) other) (map id_of (numbers_behind b count)) ≡ false = not_among k b count above (omega arith) in
+    let these : list_any (λ other. bytes_eq (id_of k) other) (map id_of (numbers_after b count)) ≡ false = not_among k b count above (omega arith) in
     ap (list_any (λ other. bytes_eq (id_of k) other)) (map-append (λ (e : LogEntry). e.id) entries results ∙ ap (λ x. ids_of entries ++ x) ids)
-    ∙ list_any-append (λ other. bytes_eq (id_of k) other) (ids_of entries) (map id_of (numbers_behind b count)) ∙ rw (old, these) refl
+    ∙ list_any-append (λ other. bytes_eq (id_of k) other) (ids_of entries) (map id_of (numbers_after b count)) ∙ rw (old, these) refl
 
 -- ---- the last one
 
-pub last_behind : (b count : ℕ) → last_in (numbers_behind b (suc count)) ≡ Some (b + suc count)
-last_behind b zero = let number : suc b ≡ b + suc zero = omega arith in ap Some number
-last_behind b (suc count) = let number : suc b + suc count ≡ b + suc (suc count) = omega arith in last_behind (suc b) count ∙ ap Some number
+pub last_after : (b count : ℕ) → last_in (numbers_after b (suc count)) ≡ Some (b + suc count)
+last_after b zero = let number : suc b ≡ b + suc zero = omega arith in ap Some number
+last_after b (suc count) = let number : suc b + suc count ≡ b + suc (suc count) = omega arith in last_after (suc b) count ∙ ap Some number
 
 pub last_of_both : (es rs : List LogEntry) (id : List ℕ) → last_id rs ≡ Some id → last_id (es ++ rs) ≡ Some id
 last_of_both [] rs id is = is

@@ -1,4 +1,4 @@
--- Where a deed is in time in the sessions, its move may happen in the links.
+-- Where a label is in time in the sessions, its move may happen in the links.
 use Rattle.std.proofs.Common.{◌≡◌, ◌≤◌, ◌+◌, ℕ, Bool, true, false, List, [], ◌∷◌, ◌++◌, Some, length, drop, map, refl, sym, ap, ap₂, subst, ◌∙◌, arith, inl, inr}
 use Rattle.std.proofs.lemmas.List.{drop-map, length-drop, length-map}
 use Rattle.sm_acks.specs.Delivery.{queue_of}

@@ -7,7 +7,7 @@ use Rattle.sm_outbox.specs.Sessions.{SessionView, with_waiting}
 use Rattle.sm_outbox.specs.Waiting.{counted_in, queued}
 use Rattle.cmd_report.specs.declared.report.SaidMark.{SaidMark}
 use Rattle.cmd_report.specs.declared.report.SaidMark.TheVariants.{Acknowledged, Waiting}
-use Rattle.sim_3_items.specs.Submitted.{SubmissionsShow, is_message, outstanding}
+use Rattle.sim_3_items.specs.Submitted.{SubmissionsRepresent, is_message, outstanding}
 use Rattle.sim_1_applications.proofs.Numbered.{messages_append}
 use Rattle.sim_1_applications.specs.Devices.{Sessions, up_put}
 use Rattle.sim_1_applications.specs.Events.{moved_down, put_all, put_up, queries}
@@ -60,8 +60,8 @@ module _ (c e : ClientView ItemOut) (d : Sessions) (s u : SessionView ItemOut) (
 -- ---- what is no submission
 
 module _ (c e : ClientView ItemOut) (d : Sessions) (s : SessionView ItemOut) where
-  pub request_told : (z : ItemOut) (r : Request) → SubmissionsShow c d → IsAcked d → SameSaid c e → c.session ≡ Some s → e.session ≡ Some (with_waiting s (queued s.waiting z false)) → SubmissionsShow e (put_up (Query r) d)
-  request_told z r shows acked same is put =
+  pub request_told : (z : ItemOut) (r : Request) → SubmissionsRepresent c d → IsAcked d → SameSaid c e → c.session ≡ Some s → e.session ≡ Some (with_waiting s (queued s.waiting z false)) → SubmissionsRepresent e (put_up (Query r) d)
+  request_told z r represents acked same is put =
       shown e (put_up (Query r) d) u put
       (put_stands c e d s u (Query r) d.n st acked same.epoch (same.n ∙ st.n) (ap (λ said. lines said.settled) same.said) (ap (λ said. lines said.waiting) same.said ∙ sym (append-nil (lines c.said.waiting))) refl)
     where
@@ -69,10 +69,10 @@ module _ (c e : ClientView ItemOut) (d : Sessions) (s : SessionView ItemOut) whe
       u = with_waiting s (queued s.waiting z false)
 
       st : Stands c d s
-      st = stands c d s is shows
+      st = stands c d s is represents
 
-  pub handled_told : (y : Down) (rest : List Down) → SubmissionsShow c d → SameSaid c e → c.session ≡ Some s → e.session ≡ Some (with_waiting s (counted_in s.waiting)) → SubmissionsShow e (moved_down y rest d)
-  handled_told y rest shows same is handled =
+  pub handled_told : (y : Down) (rest : List Down) → SubmissionsRepresent c d → SameSaid c e → c.session ≡ Some s → e.session ≡ Some (with_waiting s (counted_in s.waiting)) → SubmissionsRepresent e (moved_down y rest d)
+  handled_told y rest represents same is handled =
       shown e (moved_down y rest d) (with_waiting s (counted_in s.waiting)) handled (record {
         epoch = same.epoch ∙ st.epoch;
         n = same.n ∙ st.n;
@@ -83,18 +83,18 @@ module _ (c e : ClientView ItemOut) (d : Sessions) (s : SessionView ItemOut) whe
       })
     where
       st : Stands c d s
-      st = stands c d s is shows
+      st = stands c d s is represents
 
 -- nothing more is put
 nothing_put : (d : Sessions) → put_all [] d ≡ d
 nothing_put d = ap (λ zs. record d { now = record d.now { up_rest = zs } }) (append-nil d.now.up_rest)
 
-pub reaction_told : (c e : ClientView ItemOut) (d : Sessions) (s : SessionView ItemOut) (y : Down) (rest : List Down) (o : Option Request) → SubmissionsShow c d → IsAcked d → SameSaid c e → c.session ≡ Some s
-    → e.session ≡ Some (with_waiting s (queued_where o (counted_in s.waiting))) → SubmissionsShow e (put_all (queries o) (moved_down y rest d))
-reaction_told c e d s y rest None shows acked same is now = subst (SubmissionsShow e) (sym (nothing_put (moved_down y rest d))) (handled_told c e d s y rest shows same is now)
-reaction_told c e d s y rest (Some r) shows acked same is now =
+pub reaction_told : (c e : ClientView ItemOut) (d : Sessions) (s : SessionView ItemOut) (y : Down) (rest : List Down) (o : Option Request) → SubmissionsRepresent c d → IsAcked d → SameSaid c e → c.session ≡ Some s
+    → e.session ≡ Some (with_waiting s (queued_where o (counted_in s.waiting))) → SubmissionsRepresent e (put_all (queries o) (moved_down y rest d))
+reaction_told c e d s y rest None represents acked same is now = subst (SubmissionsRepresent e) (sym (nothing_put (moved_down y rest d))) (handled_told c e d s y rest represents same is now)
+reaction_told c e d s y rest (Some r) represents acked same is now =
     request_told between e (moved_down y rest d) handled (requested r) r
-    (handled_told c between d s y rest shows (record { epoch = refl; n = refl; said = refl }) is refl) acked (record { epoch = same.epoch; n = same.n; said = same.said }) refl now
+    (handled_told c between d s y rest represents (record { epoch = refl; n = refl; said = refl }) is refl) acked (record { epoch = same.epoch; n = same.n; said = same.said }) refl now
   where
     handled : SessionView ItemOut
     handled = with_waiting s (counted_in s.waiting)

@@ -3,11 +3,11 @@ use Rattle.std.proofs.Common.{◌≡◌, ℕ, Bool, true, false, find, if◌then
 use Rattle.std.specs.Option.{option_map}
 use Rattle.mam_archive.specs.Entries.{EntryView}
 use Rattle.cl_core.specs.PageRows.{page_answered}
-use Rattle.cl_handlers.specs.Clients.{Turn}
+use Rattle.cl_handlers.specs.Clients.{ClientStep}
 use Rattle.cl_handlers.specs.MessageRows.{bounce_of, copied_in, held_row, is_own, itself, live_in, tells_where}
 use Rattle.cl_handlers.specs.Speech.{in_items}
 use Rattle.cl_handlers.specs.declared.events.Event.{Event}
-use Rattle.sim_3_items.specs.Reading.{turn_on}
+use Rattle.sim_3_items.specs.Reading.{client_step_on}
 use Rattle.im_extensions.specs.Carbons.{is_carbon}
 use Rattle.sim_3_items.specs.ItemWorlds.{ItemDevice}
 use Rattle.mam_log.specs.Views.{page_for}
@@ -25,7 +25,7 @@ use Rattle.im_stanza.specs.Written.{IsNormal, iq_elem, message_elem}
 use Rattle.im_stanza.specs.declared.errors.StanzaError.{StanzaError}
 use Rattle.im_stanza.specs.declared.kinds.IqKind.TheVariants.{Result}
 use Rattle.im_stanza.specs.declared.kinds.MessageKind.TheVariants.{Error}
-use Rattle.sim_5_devices.proofs.Turns.{counted_turn, iq_turn, message_turn, quiet_read}
+use Rattle.sim_5_devices.proofs.ClientSteps.{counted_client_step, iq_client_step, message_client_step, quiet_read}
 use Rattle.sim_5_devices.specs.Logged.{IsOnline, IsReadAs}
 use Rattle.xml_trees.specs.Readers.{elements_of}
 use Rattle.xml_trees.specs.Trees.{child, no_nodes}
@@ -40,25 +40,25 @@ module _ (o : Owned) (keep : ℕ) (history : List EntryView) (d : ItemDevice) (s
   abbrev result : EnvelopeView → IqView
   result a = record { from = a.from; to = a.to; id = a.id; kind = Result; payload = no_nodes }
 
-  pub accepted : (a : EnvelopeView) (z : ItemOut) → IsAnswer (codes "carbons") a → z ≡ result_item a no_nodes → IsReadAs o keep history d s z (quiet b) (turn_on z d)
+  pub accepted : (a : EnvelopeView) (z : ItemOut) → IsAnswer (codes "carbons") a → z ≡ result_item a no_nodes → IsReadAs o keep history d s z (quiet b) (client_step_on z d)
   accepted a z answer same =
       let q = result a in
       let e = iq_elem q in
       let none = ap (λ id. page_for id d.client.log.page) answer.id_is ∙ ap (page_for (codes "carbons")) is.log.page ∙ no_page history b.page in
       let from = subst IsNormal (sym answer.from) tt in
-      let step : turn_on (Whole e) d ≡ counted_turn d.client s e = iq_turn d.client s is.online is.session q from answer.to ∙ ap (page_answered in_items (counted_turn d.client s e) q) none in
-      subst (λ z. IsReadAs o keep history d s z (quiet b) (turn_on z d)) (sym same)
-      (quiet_read o keep history d s b is e (turn_on (Whole e) d) d.client.log b
-      (ap (λ (t : Turn ItemOut ItemOut). t.client) step) (ap (λ (t : Turn ItemOut ItemOut). t.out.notes) step) is.log is.given refl)
+      let step : client_step_on (Whole e) d ≡ counted_client_step d.client s e = iq_client_step d.client s is.online is.session q from answer.to ∙ ap (page_answered in_items (counted_client_step d.client s e) q) none in
+      subst (λ z. IsReadAs o keep history d s z (quiet b) (client_step_on z d)) (sym same)
+      (quiet_read o keep history d s b is e (client_step_on (Whole e) d) d.client.log b
+      (ap (λ (t : ClientStep ItemOut ItemOut). t.client) step) (ap (λ (t : ClientStep ItemOut ItemOut). t.out.notes) step) is.log is.given refl)
 
 -- ---- a message that came back
 
 -- an event changes neither the client nor what is noted down
-pub told_client : (t : Turn ItemOut ItemOut) (event : Option Event) → (tells_where t event).client ≡ t.client
+pub told_client : (t : ClientStep ItemOut ItemOut) (event : Option Event) → (tells_where t event).client ≡ t.client
 told_client t None = refl
 told_client t (Some event) = refl
 
-pub told_notes : (t : Turn ItemOut ItemOut) (event : Option Event) → (tells_where t event).out.notes ≡ t.out.notes
+pub told_notes : (t : ClientStep ItemOut ItemOut) (event : Option Event) → (tells_where t event).out.notes ≡ t.out.notes
 told_notes t None = refl
 told_notes t (Some event) = refl
 
@@ -74,14 +74,14 @@ module _ (o : Owned) (keep : ℕ) (history : List EntryView) (d : ItemDevice) (s
   abbrev error : List ℕ → List ℕ → StanzaError → MessageView
   error from id e = record { from = Some from; to = None; id = id; kind = Error; lang = []; payload = child (error_elem e) no_nodes }
 
-  pub bounced : (epoch n : ℕ) (z : ItemOut) → IsBounce o epoch n z → IsReadAs o keep history d s z (quiet b) (turn_on z d)
+  pub bounced : (epoch n : ℕ) (z : ItemOut) → IsBounce o epoch n z → IsReadAs o keep history d s z (quiet b) (client_step_on z d)
   bounced epoch n z built =
       let m = error built.from (origin_of o.device epoch n) built.error in
       let e = message_elem m in
-      let h = counted_turn d.client s e in
+      let h = counted_client_step d.client s e in
       let event = bounce_of h.client m in
-      let step : turn_on (Whole e) d ≡ tells_where h event =
-      message_turn d.client s is.online is.session m built.address tt ∙ ap (λ live. tells_where (held_row h live) event) (live_itself d.client.account.bare m refl) in
-      subst (λ z. IsReadAs o keep history d s z (quiet b) (turn_on z d)) (sym built.is)
-      (quiet_read o keep history d s b is e (turn_on (Whole e) d) d.client.log b
-      (ap (λ (t : Turn ItemOut ItemOut). t.client) step ∙ told_client h event) (ap (λ (t : Turn ItemOut ItemOut). t.out.notes) step ∙ told_notes h event) is.log is.given refl)
+      let step : client_step_on (Whole e) d ≡ tells_where h event =
+      message_client_step d.client s is.online is.session m built.address tt ∙ ap (λ live. tells_where (held_row h live) event) (live_itself d.client.account.bare m refl) in
+      subst (λ z. IsReadAs o keep history d s z (quiet b) (client_step_on z d)) (sym built.is)
+      (quiet_read o keep history d s b is e (client_step_on (Whole e) d) d.client.log b
+      (ap (λ (t : ClientStep ItemOut ItemOut). t.client) step ∙ told_client h event) (ap (λ (t : ClientStep ItemOut ItemOut). t.out.notes) step ∙ told_notes h event) is.log is.given refl)

@@ -5,15 +5,15 @@ use Rattle.std.specs.Option.{IfSome}
 use Rattle.mam_archive.specs.Entries.{EntryView}
 use Rattle.sim_3_items.specs.Meant.{Fits}
 use Rattle.sim_5_devices.specs.Shown.{AreGiven, ArePageGiven, IsReadingGiven}
-use Rattle.sim_5_devices.proofs.Numbers.{AreWithin, IsWithin, are_given, behind_within, log_within}
+use Rattle.sim_5_devices.proofs.Numbers.{AreWithin, IsWithin, after_within, are_given, log_within}
 use Rattle.cmd_schedule.specs.Contents.{Owned}
 use Rattle.sim_1_applications.proofs.Answered.{AResult, AnEnd, Kind, NoPlace, kind_of, numbers_of}
 use Rattle.sim_1_applications.proofs.Lists.{all_front, all_weaker}
-use Rattle.sim_1_applications.specs.Answers.{answer_of, edge, size}
-use Rattle.sim_1_applications.specs.Devices.{Answer, Device, OpenPage, World, first_of, last_of}
+use Rattle.sim_1_applications.specs.Answers.{edge, page_answer_of, size}
+use Rattle.sim_1_applications.specs.Devices.{Answer, AppWorld, Device, OpenPage, first_of, last_of}
 use Rattle.sim_1_applications.specs.Kept.{DeviceRead, IsAt, IsPage, PageKept, Read, request_of}
 use Rattle.sim_1_applications.specs.Stanzas.{Down, Res}
-use Rattle.sim_1_applications.proofs.Turned.{history_few, history_follows, history_long}
+use Rattle.sim_1_applications.proofs.Rendered.{history_few, history_follows, history_long}
 use Rattle.sim_1_applications.specs.Reported.{history_at}
 
 -- ---- the open page
@@ -23,14 +23,14 @@ nothing_within last ns none = subst (AreWithin last) (sym none) tt
 
 numbers_within : (last : ℕ) (a : Answer) (page : OpenPage) → a.last ≤ last → AreWithin last (numbers_of a page)
 numbers_within last a page below =
-    let low = edge a.first page.after in behind_within last low (size low a.last page.max) (omega (arith, below))
+    let low = edge a.first page.after in after_within last low (size low a.last page.max) (omega (arith, below))
 
 results_by : (last : ℕ) (a : Answer) (page : OpenPage) (z : Down) (tail : List Down) → a.last ≤ last → Kind page a z tail → AreWithin last page.results
 results_by last a page z tail below (AResult n more is numbers rest) = all_front (IsWithin last) page.results (n ∷ more) (subst (AreWithin last) numbers (numbers_within last a page below))
 results_by last a page z tail below (AnEnd placed is results over) = subst (AreWithin last) (sym results) (numbers_within last a page below)
 results_by last a page z tail below (NoPlace lost is results over) = nothing_within last page.results results
 
-answered_within : (last : ℕ) (a : Answer) (page : OpenPage) (rest : List Down) → a.last ≤ last → map (Res page.number) page.results ++ rest ≡ answer_of a.first a.last (request_of page) → rest ≢ []
+answered_within : (last : ℕ) (a : Answer) (page : OpenPage) (rest : List Down) → a.last ≤ last → map (Res page.number) page.results ++ rest ≡ page_answer_of a.first a.last (request_of page) → rest ≢ []
     → AreWithin last page.results
 answered_within last a page [] below is some = absurd (some refl)
 answered_within last a page (z ∷ tail) below is some = results_by last a page z tail below (kind_of page a z tail is)
@@ -62,7 +62,7 @@ page_fits last (Some page) known = known.1
 
 -- ---- the reading
 
-module _ (w : World) (read : Read w) (i : ℕ) (d : Device) (there : slice_get w.devices i ≡ Some d) where
+module _ (w : AppWorld) (read : Read w) (i : ℕ) (d : Device) (there : slice_get w.devices i ≡ Some d) where
   abbrev last : ℕ
   last = last_of w.takes d.account
 

@@ -5,13 +5,13 @@ use Rattle.std.proofs.lemmas.Option.{none-some, same_Some}
 use Rattle.std.proofs.lemmas.Slice.Eq.{bytes_eq-Decides}
 use Rattle.std.specs.List.{AllByRecursion, slice_get}
 use Rattle.std.specs.Str.{bytes_eq}
-use Rattle.mam_archive.proofs.NumberedEntries.{at_place}
+use Rattle.mam_archive.proofs.NumberedEntries.{at_position}
 use Rattle.law_payloads.specs.AsRead.{last_moment}
 use Rattle.sim_5_devices.specs.Named.{AreNamed, IsNamed}
 use Rattle.cmd_schedule.specs.Contents.{Owned}
 use Rattle.cmd_schedule.specs.Grammar.{is_name}
 use Rattle.sim_1_applications.proofs.Lists.{all_weaker}
-use Rattle.sim_1_applications.specs.Devices.{Take, World}
+use Rattle.sim_1_applications.specs.Devices.{AppWorld, Take}
 use Rattle.sim_1_applications.specs.Events.{is_among}
 use Rattle.sim_1_applications.specs.Kept.{AreMoments, IsOfDevice, Taken, is_of}
 use Rattle.sim_1_applications.proofs.Ground.{by_device}
@@ -40,13 +40,13 @@ moments_below low now (t ∷ takes) known =
     let here = known.0 in
     let below = more.0 in (omega (arith, here, below), (below, more.1))
 
-module _ (owned : List Owned) (w : World) (taken : Taken w) (named : AreNamed owned w) where
+module _ (owned : List Owned) (w : AppWorld) (taken : Taken w) (named : AreNamed owned w) where
   abbrev IsSentBy : ℕ → Take → Type 0
   IsSentBy i t = (is_name t.account ≡ true) × (is_name (name_at owned i) ≡ true)
 
   sent_by : (i : ℕ) → i < length w.devices → AllByRecursion (IsSentBy i) (filter (is_of i) w.takes)
   sent_by i within =
-      let device = at_place i w.devices within in
+      let device = at_position i w.devices within in
       let home = named.homes i device.0 device.1 in
       let names = named_at owned i home.0 named.devices home.1 in
       all_weaker (λ (t : Take). t.account ≡ device.0.account) (IsSentBy i) (filter (is_of i) w.takes)

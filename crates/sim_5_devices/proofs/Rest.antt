@@ -2,8 +2,8 @@
 use Rattle.std.proofs.Common.{◌≡◌, ◌≤◌, ℕ, true, false, IfSome, List, [], ◌∷◌, ◌++◌, Option, Some, None, drop, length, map, refl, sym, ap, ap₂, subst, ◌∙◌, inl, inr}
 use Rattle.std.proofs.lemmas.List.{append-nil, append_cancel_left, drop-map}
 use Rattle.sm_acks.specs.Delivery.{queue_of}
-use Rattle.sim_3_items.specs.Clients.{ClientShows, IsOwnShown}
-use Rattle.sim_3_items.specs.Deeds.{awaits, is_awaited}
+use Rattle.sim_3_items.specs.Clients.{ClientRepresents, IsOwnRepresented}
+use Rattle.sim_3_items.specs.Labels.{awaits, is_awaited}
 use Rattle.sim_3_items.specs.Identities.{Identity, Login}
 use Rattle.sim_3_items.specs.Items.{stanzas_read}
 use Rattle.sim_3_items.specs.Ups.{up_stanza}
@@ -29,10 +29,10 @@ use Rattle.xml_writer.specs.Items.{ItemOut}
 
 -- ---- the queue
 
-pub short_queue : (who : Identity) (logins : ℕ → Login) (d : ItemDevice) (v : View ItemOut) → PagingReached paging_here v → ClientShows who logins d v → IfSome d.client.session (λ s. length s.waiting.queue ≤ 1002)
-short_queue who logins d v reached shows = by v.own d.client.session refl shows.own
+pub short_queue : (who : Identity) (logins : ℕ → Login) (d : ItemDevice) (v : View ItemOut) → PagingReached paging_here v → ClientRepresents who logins d v → IfSome d.client.session (λ s. length s.waiting.queue ≤ 1002)
+short_queue who logins d v reached represents = by v.own d.client.session refl represents.own
   where
-    by : (o : Option (Own ItemOut)) (s : Option (SessionView ItemOut)) → v.own ≡ o → IsOwnShown o s → IfSome s (λ a. length a.waiting.queue ≤ 1002)
+    by : (o : Option (Own ItemOut)) (s : Option (SessionView ItemOut)) → v.own ≡ o → IsOwnRepresented o s → IfSome s (λ a. length a.waiting.queue ≤ 1002)
     by None None own shown = tt
     by None (Some s) own shown = absurd shown
     by (Some o) None own shown = absurd shown

@@ -7,11 +7,11 @@ use Rattle.std.specs.Str.{bytes_eq}
 use Rattle.mam_archive.specs.Entries.{EntryView}
 use Rattle.mam_archive.specs.Ids.{id_of}
 use Rattle.cl_core.specs.Steps.{stanza_row}
-use Rattle.cl_handlers.specs.Clients.{Turn}
+use Rattle.cl_handlers.specs.Clients.{ClientStep}
 use Rattle.cl_handlers.specs.MessageRows.{is_own_or_absent, logged, other_message, result_row, result_to}
 use Rattle.cl_handlers.specs.Speech.{in_items}
-use Rattle.cl_handlers.specs.Turns.{with_log}
-use Rattle.sim_3_items.specs.Reading.{turn_on}
+use Rattle.cl_handlers.specs.ClientSteps.{with_log}
+use Rattle.sim_3_items.specs.Reading.{client_step_on}
 use Rattle.cmd_direct.specs.Direct.{as_logged}
 use Rattle.im_forwarding.proofs.EntryLaws.{entry_again}
 use Rattle.im_forwarding.specs.Results.{archived_message, archived_result, entry_elem}
@@ -19,8 +19,8 @@ use Rattle.sim_3_items.proofs.TextsTold as told
 use Rattle.sim_3_items.specs.ItemWorlds.{ItemDevice}
 use Rattle.mam_log.specs.Views.{page_for, with_result}
 use Rattle.sim_5_devices.proofs.Entries.{length_at}
-use Rattle.sim_5_devices.proofs.LogReadingsSteps.{result_shows}
-use Rattle.sim_5_devices.specs.Shown.{AreGiven, IsGiven, LogShows, page_shown}
+use Rattle.sim_5_devices.proofs.LogReadingsSteps.{result_represents}
+use Rattle.sim_5_devices.specs.Shown.{AreGiven, IsGiven, LogRepresents, page_shown}
 use Rattle.im_mam.specs.Readings.{result_read, result_with}
 use Rattle.im_mam.specs.declared.archive_answers.MamResult.{MamResult}
 use Rattle.im_messages.specs.Entries.{entry_of}
@@ -38,7 +38,7 @@ use Rattle.sim_5_devices.proofs.Found.{both_given, found_entry, results_given}
 use Rattle.sim_5_devices.proofs.Lives.{same_again}
 use Rattle.sim_5_devices.proofs.Names.{bare_normal, full_normal}
 use Rattle.sim_5_devices.proofs.Stanzas.{archived, archived_read}
-use Rattle.sim_5_devices.proofs.Turns.{IsDone, counted_turn, quiet_read, quietly, read_online}
+use Rattle.sim_5_devices.proofs.ClientSteps.{IsDone, counted_client_step, quiet_read, quietly, read_online}
 use Rattle.sim_5_devices.specs.Logged.{IsOnline, IsReadAs}
 use Rattle.sim_5_devices.specs.Plain.{IsPlain, IsPlainEntry}
 use Rattle.xml_trees.specs.Trees.{Elem}
@@ -83,8 +83,8 @@ module _ (o : Owned) (keep : ℕ) (history : List EntryView) (d : ItemDevice) (s
   abbrev e : Elem
   e = entry_elem (asker_for o q) entry
 
-  abbrev h : Turn ItemOut ItemOut
-  h = counted_turn d.client s e
+  abbrev h : ClientStep ItemOut ItemOut
+  h = counted_client_step d.client s e
 
   abbrev bare : List ℕ
   bare = bare_address o.account
@@ -96,7 +96,7 @@ module _ (o : Owned) (keep : ℕ) (history : List EntryView) (d : ItemDevice) (s
   own_one = ap (λ own. bytes_eq bare own) is.bare ∙ same_again bare
 
   -- the client looks for the page
-  looks_for : turn_on (Whole e) d ≡ result_to h (page_for (queryid_text q) d.client.log.page) (as_logged entry)
+  looks_for : client_step_on (Whole e) d ≡ result_to h (page_for (queryid_text q) d.client.log.page) (as_logged entry)
   looks_for =
       let result = archived_result (queryid_text q) entry in
       let sender = bare_normal o.account is.account_named in
@@ -108,31 +108,31 @@ module _ (o : Owned) (keep : ℕ) (history : List EntryView) (d : ItemDevice) (s
       ∙ ap (result_row h) (result_again q entry found.0)
       ∙ ap (result_to h (page_for (queryid_text q) d.client.log.page)) (logged_again entry found.0)
 
-  abbrev behind : OpenPage → Reading
-  behind page = record b { page = Some (record page { results = page.results ++ n ∷ []; answer = option_map passed page.answer }) }
+  abbrev following : OpenPage → Reading
+  following page = record b { page = Some (record page { results = page.results ++ n ∷ []; answer = option_map passed page.answer }) }
 
-  module _ (page : OpenPage) (there : b.page ≡ Some page) (same : (page.number == q) ≡ true) (place : nat_lt (length page.results) page.max ≡ true) where
+  module _ (page : OpenPage) (there : b.page ≡ Some page) (same : (page.number == q) ≡ true) (position : nat_lt (length page.results) page.max ≡ true) where
     results : AreGiven history page.results
     results = results_given history b.page page there is.given.page
 
-    takes : turn_on (Whole e) d ≡ with_log h (with_result d.client.log (as_logged entry))
+    takes : client_step_on (Whole e) d ≡ with_log h (with_result d.client.log (as_logged entry))
     takes =
         looks_for
         ∙ ap (λ page. result_to h page (as_logged entry)) (ap (page_for (queryid_text q)) (is.log.page ∙ ap (option_map (page_shown history)) there) ∙ page_found history page q same)
-        ∙ rw (ap (nat_le page.max) (length_at history page.results results) ∙ not_full page.max (length page.results) place) refl
+        ∙ rw (ap (nat_le page.max) (length_at history page.results results) ∙ not_full page.max (length page.results) position) refl
 
-    shows : LogShows keep history (with_result d.client.log (as_logged entry)) (behind page)
-    shows = (let other = result_shows keep history d.client.log b is.log n page given there in record { entries = other.entries; tiles = other.tiles; page = other.page; held = other.held })
+    represents : LogRepresents keep history (with_result d.client.log (as_logged entry)) (following page)
+    represents = (let other = result_represents keep history d.client.log b is.log n page given there in record { entries = other.entries; tiles = other.tiles; page = other.page; held = other.held })
 
-    taken : IsReadAs o keep history d s z (quiet (behind page)) (turn_on z d)
+    taken : IsReadAs o keep history d s z (quiet (following page)) (client_step_on z d)
     taken =
-        subst (λ z. IsReadAs o keep history d s z (quiet (behind page)) (turn_on z d)) (sym built.is)
-        (quiet_read o keep history d s b is e (turn_on (Whole e) d) (with_result d.client.log (as_logged entry)) (behind page)
-        (ap (λ (t : Turn ItemOut ItemOut). t.client) takes) (ap (λ (t : Turn ItemOut ItemOut). t.out.notes) takes) shows
+        subst (λ z. IsReadAs o keep history d s z (quiet (following page)) (client_step_on z d)) (sym built.is)
+        (quiet_read o keep history d s b is e (client_step_on (Whole e) d) (with_result d.client.log (as_logged entry)) (following page)
+        (ap (λ (t : ClientStep ItemOut ItemOut). t.client) takes) (ap (λ (t : ClientStep ItemOut ItemOut). t.out.notes) takes) represents
         (record { logged = is.given.logged; page = both_given history page.results (n ∷ []) results (given, tt); held = is.given.held }) refl)
 
-  pub result_comes : (with_page (result q n) b).reading.faulty ≡ false → IsDone o keep history d s z (with_page (result q n) b) (turn_on z d)
+  pub result_comes : (with_page (result q n) b).reading.faulty ≡ false → IsDone o keep history d s z (with_page (result q n) b) (client_step_on z d)
   result_comes =
-      page_well (λ x. IsDone o keep history d s z x (turn_on z d)) b (result q n)
-      (λ page there. taken_well (λ x. IsDone o keep history d s z x (turn_on z d)) b (page.number == q && nat_lt (length page.results) page.max) (quiet (behind page))
-      (λ good. (let parts = and_parts (page.number == q) (nat_lt (length page.results) page.max) good in quietly o keep history d s z (behind page) (turn_on z d) (taken page there parts.0 parts.1))))
+      page_well (λ x. IsDone o keep history d s z x (client_step_on z d)) b (result q n)
+      (λ page there. taken_well (λ x. IsDone o keep history d s z x (client_step_on z d)) b (page.number == q && nat_lt (length page.results) page.max) (quiet (following page))
+      (λ good. (let parts = and_parts (page.number == q) (nat_lt (length page.results) page.max) good in quietly o keep history d s z (following page) (client_step_on z d) (taken page there parts.0 parts.1))))

@@ -4,13 +4,13 @@ use Rattle.std.specs.Option.{option_map}
 use Rattle.mam_archive.specs.Entries.{EntryView}
 use Rattle.cl_handlers.specs.Clients.{ClientView}
 use Rattle.mam_log.specs.Views.{LogView}
-use Rattle.sim_5_devices.specs.Shown.{AreGiven, ArePageGiven, IsReadingGiven, LogShows, page_shown}
+use Rattle.sim_5_devices.specs.Shown.{AreGiven, ArePageGiven, IsReadingGiven, LogRepresents, page_shown}
 use Rattle.sm_outbox.specs.Sessions.{SessionView}
 use Rattle.sm_outbox.specs.Submissions.{SaidView}
-use Rattle.sim_3_items.specs.Submitted.{IsWaiting, SubmissionsShow, is_message, outstanding}
+use Rattle.sim_3_items.specs.Submitted.{IsWaiting, SubmissionsRepresent, is_message, outstanding}
 use Rattle.cmd_report.specs.declared.report.SaidMark.TheVariants.{Undecided, Waiting}
 use Rattle.std.specs.List.{flat_map}
-use Rattle.sim_1_applications.specs.Answers.{answer_of}
+use Rattle.sim_1_applications.specs.Answers.{page_answer_of}
 use Rattle.sim_1_applications.specs.Devices.{Device, OpenPage, Reading, Sessions, Take}
 use Rattle.sim_1_applications.specs.Events.{Act, Around, Bind, Enable, End, ServerHandles, answered, hear, hear_all, hears_of, is_number_among, own, reading_served, served, told}
 use Rattle.sim_1_applications.specs.Events as events
@@ -26,13 +26,13 @@ same_waits : (o : Option (SessionView ItemOut)) (said : SaidView) (d e : Session
 same_waits None said d e same waits = waits
 same_waits (Some s) said d e same waits = (waits.0 ∙ ap (lines_as Waiting) (sym same), waits.1 ∙ ap (map is_message) (sym same))
 
-pub same_told : (c : ClientView ItemOut) (d e : Sessions) → SameUps d e → SubmissionsShow c d → SubmissionsShow c e
-same_told c d e same shows = record {
-  epoch = shows.epoch ∙ sym (ap (λ past. length past) same.past);
-  n = shows.n ∙ sym same.n;
-  online = same.online ∙ shows.online;
-  said = shows.said ∙ (λ i. flat_map (said_in Undecided) (sym same.past i) ++ said_among (sym same.acked i) (mark_of (sym same.online i)) (sym same.put i));
-  waiting = same_waits c.session c.said d e (ap₂ drop same.acked same.put) shows.waiting;
+pub same_told : (c : ClientView ItemOut) (d e : Sessions) → SameUps d e → SubmissionsRepresent c d → SubmissionsRepresent c e
+same_told c d e same represents = record {
+  epoch = represents.epoch ∙ sym (ap (λ past. length past) same.past);
+  n = represents.n ∙ sym same.n;
+  online = same.online ∙ represents.online;
+  said = represents.said ∙ (λ i. flat_map (said_in Undecided) (sym same.past i) ++ said_among (sym same.acked i) (mark_of (sym same.online i)) (sym same.put i));
+  waiting = same_waits c.session c.said d e (ap₂ drop same.acked same.put) represents.waiting;
 }
 
 -- the next stanza is handled
@@ -59,16 +59,16 @@ acts_same a (events.Say to text private) x is = absurd is
 acts_same a (events.CatchUp max) x is = absurd is
 acts_same a events.ClientHandles x is = absurd is
 
-pub acts_told : (c : ClientView ItemOut) (a : Around) (act : Act) (x : Device) → IsOfServer act → SubmissionsShow c x.sessions → SubmissionsShow c (own a act x).sessions
-acts_told c a act x is shows = same_told c x.sessions (own a act x).sessions (acts_same a act x is) shows
+pub acts_told : (c : ClientView ItemOut) (a : Around) (act : Act) (x : Device) → IsOfServer act → SubmissionsRepresent c x.sessions → SubmissionsRepresent c (own a act x).sessions
+acts_told c a act x is represents = same_told c x.sessions (own a act x).sessions (acts_same a act x is) represents
 
 -- takes are heard of
 hear_same : (takes : List Take) (full : List ℕ) (t : Take) (j : ℕ) (x : Device) → SameUps x.sessions (hear takes full t j x).sessions
 hear_same takes full t j x = record { past = refl; n = refl; online = refl; acked = refl; put = refl }
 
-pub hears_told : (c : ClientView ItemOut) (takes new : List Take) (full : List ℕ) (j : ℕ) (x : Device) → SubmissionsShow c x.sessions → SubmissionsShow c (hear_all takes full new j x).sessions
-hears_told c takes [] full j x shows = shows
-hears_told c takes (t ∷ new) full j x shows = hears_told c takes new full j (hear takes full t j x) (same_told c x.sessions (hear takes full t j x).sessions (hear_same takes full t j x) shows)
+pub hears_told : (c : ClientView ItemOut) (takes new : List Take) (full : List ℕ) (j : ℕ) (x : Device) → SubmissionsRepresent c x.sessions → SubmissionsRepresent c (hear_all takes full new j x).sessions
+hears_told c takes [] full j x represents = represents
+hears_told c takes (t ∷ new) full j x represents = hears_told c takes new full j (hear takes full t j x) (same_told c x.sessions (hear takes full t j x).sessions (hear_same takes full t j x) represents)
 
 -- ---- the reading
 
@@ -78,14 +78,14 @@ hears_nothing takes (t ∷ new) full j x = hears_nothing takes new full j (hear 
 
 module _ (keep : ℕ) (history : List EntryView) (log : LogView) where
   abbrev Read : Reading → Type 0
-  Read b = LogShows keep history log b × IsReadingGiven history b
+  Read b = LogRepresents keep history log b × IsReadingGiven history b
 
   -- an answer is no part of what is shown of a page
   answer_unseen : (a : Around) (r : Request) (page : OpenPage) → (page_shown history (answered a r page) ≡ page_shown history page) × ((answered a r page).results ≡ page.results)
   answer_unseen a r page = by (page.number == r.number)
     where
       given : OpenPage
-      given = record page { answer = Some (record { first = a.first; last = a.last; rest = answer_of a.first a.last r }) }
+      given = record page { answer = Some (record { first = a.first; last = a.last; rest = page_answer_of a.first a.last r }) }
 
       by : (b : Bool) → (page_shown history (if b then given else page) ≡ page_shown history page) × ((if b then given else page).results ≡ page.results)
       by true = (refl, refl)

@@ -7,7 +7,7 @@ use Rattle.cmd_network.specs.DeviceLines as device
 use Rattle.sm_outbox.specs.Sessions.{SessionView}
 use Rattle.cmd_report.specs.declared.report.SaidLine.{SaidLine}
 use Rattle.cmd_report.specs.declared.report.SaidMark.TheVariants.{Acknowledged, Undecided, Waiting}
-use Rattle.sim_3_items.specs.Submitted.{IsWaiting, SubmissionsShow, is_message, outstanding}
+use Rattle.sim_3_items.specs.Submitted.{IsWaiting, SubmissionsRepresent, is_message, outstanding}
 use Rattle.sim_1_applications.specs.Devices.{Sessions, epoch_of, up_put}
 use Rattle.sim_1_applications.specs.Reported.{mark_of, said_in, said_of}
 use Rattle.sim_5_devices.proofs.Lines.{lines, lines_as, two_parts}
@@ -35,10 +35,10 @@ pub record Stands (c : ClientView ItemOut) (d : Sessions) (s : SessionView ItemO
   pub kinds : s.waiting.submissions ≡ map is_message (outstanding d)
 
 module _ (c : ClientView ItemOut) (d : Sessions) (s : SessionView ItemOut) (is : c.session ≡ Some s) where
-  pub stands : SubmissionsShow c d → Stands c d s
-  stands shows = record {
-    epoch = shows.epoch;
-    n = shows.n;
+  pub stands : SubmissionsRepresent c d → Stands c d s
+  stands represents = record {
+    epoch = represents.epoch;
+    n = represents.n;
     online = online;
     settled = append_cancel_right (lines c.said.settled) (settled_of d) (lines c.said.waiting) whole;
     waiting = both.0;
@@ -46,18 +46,18 @@ module _ (c : ClientView ItemOut) (d : Sessions) (s : SessionView ItemOut) (is :
   }
     where
       both : IsWaiting (Some s) c.said d
-      both = subst (λ o. IsWaiting o c.said d) is shows.waiting
+      both = subst (λ o. IsWaiting o c.said d) is represents.waiting
 
       online : d.online ≡ true
-      online = shows.online ∙ ap is_some is
+      online = represents.online ∙ ap is_some is
 
       whole : lines c.said.settled ++ lines c.said.waiting ≡ settled_of d ++ lines c.said.waiting
       whole =
-          sym (map-append device.said_line c.said.settled c.said.waiting) ∙ shows.said ∙ report_parts d
+          sym (map-append device.said_line c.said.settled c.said.waiting) ∙ represents.said ∙ report_parts d
           ∙ ap (λ b. settled_of d ++ lines_as (mark_of b) (outstanding d)) online
           ∙ ap (λ ls. settled_of d ++ ls) (sym both.0)
 
-  pub shown : Stands c d s → SubmissionsShow c d
+  pub shown : Stands c d s → SubmissionsRepresent c d
   shown st = record {
     epoch = st.epoch;
     n = st.n;
@@ -70,8 +70,8 @@ module _ (c : ClientView ItemOut) (d : Sessions) (s : SessionView ItemOut) (is :
 
 -- ---- one that hasn't
 
-pub nothing_waiting : (c : ClientView ItemOut) (d : Sessions) → c.session ≡ None → SubmissionsShow c d → c.said.waiting ≡ []
-nothing_waiting c d is shows = subst (λ o. IsWaiting o c.said d) is shows.waiting
+pub nothing_waiting : (c : ClientView ItemOut) (d : Sessions) → c.session ≡ None → SubmissionsRepresent c d → c.said.waiting ≡ []
+nothing_waiting c d is represents = subst (λ o. IsWaiting o c.said d) is represents.waiting
 
 pub has_none : {A : Type 0} (o : Option A) → is_some o ≡ false → o ≡ None
 has_none None e = refl

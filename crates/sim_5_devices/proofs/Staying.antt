@@ -1,6 +1,6 @@
--- Along moves whose deeds are in time, each may happen in the links; and what the links stay by that.
+-- Along moves whose labels are in time, each may happen in the links; and what the links stay by that.
 use Rattle.std.proofs.Common.{◌≡◌, false, List, [], ◌∷◌, ◌++◌, refl}
-use Rattle.sim_3_items.specs.Deeds.{ArePrompt, Deed, awaits, deed_of, deeds_of, is_awaited}
+use Rattle.sim_3_items.specs.Labels.{ArePrompt, Label, awaits, is_awaited, label_of, labels_of}
 use Rattle.sim_3_items.specs.Items.{stanzas_read}
 use Rattle.sim_3_items.specs.Downs.{down_stanza}
 use Rattle.sim_3_items.specs.Ups.{up_stanza}
@@ -13,11 +13,11 @@ use Rattle.sim_2_links.specs.Machine.{AsksToBind, AsksToResume, Cuts, Demands, D
 use Rattle.sim_2_links.specs.Paging.{MayPage, PagingReached}
 use Rattle.sim_2_links.specs.Views.{View}
 use Rattle.sim_2_events.specs.Lists.{IsDevice}
-use Rattle.sim_5_devices.proofs.Alike.{AreAlike, alike_same, step_behind}
+use Rattle.sim_5_devices.proofs.Alike.{AreAlike, alike_same, step_after}
 use Rattle.sim_5_devices.proofs.Along.{AreMay, link_more, paging_more, prompt_more, stays}
 use Rattle.sim_5_devices.proofs.Put.{may_give, may_put, may_say, may_serve}
 use Rattle.sim_5_devices.specs.InTime.{AreInTime, is_query, paging_here}
-use Rattle.sim_5_devices.proofs.SessionDeedsSteps.{IsStep, step_done}
+use Rattle.sim_5_devices.proofs.SessionLabelsSteps.{IsStep, step_done}
 use Rattle.sim_1_applications.specs.Devices.{Session, Sessions}
 use Rattle.sim_1_applications.specs.Stanzas.{Carbons, Message, Presence, Query, Up}
 use Rattle.xml_writer.specs.Items.{ItemOut}
@@ -25,7 +25,7 @@ use Rattle.xml_writer.specs.Items.{ItemOut}
 -- ---- one move
 
 module _ (v : View ItemOut) (s : Session) (d next : Sessions) (kept : LinkKept v) (device : IsDevice stanzas_read (seen v) d) (alike : AreAlike s d.now) where
-  may_move : (move : LinkMove ItemOut) (more : List (Deed ItemOut)) → IsStep stanzas_read (deed_of move) d next → AreInTime (deed_of move ++ more) s → MayPage paging_here (Does move) v
+  may_move : (move : LinkMove ItemOut) (more : List (Label ItemOut)) → IsStep stanzas_read (label_of move) d next → AreInTime (label_of move ++ more) s → MayPage paging_here (Does move) v
   may_move (Cuts k i j) more step time = tt
   may_move (Dials k) more step time = tt
   may_move (LetsGo k) more step time = tt
@@ -70,13 +70,13 @@ module _ (v : View ItemOut) (s : Session) (d next : Sessions) (kept : LinkKept v
 abbrev pub May : LinkMove ItemOut → View ItemOut → Type 0
 May move v = MayPage paging_here (Does move) v
 
-all_may : (moves : List (LinkMove ItemOut)) (v last : View ItemOut) (s : Session) (d : Sessions) → LinkReached v → (along : LinkReaches moves v last) → IsDevice stanzas_read (seen v) d → AreAlike s d.now → AreInTime (deeds_of moves) s
+all_may : (moves : List (LinkMove ItemOut)) (v last : View ItemOut) (s : Session) (d : Sessions) → LinkReached v → (along : LinkReaches moves v last) → IsDevice stanzas_read (seen v) d → AreAlike s d.now → AreInTime (labels_of moves) s
     → AreMay May moves v last along
 all_may [] v last s d reached same device alike time = tt
 all_may (move ∷ moves) v last s d reached (next, by, along) device alike time =
     let step = step_done stanzas_read move v next d reached by device in
-    let rest = step_behind (deed_of move) (deeds_of moves) s d step.0 step.1 alike time in (
-      may_move v s d step.0 (link_kept v reached) device alike move (deeds_of moves) step.1 time,
+    let rest = step_after (label_of move) (labels_of moves) s d step.0 step.1 alike time in (
+      may_move v s d step.0 (link_kept v reached) device alike move (labels_of moves) step.1 time,
       all_may moves next last rest.0 step.0 (link_more v next move reached by) along step.2 rest.1 rest.2,
     )
 
@@ -89,7 +89,7 @@ no_query Presence other = refl
 no_query (Message m) other = refl
 no_query (Query r) other = absurd (let no_way : ⊥ = cc in no_way)
 
-pub paging_stays : (moves : List (LinkMove ItemOut)) (v next : View ItemOut) (d : Sessions) → PagingReached paging_here v → LinkReaches moves v next → ArePrompt moves → IsDevice stanzas_read (seen v) d → AreInTime (deeds_of moves) d.now
+pub paging_stays : (moves : List (LinkMove ItemOut)) (v next : View ItemOut) (d : Sessions) → PagingReached paging_here v → LinkReaches moves v next → ArePrompt moves → IsDevice stanzas_read (seen v) d → AreInTime (labels_of moves) d.now
     → PagingReached paging_here next
 paging_stays moves v next d reached along prompt device time =
     stays paging_here.asks (λ z other. no_query (up_stanza z) other) (PagingReached paging_here) May

@@ -1,4 +1,4 @@
--- The deeds of a device whose pages are in time are in time.
+-- The labels of a device whose pages are in time are in time.
 use Rattle.std.proofs.Common.{◌≡◌, ◌≤◌, ◌+◌, ℕ, Bool, true, false, List, [], ◌∷◌, ◌++◌, Option, Some, None, Ok, Err, drop, length, map, refl, sym, ap, ◌∙◌, subst, if◌then◌else◌, append_assoc, arith}
 use Rattle.std.proofs.lemmas.Bool.Decides.{nat_tests}
 use Rattle.std.proofs.lemmas.List.{length-drop}
@@ -8,8 +8,8 @@ use Rattle.cl_core.specs.declared.faults.SayFault.TheVariants as say
 use Rattle.cl_handlers.specs.Clients.{ClientView}
 use Rattle.sim_5_devices.proofs.Kept.{begins_empty, plain_read}
 use Rattle.sim_5_devices.specs.Pages.{EndsFor, IsPaged}
-use Rattle.sim_3_items.specs.Clients.{ClientShows, IsOwnShown}
-use Rattle.sim_3_items.specs.Deeds.{Enters, Reads, Says, Takes, gives_all, says_all}
+use Rattle.sim_3_items.specs.Clients.{ClientRepresents, IsOwnRepresented}
+use Rattle.sim_3_items.specs.Labels.{Enters, Reads, Says, Takes, gives_all, says_all}
 use Rattle.sim_3_items.specs.Identities.{Identity, Login}
 use Rattle.sim_3_items.specs.Downs.{down_stanza}
 use Rattle.sim_3_items.specs.Items.{stanzas_read}
@@ -101,13 +101,13 @@ none_said (z ∷ zs) s is = absurd (let no_way : ⊥ = cc in no_way)
 pub reads_in_time : (a : events.Around) (d : Device) (z : ItemOut) (zs : List ItemOut) → IsPaged d → map up_stanza zs ≡ events.queries (events.reads a (down_stanza z) d.reading).request → AreInTime (Reads z ∷ says_all zs) d.sessions.now
 reads_in_time a d z zs paged is = by (is_end (down_stanza z)) refl (events.reads a (down_stanza z) d.reading).request refl
   where
-    behind : Session
-    behind = read_by (down_stanza z) d.sessions.now
+    following : Session
+    following = read_by (down_stanza z) d.sessions.now
 
-    by : (b : Bool) → is_end (down_stanza z) ≡ b → (o : Option Request) → (events.reads a (down_stanza z) d.reading).request ≡ o → AreInTime (says_all zs) behind
-    by b end None none = none_said zs behind (is ∙ ap events.queries none)
+    by : (b : Bool) → is_end (down_stanza z) ≡ b → (o : Option Request) → (events.reads a (down_stanza z) d.reading).request ≡ o → AreInTime (says_all zs) following
+    by b end None none = none_said zs following (is ∙ ap events.queries none)
     by true end (Some r) asks =
-        one_asked zs r behind (is ∙ ap events.queries asks) (
+        one_asked zs r following (is ∙ ap events.queries asks) (
         let s = d.sessions.now in
         let old = paged.asked in
         let one = ap one_if end in
@@ -123,9 +123,9 @@ may_say : (c : ClientView ItemOut) (bad : Bool) (n : ℕ) → (if bad then Err s
 may_say c true n e = absurd (let no_way : ⊥ = cc in no_way)
 may_say c false n e = e
 
-pub room_to_say : (who : Identity) (logins : ℕ → Login) (c : ItemDevice) (v : View ItemOut) (d : Sessions) (text : List ℕ) (n : ℕ) → LinkReached v → ClientShows who logins c v → IsDevice stanzas_read (seen v) d → say_answer c.client text ≡ Ok n
+pub room_to_say : (who : Identity) (logins : ℕ → Login) (c : ItemDevice) (v : View ItemOut) (d : Sessions) (text : List ℕ) (n : ℕ) → LinkReached v → ClientRepresents who logins c v → IsDevice stanzas_read (seen v) d → say_answer c.client text ≡ Ok n
     → length (drop d.now.acked (up_put d.now)) + 1 ≤ 1000
-room_to_say who logins c v d text n reached shows device answer = by v.own c.client.session refl shows.own (may_say c.client (is_bad_text text) n answer)
+room_to_say who logins c v d text n reached represents device answer = by v.own c.client.session refl represents.own (may_say c.client (is_bad_text text) n answer)
   where
     less : (b : Bool) → (if b then Err say.OutboxFull else Ok (next_number c.client.n)) ≡ Ok n → b ≡ false
     less true e = absurd (let no_way : ⊥ = cc in no_way)
@@ -134,7 +134,7 @@ room_to_say who logins c v d text n reached shows device answer = by v.own c.cli
     small : (m : ℕ) → nat_le 1000 m ≡ false → m + 1 ≤ 1000
     small m few = grind (arith, nat_tests)
 
-    by : (o : Option (Own ItemOut)) (s : Option (SessionView ItemOut)) → v.own ≡ o → IsOwnShown o s → say_in c.client s ≡ Ok n → length (drop d.now.acked (up_put d.now)) + 1 ≤ 1000
+    by : (o : Option (Own ItemOut)) (s : Option (SessionView ItemOut)) → v.own ≡ o → IsOwnRepresented o s → say_in c.client s ≡ Ok n → length (drop d.now.acked (up_put d.now)) + 1 ≤ 1000
     by o None own shown may = absurd (let no_way : ⊥ = cc in no_way)
     by None (Some s) own shown may = absurd shown
     by (Some o) (Some s) own shown may =

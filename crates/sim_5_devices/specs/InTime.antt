@@ -1,8 +1,8 @@
--- Deeds of a device's sessions that keep its links in time (`PagingReached` of `sim_2_links`): the user's stanzas are put
--- while few wait, the client asks for a page where those before have come to their ends, and the server ends only pages
--- that were asked for.
+-- Labels of a device's sessions that keep its links in time (`PagingReached` of `sim_2_links`): the user's stanzas are
+-- put while few wait, the client asks for a page where those before have come to their ends, and the server ends only
+-- pages that were asked for.
 use Rattle.std.specs.Prelude.{◌+◌, ◌≤◌, Bool, true, false, List, [], ◌∷◌, ◌++◌, drop, length}
-use Rattle.sim_3_items.specs.Deeds.{Deed, Gives, Names, Reads, Says, Takes}
+use Rattle.sim_3_items.specs.Labels.{Gives, Label, Names, Reads, Says, Takes}
 use Rattle.sim_3_items.specs.Downs.{down_stanza}
 use Rattle.sim_3_items.specs.Ups.{up_stanza}
 use Rattle.sim_2_links.specs.Paging.{Paging, many}
@@ -41,7 +41,7 @@ MayGive (Fin q complete last count) s = MayEnd s
 MayGive (NotFound q) s = MayEnd s
 MayGive x s = Unit {0}
 
--- ---- deeds, one behind the other, of the present session
+-- ---- labels, one behind the other, of the present session
 
 abbrev pub taken_by : Up → Session → Session
 taken_by x s = record s { up_got = s.up_got ++ x ∷ []; up_rest = drop 1 s.up_rest }
@@ -49,7 +49,7 @@ taken_by x s = record s { up_got = s.up_got ++ x ∷ []; up_rest = drop 1 s.up_r
 abbrev pub read_by : Down → Session → Session
 read_by x s = record s { down_got = s.down_got ++ x ∷ []; down_rest = drop 1 s.down_rest }
 
-abbrev pub AreInTime : List (Deed ItemOut) → Session → Type 0
+abbrev pub AreInTime : List (Label ItemOut) → Session → Type 0
 AreInTime [] s = Unit {0}
 AreInTime (Says z ∷ ds) s = MaySay (up_stanza z) s × AreInTime ds (record s { up_rest = s.up_rest ++ up_stanza z ∷ [] })
 AreInTime (Takes z ∷ ds) s = AreInTime ds (taken_by (up_stanza z) s)

@@ -1,7 +1,7 @@
 pub use Rattle.base_io.specs.Listed
--- law: deeds, and what else becomes of a session at the server
-pub mod Deeds
--- law: which deeds keep the links prompt and in time
+-- law: labels, and what else becomes of a session at the server
+pub mod Labels
+-- law: which labels keep the links prompt and in time
 pub mod InTime
 -- law: requests for pages, and their ends
 pub mod Pages

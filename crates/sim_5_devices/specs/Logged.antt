@@ -2,13 +2,13 @@
 use Rattle.std.specs.Prelude.{◌≡◌, ℕ, ◌+◌, ◌<◌, ◌^◌, min, true, false, List, [], ◌∷◌, Option, Some, None}
 use Rattle.std.specs.Option.{IfSome, option_map_or}
 use Rattle.mam_archive.specs.Entries.{EntryView}
-use Rattle.cl_handlers.specs.Clients.{Turn}
+use Rattle.cl_handlers.specs.Clients.{ClientStep}
 use Rattle.cl_handlers.specs.declared.phase.Phase.TheVariants.{Apart, Online}
-use Rattle.sim_3_items.specs.Deeds.{Reads, says_all}
+use Rattle.sim_3_items.specs.Labels.{Reads, says_all}
 use Rattle.sim_3_items.specs.Reading.{noted}
 use Rattle.sim_3_items.specs.Meant.{Fits, requested}
 use Rattle.sim_3_items.specs.ItemWorlds.{ItemDevice}
-use Rattle.sim_5_devices.specs.Shown.{IsReadingGiven, LogShows}
+use Rattle.sim_5_devices.specs.Shown.{IsReadingGiven, LogRepresents}
 use Rattle.sm_outbox.specs.Sessions.{SessionView, with_waiting}
 use Rattle.sm_outbox.specs.Waiting.{Waiting, counted_in, is_full, queued}
 use Rattle.cmd_report.specs.Addresses.{bare_address}
@@ -30,15 +30,15 @@ pub record IsOnline (o : Owned) (keep : ℕ) (history : List EntryView) (d : Ite
   pub bare : d.client.account.bare ≡ bare_address o.account
   pub online : d.client.phase ≡ Online
   pub session : d.client.session ≡ Some s
-  pub log : LogShows keep history d.client.log b
+  pub log : LogRepresents keep history d.client.log b
   pub given : IsReadingGiven history b
   pub pages : d.client.pages ≡ b.asked
   pub more : b.asked + 1 < 2 ^ 64
   pub most : IfSome b.page (λ page. Fits page.max)
 
 -- a session that has to put a request has place for it
-abbrev pub HasPlaceFor : SessionView ItemOut → Option Request → Type 0
-HasPlaceFor s request = IfSome request (λ r. is_full s.waiting ≡ false)
+abbrev pub HasRoomFor : SessionView ItemOut → Option Request → Type 0
+HasRoomFor s request = IfSome request (λ r. is_full s.waiting ≡ false)
 
 -- the end of a page tells how many entries the archive kept when it answered, or keeps, where it isn't known when that was
 abbrev pub IsCountOf : ℕ → Around → OpenPage → ℕ → Type 0
@@ -56,13 +56,13 @@ puts_of None = []
 puts_of (Some r) = requested r ∷ []
 
 -- a stanza more is counted, and the request waits
-abbrev pub waits_behind : Waiting ItemOut → Option Request → Waiting ItemOut
-waits_behind w None = counted_in w
-waits_behind w (Some r) = queued (counted_in w) (requested r) false
+abbrev pub waits_after : Waiting ItemOut → Option Request → Waiting ItemOut
+waits_after w None = counted_in w
+waits_after w (Some r) = queued (counted_in w) (requested r) false
 
-pub record IsReadAs (o : Owned) (keep : ℕ) (history : List EntryView) (d : ItemDevice) (s : SessionView ItemOut) (z : ItemOut) (x : Reaction) (t : Turn ItemOut ItemOut) : Type 0 where
+pub record IsReadAs (o : Owned) (keep : ℕ) (history : List EntryView) (d : ItemDevice) (s : SessionView ItemOut) (z : ItemOut) (x : Reaction) (t : ClientStep ItemOut ItemOut) : Type 0 where
   -- the log shows the reading of the reaction, whose pages are those that were asked for
-  pub log : LogShows keep history t.client.log x.reading
+  pub log : LogRepresents keep history t.client.log x.reading
   pub given : IsReadingGiven history x.reading
   pub pages : t.client.pages ≡ x.reading.asked
   -- what else the client has it has still
@@ -71,15 +71,15 @@ pub record IsReadAs (o : Owned) (keep : ℕ) (history : List EntryView) (d : Ite
   pub epoch : t.client.epoch ≡ d.client.epoch
   pub n : t.client.n ≡ d.client.n
   pub phase : t.client.phase ≡ Online
-  pub session : t.client.session ≡ Some (with_waiting s (waits_behind s.waiting x.request))
+  pub session : t.client.session ≡ Some (with_waiting s (waits_after s.waiting x.request))
   -- it read the stanza, and then put the request
   pub noted : noted t.out.notes ≡ Reads z ∷ says_all (puts_of x.request)
   pub request : IfSome x.request (λ r. IsUpAs o (Query r) (requested r))
 
 -- What a client does that has to put a request, and as many stanzas wait in its session as may: it leaves the connection,
 -- and keeps the session. Its log shows the reading of the reaction, but that no page is open.
-pub record IsLeftAs (keep : ℕ) (history : List EntryView) (d : ItemDevice) (s : SessionView ItemOut) (z : ItemOut) (x : Reaction) (t : Turn ItemOut ItemOut) : Type 0 where
-  pub log : LogShows keep history t.client.log (record x.reading { page = None })
+pub record IsLeftAs (keep : ℕ) (history : List EntryView) (d : ItemDevice) (s : SessionView ItemOut) (z : ItemOut) (x : Reaction) (t : ClientStep ItemOut ItemOut) : Type 0 where
+  pub log : LogRepresents keep history t.client.log (record x.reading { page = None })
   pub given : IsReadingGiven history (record x.reading { page = None })
   pub account : t.client.account ≡ d.client.account
   pub said : t.client.said ≡ d.client.said

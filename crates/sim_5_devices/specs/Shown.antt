@@ -45,7 +45,7 @@ tile_shown keep t = record { after = option_map id_of t.after; count = t.count; 
 abbrev pub id_logged : LogEntry → List ℕ
 id_logged e = e.id
 
-pub record LogShows (keep : ℕ) (history : List EntryView) (log : LogView) (b : Reading) : Type 0 where
+pub record LogRepresents (keep : ℕ) (history : List EntryView) (log : LogView) (b : Reading) : Type 0 where
   pub entries : log.entries ≡ map as_logged (entries_at history (log_of b))
   pub tiles : log.tiles ≡ map (tile_shown keep) b.tiles
   pub page : log.page ≡ option_map (page_shown history) b.page

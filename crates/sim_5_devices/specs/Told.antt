@@ -4,12 +4,12 @@ use Rattle.sm_acks.specs.declared.end.TheConstants.{MOST_UNACKNOWLEDGED}
 use Rattle.mam_archive.specs.Entries.{EntryView}
 use Rattle.cl_core.specs.UserCalls.{catch_up_answer, say_answer}
 use Rattle.cl_handlers.specs.Clients.{ClientView}
-use Rattle.sim_5_devices.specs.Shown.{IsReadingGiven, LogShows}
+use Rattle.sim_5_devices.specs.Shown.{IsReadingGiven, LogRepresents}
 use Rattle.sm_outbox.specs.Sessions.{SessionView}
 use Rattle.sm_outbox.specs.Waiting.{Waiting, queued}
 use Rattle.cmd_schedule.specs.Contents.{Owned}
 use Rattle.cmd_schedule.specs.Grammar.{is_name, is_text}
-use Rattle.sim_3_items.specs.Submitted.{SubmissionsShow}
+use Rattle.sim_3_items.specs.Submitted.{SubmissionsRepresent}
 use Rattle.sim_1_applications.specs.Answers.{last_in}
 use Rattle.sim_1_applications.specs.Devices.{Device, Reading, Sessions, epoch_of, up_put}
 use Rattle.sim_1_applications.specs.Devices.Stage.{Known}
@@ -40,7 +40,7 @@ IsAcked d = d.now.acked ≤ length d.now.up_got
 
 -- the user submits a message to an account by its name, and the client takes it
 pub record IsSaying (o : Owned) (c : ClientView ItemOut) (d : Sessions) (to text : List ℕ) : Type 0 where
-  pub shows : SubmissionsShow c d
+  pub represents : SubmissionsRepresent c d
   pub acked : IsAcked d
   pub resource : c.account.resource ≡ o.device
   pub device : is_name o.device ≡ true
@@ -58,9 +58,9 @@ next_submission d to text private = record { epoch = epoch_of d; n = d.n + 1; to
 
 -- the user asks for the archive in pages of at most so many, and the client takes it
 pub record IsCatchingUp (keep : ℕ) (history : List EntryView) (c : ClientView ItemOut) (x : Device) (most : ℕ) : Type 0 where
-  pub shows : SubmissionsShow c x.sessions
+  pub represents : SubmissionsRepresent c x.sessions
   pub acked : IsAcked x.sessions
-  pub log : LogShows keep history c.log x.reading
+  pub log : LogRepresents keep history c.log x.reading
   pub pages : c.pages ≡ x.reading.asked
   pub given : IsReadingGiven history x.reading
   pub first : ℕ
@@ -85,7 +85,7 @@ queued_where (Some r) w = queued w (requested r) false
 -- The server tells that it has handled n of the session's stanzas, modulo 2 ^ 32: no fewer than it told, and no more than
 -- were put.
 pub record IsCounted (c : ClientView ItemOut) (d : Sessions) (s : SessionView ItemOut) (n h : ℕ) : Type 0 where
-  pub shows : SubmissionsShow c d
+  pub represents : SubmissionsRepresent c d
   pub session : c.session ≡ Some s
   pub acked : s.waiting.acked ≡ d.now.acked % 2 ^ 32
   pub count : h ≡ n % 2 ^ 32
@@ -97,13 +97,13 @@ pub record IsCounted (c : ClientView ItemOut) (d : Sessions) (s : SessionView It
 
 -- a session is bound, and those before were given up
 pub record IsBinding (c : ClientView ItemOut) (d : Sessions) : Type 0 where
-  pub shows : SubmissionsShow c d
+  pub represents : SubmissionsRepresent c d
   pub offline : d.online ≡ false
   pub epoch_fits : c.epoch + 1 < 2 ^ 64
 
 -- the session is enabled, and nothing was put in it
 pub record IsEntering (c : ClientView ItemOut) (d : Sessions) : Type 0 where
-  pub shows : SubmissionsShow c d
+  pub represents : SubmissionsRepresent c d
   pub offline : d.online ≡ false
   pub session : IsSession d.now
   pub unknown : d.now.stage ≢ Known

@@ -1,11 +1,11 @@
 //! A catch-up over a session, of both ends.
 ghost use Rattle.std.specs.Prelude.{◌≡◌, ℕ, ◌-◌, ◌+◌, ◌≤◌, List, Ok, Some, length};
 ghost use Rattle.im_jid.specs.Normal.{normal};
-ghost use Rattle.srv_state.specs.State.{Hall, Kept};
-ghost use Rattle.sm_live.specs.declared.told.Told.{Told};
+ghost use Rattle.srv_state.specs.State.{Kept, ServerState};
+ghost use Rattle.sm_live.specs.declared.told.SessionInfo.{SessionInfo};
 ghost use Rattle.sm_outbox.specs.Sessions.{SessionView};
 ghost use Rattle.cl_core.specs.UserCalls.{catches_up};
-ghost use Rattle.cl_handlers.specs.Clients.{Turn};
+ghost use Rattle.cl_handlers.specs.Clients.{ClientStep};
 ghost use Rattle.cl_handlers.specs.Speech.{in_items};
 ghost use Rattle.cl_handlers.specs.declared.phase.Phase.TheVariants.{Online};
 ghost use Rattle.sm_acks.specs.declared.end.TheConstants.{MOST_UNACKNOWLEDGED};
@@ -22,12 +22,12 @@ ghost use Rattle.xml_writer.specs.Items.{ItemOut};
 /// those that it had, as the archive has them, in tiles of which the last is complete (`exactly`). And it does end so,
 /// where as many stanzas have place in the client's queue (`takes`).
 pub fn catch_ups_end_over_a_session()
-    ensures asks { (t : Turn ItemOut ItemOut) (s : SessionView ItemOut) (bare : List ℕ) (most : ℕ) → t.client.session ≡ Some s → t.client.phase ≡ Online → t.client.account.bare ≡ bare
+    ensures asks { (t : ClientStep ItemOut ItemOut) (s : SessionView ItemOut) (bare : List ℕ) (most : ℕ) → t.client.session ≡ Some s → t.client.phase ≡ Online → t.client.account.bare ≡ bare
         → (z : ItemOut) × (last_put (catches_up in_items t most).client.session ≡ Some z) × HasAsked bare most z (catches_up in_items t most) × ((catches_up in_items t most).client.log.entries ≡ t.client.log.entries) }
-    ensures exactly { (bare full : List ℕ) (kept : Kept) (first last base most n : ℕ) (z : ItemOut) (t u : Turn ItemOut ItemOut) → normal bare ≡ Ok bare → normal full ≡ Ok full → IsArchive first last kept → 1 ≤ most → most ≤ MOST_RESULTS
+    ensures exactly { (bare full : List ℕ) (kept : Kept) (first last base most n : ℕ) (z : ItemOut) (t u : ClientStep ItemOut ItemOut) → normal bare ≡ Ok bare → normal full ≡ Ok full → IsArchive first last kept → 1 ≤ most → most ≤ MOST_RESULTS
         → HasAsked bare most z t → HasPlace t → Lacks first last base t.client.log → TakesAnswers bare full kept n z t u
         → (n ≡ pages_for (last - base) most) × IsCaughtUp first last base most n kept t.client.log u.client.log }
-    ensures takes { (bare full : List ℕ) (kept : Kept) (first last base most : ℕ) (z : ItemOut) (t : Turn ItemOut ItemOut) (s : SessionView ItemOut) (told : Told) (h : Hall ItemOut) → normal bare ≡ Ok bare → normal full ≡ Ok full → IsArchive first last kept
+    ensures takes { (bare full : List ℕ) (kept : Kept) (first last base most : ℕ) (z : ItemOut) (t : ClientStep ItemOut ItemOut) (s : SessionView ItemOut) (told : SessionInfo) (h : ServerState ItemOut) → normal bare ≡ Ok bare → normal full ≡ Ok full → IsArchive first last kept
         → 1 ≤ most → most ≤ MOST_RESULTS → HasAsked bare most z t → t.client.session ≡ Some s → length s.waiting.queue + pages_for (last - base) most ≤ MOST_UNACKNOWLEDGED → Lacks first last base t.client.log → Serves bare full kept told h
-        → (u : Turn ItemOut ItemOut) × TakesAnswers bare full kept (pages_for (last - base) most) z t u }
+        → (u : ClientStep ItemOut ItemOut) × TakesAnswers bare full kept (pages_for (last - base) most) z t u }
 {}

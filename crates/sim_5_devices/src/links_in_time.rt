@@ -1,7 +1,7 @@
 //! The links stay prompt and in time, and what this says of a client's queue and of a device that is settled.
 ghost use Rattle.std.specs.Prelude.{◌≡◌, ◌≤◌, ℕ, true, [], IfSome, List, Some, length};
-ghost use Rattle.sim_3_items.specs.Clients.{ClientShows};
-ghost use Rattle.sim_3_items.specs.Deeds.{ArePrompt, awaits, deeds_of};
+ghost use Rattle.sim_3_items.specs.Clients.{ClientRepresents};
+ghost use Rattle.sim_3_items.specs.Labels.{ArePrompt, awaits, labels_of};
 ghost use Rattle.sim_3_items.specs.Identities.{Identity, Login};
 ghost use Rattle.sim_3_items.specs.Items.{stanzas_read};
 ghost use Rattle.sim_3_items.specs.ItemWorlds.{ItemDevice};
@@ -18,18 +18,18 @@ ghost use Rattle.sim_1_applications.specs.Devices.{Sessions};
 ghost use Rattle.sim_1_applications.specs.Reported.{IsAtRest};
 ghost use Rattle.xml_writer.specs.Items.{ItemOut};
 
-/// A law: along moves that are prompt the links stay prompt, and where the deeds of these moves are in time, the links
+/// A law: along moves that are prompt the links stay prompt, and where the labels of these moves are in time, the links
 /// stay in time as well: all that is needed is said of the applications' lists. They are so at the beginning.
 pub fn links_stay_in_time()
     ensures begins { PagingReached paging_here nothing_yet × PromptReached awaits nothing_yet }
     ensures paging { (moves : List (LinkMove ItemOut)) (v next : View ItemOut) (d : Sessions) → PagingReached paging_here v → LinkReaches moves v next → ArePrompt moves → IsDevice stanzas_read (seen v) d
-        → AreInTime (deeds_of moves) d.now → PagingReached paging_here next }
+        → AreInTime (labels_of moves) d.now → PagingReached paging_here next }
     ensures prompt { (moves : List (LinkMove ItemOut)) (v next : View ItemOut) → PromptReached awaits v → LinkReaches moves v next → ArePrompt moves → PromptReached awaits next }
 {}
 
 /// A law: then at most 1002 stanzas wait in the client's session to be acknowledged.
 pub fn queues_are_short()
-    ensures { (who : Identity) (logins : ℕ → Login) (d : ItemDevice) (v : View ItemOut) → PagingReached paging_here v → ClientShows who logins d v → IfSome d.client.session (λ s. length s.waiting.queue ≤ 1002) }
+    ensures { (who : Identity) (logins : ℕ → Login) (d : ItemDevice) (v : View ItemOut) → PagingReached paging_here v → ClientRepresents who logins d v → IfSome d.client.session (λ s. length s.waiting.queue ≤ 1002) }
 {}
 
 /// A law: and where nothing is under way on the connection that the client works on, and it has not ended, the device is

@@ -2,7 +2,7 @@
 ghost use Rattle.std.specs.Prelude.{◌≡◌, ℕ, ◌<◌, ◌^◌, false, true, List, Some, length};
 ghost use Rattle.std.specs.List.{AllByRecursion};
 ghost use Rattle.mam_archive.specs.Entries.{EntryView};
-ghost use Rattle.sim_3_items.specs.Reading.{turn_on};
+ghost use Rattle.sim_3_items.specs.Reading.{client_step_on};
 ghost use Rattle.sim_3_items.specs.Downs.{down_stanza};
 ghost use Rattle.sim_3_items.specs.ItemWorlds.{ItemDevice};
 ghost use Rattle.sm_outbox.specs.Sessions.{SessionView};
@@ -13,7 +13,7 @@ ghost use Rattle.sim_1_applications.specs.Devices.{Reading, Take};
 ghost use Rattle.sim_1_applications.specs.Events.{Around, reads};
 ghost use Rattle.sim_1_applications.specs.Stanzas.{Request};
 ghost use Rattle.sim_1_applications.specs.Reported.{history_at};
-ghost use Rattle.sim_5_devices.specs.Logged.{HasPlaceFor, IsCounted, IsLeftAs, IsOnline, IsReadAs};
+ghost use Rattle.sim_5_devices.specs.Logged.{HasRoomFor, IsCounted, IsLeftAs, IsOnline, IsReadAs};
 ghost use Rattle.sim_5_devices.specs.Plain.{IsNamedTake, IsPlain};
 ghost use Rattle.xml_writer.specs.Items.{ItemOut};
 
@@ -22,8 +22,8 @@ ghost use Rattle.xml_writer.specs.Items.{ItemOut};
 /// and for the same, and nothing else becomes of it but that the stanza is counted.
 pub fn stanzas_are_logged()
     ensures { (o : Owned) (keep : ℕ) (history : List EntryView) (d : ItemDevice) (s : SessionView ItemOut) (b : Reading) (z : ItemOut) (a : Around)
-        → IsOnline o keep history d s b → IsPlain history → IsDown o history z → IsCounted keep a b.page (down_stanza z) → (reads a (down_stanza z) b).reading.faulty ≡ false → HasPlaceFor s (reads a (down_stanza z) b).request
-        → IsReadAs o keep history d s z (reads a (down_stanza z) b) (turn_on z d) }
+        → IsOnline o keep history d s b → IsPlain history → IsDown o history z → IsCounted keep a b.page (down_stanza z) → (reads a (down_stanza z) b).reading.faulty ≡ false → HasRoomFor s (reads a (down_stanza z) b).request
+        → IsReadAs o keep history d s z (reads a (down_stanza z) b) (client_step_on z d) }
 {}
 
 /// A law: where that reaction is to ask for a page, and as many stanzas wait in the session as may, the client leaves the
@@ -31,7 +31,7 @@ pub fn stanzas_are_logged()
 pub fn full_clients_leave()
     ensures { (o : Owned) (keep : ℕ) (history : List EntryView) (d : ItemDevice) (s : SessionView ItemOut) (b : Reading) (z : ItemOut) (a : Around)
         → IsOnline o keep history d s b → IsPlain history → IsDown o history z → IsCounted keep a b.page (down_stanza z) → (reads a (down_stanza z) b).reading.faulty ≡ false → (r : Request)
-        → (reads a (down_stanza z) b).request ≡ Some r → is_full s.waiting ≡ true → IsLeftAs keep history d s z (reads a (down_stanza z) b) (turn_on z d) }
+        → (reads a (down_stanza z) b).request ≡ Some r → is_full s.waiting ≡ true → IsLeftAs keep history d s z (reads a (down_stanza z) b) (client_step_on z d) }
 {}
 
 /// A law: the history of an account that the takes of named devices make, at moments that have a stamp, has only entries

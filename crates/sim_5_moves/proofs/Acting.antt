@@ -1,28 +1,28 @@
--- One device of a world acts, and the worlds are beside one another still.
+-- One device of a world acts, and the worlds are related still.
 use Rattle.std.proofs.Common.{◌≡◌, ◌≢◌, ℕ, ◌+◌, ◌≤◌, ◌==◌, Bool, true, false, List, [], ◌∷◌, ◌++◌, Some, length, slice_get, refl, sym, ap, subst, ◌∙◌, length-append}
 use Rattle.std.proofs.lemmas.Bool.Decides.{Decides-eqb}
 use Rattle.std.proofs.lemmas.Option.{same_Some}
 use Rattle.sim_3_images.specs.Devices.{identity_at}
-use Rattle.sim_3_items.specs.Shows.{Shows}
-use Rattle.sim_3_images.specs.Stands.{HallStands}
+use Rattle.sim_3_items.specs.Represents.{Represents}
+use Rattle.sim_3_images.specs.Stands.{ServerStateStands}
 use Rattle.sim_3_items.specs.ItemWorlds.{ItemDevice, ItemWorld}
 use Rattle.sim_4_links_follow.proofs.Numbered.{set_elsewhere}
 use Rattle.cmd_schedule.specs.Contents.{Owned}
 use Rattle.cmd_schedule.specs.Schedules.{WireView}
 use Rattle.sim_3_images.specs.Unbound.{IsWithin}
-use Rattle.sim_5_devices.proofs.AllDrifts.{drifts_silent, reaches_both, spoken_both}
-use Rattle.sim_5_devices.proofs.Worlds.{acted_alone, drifts_reach, set_here, set_twice}
-use Rattle.sim_5_devices.specs.Deeds.{Drift, Drifts, drift_events, with_device}
-use Rattle.sim_3_items.specs.Served.{FlagsShow, ServerRuns}
-use Rattle.sim_3_items.specs.Submitted.{SubmissionsShow}
-use Rattle.sim_5_devices.specs.Shown.{LogShows}
-use Rattle.sim_1_applications.specs.Devices.{Device, Sessions, World}
+use Rattle.sim_5_devices.proofs.AllSessionSteps.{reaches_both, session_steps_silent, spoken_both}
+use Rattle.sim_5_devices.proofs.Worlds.{acted_alone, session_steps_reach, set_here, set_twice}
+use Rattle.sim_5_devices.specs.Labels.{SessionStep, SessionSteps, session_step_events, with_device}
+use Rattle.sim_3_items.specs.Served.{FlagsRepresent, ServerSimulates}
+use Rattle.sim_3_items.specs.Submitted.{SubmissionsRepresent}
+use Rattle.sim_5_devices.specs.Shown.{LogRepresents}
+use Rattle.sim_1_applications.specs.Devices.{AppWorld, Device, Sessions}
 use Rattle.sim_1_applications.specs.Events.{Act, At, May, Reaches, acted, around, own, taken_by}
 use Rattle.sim_1_applications.specs.Histories.{spoken_in}
 use Rattle.sim_1_applications.specs.Runs.{owned_of}
 use Rattle.sim_5_moves.proofs.ReplyEvents.{set_long}
 use Rattle.sim_5_moves.specs.Moves.{ActsAlone, IsOneDevice}
-use Rattle.sim_5_moves.specs.Running.{Bounds, DeviceRuns, IsOwned, WorldRuns, history_for, keep_in, names_of}
+use Rattle.sim_5_moves.specs.Running.{Bounds, DeviceSimulates, IsOwned, WorldSimulates, history_for, keep_in, names_of}
 
 -- ---- lists
 
@@ -36,86 +36,86 @@ either P i here beside j = by (j == i) refl
 
 -- ---- the world
 
-module _ (schedule : WireView) (b : Bounds) (says : ℕ) (w : ItemWorld) (x : World) (runs : WorldRuns schedule b says w x) (i : ℕ) (o : Owned) (next : ItemWorld) (d : Device) (a : ActsAlone schedule b says w x runs i o next d) where
+module _ (schedule : WireView) (b : Bounds) (says : ℕ) (w : ItemWorld) (x : AppWorld) (runs : WorldSimulates schedule b says w x) (i : ℕ) (o : Owned) (next : ItemWorld) (d : Device) (a : ActsAlone schedule b says w x runs i o next d) where
   abbrev alone : IsOneDevice i w next
   alone = a.alone
 
-  abbrev behind : World
-  behind = with_device i d x
+  abbrev following : AppWorld
+  following = with_device i d x
 
   -- another device
-  other_runs : (j : ℕ) (p : Owned) → IsOwned schedule j p → j ≢ i → DeviceRuns schedule next behind j p
+  other_runs : (j : ℕ) (p : Owned) → IsOwned schedule j p → j ≢ i → DeviceSimulates schedule next following j p
   other_runs j p is other = record {
     logins = r.logins;
     view = r.view;
     in_time = r.in_time;
     prompt = r.prompt;
-    shows = s;
+    represents = s;
     device = r.device;
     there = set_elsewhere x.devices i j d other ∙ r.there;
     account = r.account;
     sessions = r.sessions;
     built = r.built;
-    submissions = subst (λ (e : ItemDevice). SubmissionsShow e.client r.device.sessions) same r.submissions;
-    log = subst (λ (e : ItemDevice). LogShows (keep_in schedule) (history_for schedule x.takes p) e.client.log r.device.reading) same r.log;
+    submissions = subst (λ (e : ItemDevice). SubmissionsRepresent e.client r.device.sessions) same r.submissions;
+    log = subst (λ (e : ItemDevice). LogRepresents (keep_in schedule) (history_for schedule x.takes p) e.client.log r.device.reading) same r.log;
     pages = subst (λ (e : ItemDevice). e.client.pages ≡ r.device.reading.asked) same r.pages;
-    flags = subst (λ h. FlagsShow (identity_at schedule j p).account p.device h r.device.sessions) (sym alone.server) r.flags;
+    flags = subst (λ h. FlagsRepresent (identity_at schedule j p).account p.device h r.device.sessions) (sym alone.server) r.flags;
   }
     where
-      r : DeviceRuns schedule w x j p
+      r : DeviceSimulates schedule w x j p
       r = runs.devices j p is
 
-      s : Shows (identity_at schedule j p) r.logins next r.view
+      s : Represents (identity_at schedule j p) r.logins next r.view
       s = a.others j p is other
 
-      same : r.shows.device ≡ s.device
-      same = same_Some r.shows.device s.device (sym r.shows.there ∙ sym (alone.beside j other) ∙ s.there)
+      same : r.represents.device ≡ s.device
+      same = same_Some r.represents.device s.device (sym r.represents.there ∙ sym (alone.beside j other) ∙ s.there)
 
-  pub acted_on : WorldRuns schedule b (says + length (spoken_in a.events)) next behind
+  pub acted_on : WorldSimulates schedule b (says + length (spoken_in a.events)) next following
   acted_on = record {
     led = record {
       events = runs.led.events ++ a.events;
-      reaches = reaches_both runs.led.events a.events _ x behind runs.led.reaches a.reaches;
+      reaches = reaches_both runs.led.events a.events _ x following runs.led.reaches a.reaches;
       spoken = ap length (spoken_both runs.led.events a.events) ∙ length-append (spoken_in runs.led.events) (spoken_in a.events) ∙ ap (λ n. n + length (spoken_in a.events)) runs.led.spoken;
     };
     said = a.said;
     asked =
-        either (λ j. (e : Device) → slice_get behind.devices j ≡ Some e → e.reading.asked ≤ b.pages + 1) i
+        either (λ j. (e : Device) → slice_get following.devices j ≡ Some e → e.reading.asked ≤ b.pages + 1) i
         (λ e at. subst (λ (y : Device). y.reading.asked ≤ b.pages + 1) (same_Some d e (sym (set_here x.devices i a.old d a.there) ∙ at)) a.asked)
         (λ j other e at. runs.asked j e (sym (set_elsewhere x.devices i j d other) ∙ at));
     dialled = subst (λ n. n ≤ b.dials) (sym alone.many) runs.dialled;
     devices =
-        either (λ j. (p : Owned) → IsOwned schedule j p → DeviceRuns schedule next behind j p) i
-        (λ p is. subst (DeviceRuns schedule next behind i) (same_Some o p (sym a.owned ∙ is)) a.device)
+        either (λ j. (p : Owned) → IsOwned schedule j p → DeviceSimulates schedule next following j p) i
+        (λ p is. subst (DeviceSimulates schedule next following i) (same_Some o p (sym a.owned ∙ is)) a.device)
         (λ j other p is. other_runs j p is other);
     many = alone.devices ∙ runs.many;
     many_there = set_long x.devices i d ∙ runs.many_there;
-    wires = λ place wire at. let was = alone.wires place wire at in let of = runs.wires place was.0 was.1 in (of.0, subst (λ n. IsOwned schedule n of.0) (sym was.2) of.1);
-    server = subst (ServerRuns (keep_in schedule) (owned_of schedule) (names_of schedule) x.takes) (sym alone.server) runs.server;
+    wires = λ position wire at. let was = alone.wires position wire at in let of = runs.wires position was.0 was.1 in (of.0, subst (λ n. IsOwned schedule n of.0) (sym was.2) of.1);
+    server = subst (ServerSimulates (keep_in schedule) (owned_of schedule) (names_of schedule) x.takes) (sym alone.server) runs.server;
     takes = alone.takes ∙ runs.takes;
     clock = runs.clock ∙ sym alone.moment;
     now = (λ k. (alone.server k).moment) ∙ runs.now ∙ sym alone.moment;
     fits = a.fits;
-    stands = subst (λ n. HallStands n next.server) (sym alone.many) (subst (HallStands (length w.wires)) (sym alone.server) runs.stands);
+    stands = subst (λ n. ServerStateStands n next.server) (sym alone.many) (subst (ServerStateStands (length w.wires)) (sym alone.server) runs.stands);
     within = subst (λ n. IsWithin n next.server) (sym alone.many) (subst (IsWithin (length w.wires)) (sym alone.server) runs.within);
   }
 
 -- ---- an act behind drifts
 
-module _ (x : World) (i : ℕ) (d : Device) (there : slice_get x.devices i ≡ Some d) (xs : List Drift) (s : Sessions) (drifts : Drifts xs d.sessions s) where
-  abbrev drifted_to : Device
-  drifted_to = record d { sessions = s }
+module _ (x : AppWorld) (i : ℕ) (d : Device) (there : slice_get x.devices i ≡ Some d) (xs : List SessionStep) (s : Sessions) (session_steps : SessionSteps xs d.sessions s) where
+  abbrev stepped_to : Device
+  stepped_to = record d { sessions = s }
 
-  abbrev between : World
-  between = with_device i drifted_to x
+  abbrev between : AppWorld
+  between = with_device i stepped_to x
 
-  pub act_reaches : (act : Act) → May act drifted_to → taken_by x.accounts x.clock i drifted_to act ≡ [] → Reaches (drift_events i xs ++ At i act ∷ []) x (with_device i (own (around x d) act drifted_to) x)
+  pub act_reaches : (act : Act) → May act stepped_to → taken_by x.accounts x.clock i stepped_to act ≡ [] → Reaches (session_step_events i xs ++ At i act ∷ []) x (with_device i (own (around x d) act stepped_to) x)
   act_reaches act may none =
-      let here : slice_get between.devices i ≡ Some drifted_to = set_here x.devices i d drifted_to there in
-      let e : Device = own (around x d) act drifted_to in
-      let is : acted between i act drifted_to ≡ with_device i e x =
-      acted_alone between i act drifted_to here none ∙ ap (λ ds. record x { devices = ds }) (set_twice x.devices i drifted_to e) in
-      reaches_both (drift_events i xs) (At i act ∷ []) x between (with_device i e x) (drifts_reach xs x i d s there drifts) (with_device i e x, (drifted_to, here, may, sym is), refl)
+      let here : slice_get between.devices i ≡ Some stepped_to = set_here x.devices i d stepped_to there in
+      let e : Device = own (around x d) act stepped_to in
+      let is : acted between i act stepped_to ≡ with_device i e x =
+      acted_alone between i act stepped_to here none ∙ ap (λ ds. record x { devices = ds }) (set_twice x.devices i stepped_to e) in
+      reaches_both (session_step_events i xs) (At i act ∷ []) x between (with_device i e x) (session_steps_reach xs x i d s there session_steps) (with_device i e x, (stepped_to, here, may, sym is), refl)
 
-pub act_spoken : (i : ℕ) (xs : List Drift) (act : Act) → spoken_in (drift_events i xs ++ At i act ∷ []) ≡ spoken_in (At i act ∷ [])
-act_spoken i xs act = spoken_both (drift_events i xs) (At i act ∷ []) ∙ ap (λ l. l ++ spoken_in (At i act ∷ [])) (drifts_silent i xs)
+pub act_spoken : (i : ℕ) (xs : List SessionStep) (act : Act) → spoken_in (session_step_events i xs ++ At i act ∷ []) ≡ spoken_in (At i act ∷ [])
+act_spoken i xs act = spoken_both (session_step_events i xs) (At i act ∷ []) ∙ ap (λ l. l ++ spoken_in (At i act ∷ [])) (session_steps_silent i xs)

@@ -6,7 +6,7 @@ use Rattle.cmd_network.proofs.Names.{domain_stays, local_stays, resource_stays}
 use Rattle.im_jid.proofs.NormalAgain.{are_joined}
 use Rattle.im_jid.specs.Cuts.{resource_of}
 use Rattle.im_jid.specs.Normal.{IsJoined, address_text, normal}
-use Rattle.srv_state.specs.State.{Hall}
+use Rattle.srv_state.specs.State.{ServerState}
 use Rattle.sm_live.specs.Sessions.{Session}
 use Rattle.sim_5_moves.specs.Submits.{Submits}
 use Rattle.cmd_report.specs.Addresses.{bare_address, domain, full_address}
@@ -34,5 +34,5 @@ spelled_full : (account device : List ℕ) → address_text (Some account) domai
 spelled_full account device = ap (λ t. t ++ 47 ∷ device) (append_assoc account (64 ∷ []) domain)
 
 -- that of the recipient, at the server
-pub normal_to : {keep : ℕ} {owned : List Owned} {names : List (List ℕ)} {takes : List Take} {h : Hall ItemOut} {i : ℕ} {o : Owned} {s : Session ItemOut} {m : Submission} {e : Elem} → Submits keep owned names takes h i o s m e → normal (m.to ++ 64 ∷ h.domain) ≡ Ok (m.to ++ 64 ∷ h.domain)
+pub normal_to : {keep : ℕ} {owned : List Owned} {names : List (List ℕ)} {takes : List Take} {h : ServerState ItemOut} {i : ℕ} {o : Owned} {s : Session ItemOut} {m : Submission} {e : Elem} → Submits keep owned names takes h i o s m e → normal (m.to ++ 64 ∷ h.domain) ≡ Ok (m.to ++ 64 ∷ h.domain)
 normal_to {m = m} x = subst (λ d. normal (m.to ++ 64 ∷ d) ≡ Ok (m.to ++ 64 ∷ d)) (sym x.runs.configured.domain) (bare_normal m.to x.said.named)

@@ -8,10 +8,10 @@ use Rattle.std.proofs.lemmas.List.{map-append}
 use Rattle.std.specs.List.{list_any}
 use Rattle.std.specs.Option.{option_map}
 use Rattle.std.specs.Prelude.{int_le, nat_le}
-use Rattle.srv_state.specs.State.{Hall, Kept, archive_at, bare_address, session_address}
+use Rattle.srv_state.specs.State.{Kept, ServerState, archive_at, bare_address, session_address}
 use Rattle.srv_state.specs.Steps.{Send}
-use Rattle.base_io.proofs.NamePlaces.{is_some-place_of}
-use Rattle.base_io.specs.Names.{is_among, place_of}
+use Rattle.base_io.proofs.NamePositions.{is_some-position_of}
+use Rattle.base_io.specs.Names.{is_among, position_of}
 use Rattle.im_forwarding.specs.Passed.{addressed, passed_item}
 use Rattle.sim_4_links_follow.proofs.Own.{twice_left}
 use Rattle.sim_5_moves.proofs.Addressed.{destination_is, message_of, stanza_is}
@@ -25,10 +25,10 @@ use Rattle.sim_3_items.proofs.ItemsDown.{bounced_read, copied_read, passed_read}
 use Rattle.sim_3_items.specs.Downs.{down_stanza}
 use Rattle.sim_3_items.specs.Meant.{IsEntryNumber, IsOrigin, IsSubmitted}
 use Rattle.sm_live.specs.Rule.{RisesTo}
-use Rattle.sm_live.specs.Sessions.{Session, is_of, number_of, session_of, sessions_of, told, told_of}
-use Rattle.sm_live.specs.declared.told.Told.{Told}
+use Rattle.sm_live.specs.Sessions.{Session, info_of, is_of, number_of, session_of, sessions_of, told}
+use Rattle.sm_live.specs.declared.told.SessionInfo.{SessionInfo}
 use Rattle.srv_login.specs.Accounts.{names_of}
-use Rattle.srv_handlers.specs.Messages.{bouncing, carrying, copy_for, is_full_at, is_full_in, messaging, no_room, number_behind, number_in}
+use Rattle.srv_handlers.specs.Messages.{bouncing, carrying, copy_for, is_full_at, is_full_in, messaging, no_room, number_after, number_in}
 use Rattle.sm_outbox.specs.Submissions.{origin_of}
 use Rattle.im_replies.specs.Requests.{bounce_item}
 use Rattle.im_requests.specs.Messages.{submission_nodes}
@@ -86,7 +86,7 @@ summed false delivered wants senders recipients sent same xs both one =
 
 -- ---- a submission to one of the accounts
 
-module _ (resource : List ℕ) (m : Submission) (t : Told) (h : Hall ItemOut) (account : ℕ) where
+module _ (resource : List ℕ) (m : Submission) (t : SessionInfo) (h : ServerState ItemOut) (account : ℕ) where
   abbrev pub as_read : MessageView
   as_read = message_of resource m h
 
@@ -134,11 +134,11 @@ module _ (resource : List ℕ) (m : Submission) (t : Told) (h : Hall ItemOut) (a
 
   -- it is carried
 
-  pub carries : (e : Elem) → IsSubmission resource m h e → place_of m.to (names_of h.accounts) ≡ Some account → HasRoom t account h → does_on e t h ≡ carrying as_it_is as_sent archs route h
-  carries e is place room =
+  pub carries : (e : Elem) → IsSubmission resource m h e → position_of m.to (names_of h.accounts) ≡ Some account → HasRoom t account h → does_on e t h ≡ carrying as_it_is as_sent archs route h
+  carries e is position room =
       ap (λ r. handling as_it_is r t h) (stanza_is resource m h e is)
       ∙ ap (λ d. messaging as_it_is as_read (address_in m h) t (plan_renamed number_of (planned d as_read t h.sessions)) h)
-      (destination_is m.to h.domain is.name is.bare h.accounts ∙ ap (λ o. at_user o None) place)
+      (destination_is m.to h.domain is.name is.bare h.accounts ∙ ap (λ o. at_user o None) position)
       ∙ ap (λ b. if b then bouncing as_it_is as_read (address_in m h) no_room t else carrying as_it_is as_sent archs route h) (all_room room)
 
   -- what that sends, by tests of sessions
@@ -194,7 +194,7 @@ module _ (resource : List ℕ) (m : Submission) (t : Told) (h : Hall ItemOut) (a
       abbrev live : List Down
       live = Live (kept.last + 1) ∷ []
 
-      told_is : told_of n h.sessions ≡ Some (told s)
+      told_is : info_of n h.sessions ≡ Some (told s)
       told_is = ap (option_map told) found
 
       said : IsSubmitted as_sent
@@ -202,7 +202,7 @@ module _ (resource : List ℕ) (m : Submission) (t : Told) (h : Hall ItemOut) (a
 
       module _ (which : (s.shown.account ≡ t.account) ⊎ (s.shown.account ≡ account)) where
         number : number_in s.shown.account archs h ≡ Some (kept.last + 1)
-        number = ap (λ b. if b then number_behind (archive_at s.shown.account h) else None) (in_archives s.shown.account which) ∙ ap number_behind there
+        number = ap (λ b. if b then number_after (archive_at s.shown.account h) else None) (in_archives s.shown.account which) ∙ ap number_after there
 
         has_room : is_full_at (archive_at s.shown.account h) ≡ false
         has_room = elim which [
@@ -292,7 +292,7 @@ none_of : (o : Option ℕ) → is_some o ≡ false → o ≡ None
 none_of None is = refl
 none_of (Some n) is = absurd (false≢true (sym is))
 
-module _ (resource : List ℕ) (m : Submission) (t : Told) (h : Hall ItemOut) (e : Elem) (is : IsSubmission resource m h e) (nobody : is_among m.to (names_of h.accounts) ≡ false) where
+module _ (resource : List ℕ) (m : Submission) (t : SessionInfo) (h : ServerState ItemOut) (e : Elem) (is : IsSubmission resource m h e) (nobody : is_among m.to (names_of h.accounts) ≡ false) where
   abbrev pub back : ItemOut
   back = bounce_item (address_in m h) (origin_of resource m.epoch m.n) unserved
 
@@ -300,7 +300,7 @@ module _ (resource : List ℕ) (m : Submission) (t : Told) (h : Hall ItemOut) (e
   comes_back =
       ap (λ r. handling as_it_is r t h) (stanza_is resource m h e is)
       ∙ ap (λ d. messaging as_it_is (message_of resource m h) (address_in m h) t (plan_renamed number_of (planned d (message_of resource m h) t h.sessions)) h)
-      (destination_is m.to h.domain is.name is.bare h.accounts ∙ ap (λ o. at_user o None) (none_of (place_of m.to (names_of h.accounts)) (is_some-place_of m.to (names_of h.accounts) ∙ nobody)))
+      (destination_is m.to h.domain is.name is.bare h.accounts ∙ ap (λ o. at_user o None) (none_of (position_of m.to (names_of h.accounts)) (is_some-position_of m.to (names_of h.accounts) ∙ nobody)))
 
   pub bounce_read : IsOrigin resource m.epoch m.n → read_at t.number (does_on e t h) ≡ Bounced m.epoch m.n ∷ []
   bounce_read origin =

@@ -4,16 +4,16 @@ use Rattle.std.proofs.lemmas.Bool.{eq-eqb}
 use Rattle.std.proofs.lemmas.Option.{same_Some}
 use Rattle.cl_core.specs.UserCalls as calls
 use Rattle.cl_core.specs.UserCalls.{catch_up_answer}
-use Rattle.cl_handlers.specs.Clients.{Turn}
+use Rattle.cl_handlers.specs.Clients.{ClientStep}
 use Rattle.cl_handlers.specs.Speech.{in_items}
 use Rattle.sim_4_links_follow.proofs.ConnectionsElsewhere.{ask_leaves, of_its_own}
 use Rattle.sim_4_links_follow.specs.Following.{WorldFollows}
-use Rattle.sim_3_images.specs.Mild.{ClientFits, DownFits, HallFits, UpFits}
+use Rattle.sim_3_images.specs.Relayable.{ClientFits, DownFits, ServerFits, UpFits}
 use Rattle.sim_5_devices.proofs.Timely.{asks_in_time}
 use Rattle.sim_3_images.specs.Devices.{identity_at}
-use Rattle.sim_3_items.specs.Deeds.{Says, awaits}
+use Rattle.sim_3_items.specs.Labels.{Says, awaits}
 use Rattle.sim_3_items.specs.Identities.{Identity}
-use Rattle.sim_3_images.proofs.FittingImages.{keep_here, takes_any}
+use Rattle.sim_3_images.proofs.FittingEncodings.{keep_here, takes_any}
 use Rattle.sim_3_images.proofs.MoveSteps.{move_fits}
 use Rattle.sim_3_images.specs.Fitting.{MayItem}
 use Rattle.sim_3_items.proofs.ItemsUp.{request_read}
@@ -21,28 +21,28 @@ use Rattle.sim_3_items.specs.Items.{stanzas_read}
 use Rattle.sim_3_items.specs.Meant.{requested}
 use Rattle.sim_3_items.specs.Ups.{up_stanza}
 use Rattle.sim_3_items.specs.ItemMoves.{CatchUp, ItemMove, caught_up_by, moved, said_in, spoke}
-use Rattle.sim_3_items.specs.ItemWorlds.{ItemDevice, ItemWorld, silent_turn}
+use Rattle.sim_3_items.specs.ItemWorlds.{ItemDevice, ItemWorld, silent_client_step}
 use Rattle.sim_2_links.proofs.WithPremises.{prompt_runs}
 use Rattle.sim_2_links.specs.Events.{seen}
 use Rattle.sim_2_events.specs.Lists.{IsDevice}
 use Rattle.sim_5_devices.specs.InTime.{AreInTime, is_query}
-use Rattle.sim_5_devices.specs.Shown.{LogShows}
+use Rattle.sim_5_devices.specs.Shown.{LogRepresents}
 use Rattle.sim_5_moves.proofs.Known.{acked, given, last, logged, paged, pages_fit, within}
 use Rattle.sim_5_moves.proofs.Spoke as spoken
 use Rattle.cmd_schedule.specs.Contents.{Owned}
 use Rattle.cmd_schedule.specs.Schedules.{WireView}
 use Rattle.cmd_schedule.specs.WireGrammar.{IsWireSchedule}
 use Rattle.sim_3_items.specs.Built.{IsUpAs}
-use Rattle.sim_3_items.specs.Submitted.{SubmissionsShow}
-use Rattle.sim_1_applications.specs.Devices.{Device, Sessions, World, first_of}
+use Rattle.sim_3_items.specs.Submitted.{SubmissionsRepresent}
+use Rattle.sim_1_applications.specs.Devices.{AppWorld, Device, Sessions, first_of}
 use Rattle.sim_1_applications.specs.Events as events
 use Rattle.sim_1_applications.specs.Stanzas.{Query, Request}
-use Rattle.sim_5_devices.proofs.Asking.{asks_log, asks_may, asks_pages, asks_put, asks_shows, request_built}
+use Rattle.sim_5_devices.proofs.Asking.{asks_log, asks_may, asks_pages, asks_put, asks_represents, request_built}
 use Rattle.sim_5_devices.specs.Told.{IsAcked, IsCatchingUp, next_request}
 use Rattle.sim_5_moves.proofs.Turning.{acted_by, move_runs}
 use Rattle.sim_4_links_follow.proofs.Downs.{ask_in}
 use Rattle.sim_5_moves.specs.Going.{DeviceGoes}
-use Rattle.sim_5_moves.specs.Running.{AreSmall, Bounds, DeviceRuns, IsInBounds, IsOwned, MoveRuns, WorldRuns, history_for, keep_in}
+use Rattle.sim_5_moves.specs.Running.{AreSmall, Bounds, DeviceSimulates, IsInBounds, IsOwned, MoveSimulates, WorldSimulates, history_for, keep_in}
 use Rattle.xml_writer.specs.Items.{ItemOut}
 
 -- one more is asked for by the device whose user asks
@@ -53,22 +53,22 @@ more_or_none : (n : ℕ) (is : Bool) → n ≤ n + (if is then 1 else 0)
 more_or_none n true = omega arith
 more_or_none n false = omega arith
 
-module _ (schedule : WireView) (right : IsWireSchedule schedule) (b : Bounds) (small : AreSmall b) (says : ℕ) (w : ItemWorld) (x : World) (runs : WorldRuns schedule b says w x) (i : ℕ) (o : Owned) (owned : IsOwned schedule i o) (most : ℕ)
-    (some : 1 ≤ most) (low : most ≤ 100) (more : (d : Device) → slice_get x.devices i ≡ Some d → d.reading.asked ≤ b.pages) (taken : catch_up_answer (runs.devices i o owned).shows.device.client ≡ Ok tt) where
-  abbrev r : DeviceRuns schedule w x i o
+module _ (schedule : WireView) (right : IsWireSchedule schedule) (b : Bounds) (small : AreSmall b) (says : ℕ) (w : ItemWorld) (x : AppWorld) (runs : WorldSimulates schedule b says w x) (i : ℕ) (o : Owned) (owned : IsOwned schedule i o) (most : ℕ)
+    (some : 1 ≤ most) (low : most ≤ 100) (more : (d : Device) → slice_get x.devices i ≡ Some d → d.reading.asked ≤ b.pages) (taken : catch_up_answer (runs.devices i o owned).represents.device.client ≡ Ok tt) where
+  abbrev r : DeviceSimulates schedule w x i o
   r = runs.devices i o owned
 
   abbrev who : Identity
   who = identity_at schedule i o
 
   abbrev c : ItemDevice
-  c = r.shows.device
+  c = r.represents.device
 
   abbrev m : ItemMove
   m = CatchUp i most
 
-  abbrev t : Turn ItemOut ItemOut
-  t = calls.catches_up in_items (silent_turn c.client) most
+  abbrev t : ClientStep ItemOut ItemOut
+  t = calls.catches_up in_items (silent_client_step c.client) most
 
   abbrev asked : Request
   asked = next_request r.device.reading most
@@ -80,9 +80,9 @@ module _ (schedule : WireView) (right : IsWireSchedule schedule) (b : Bounds) (s
   abbrev with_sessions : Sessions → Device
   with_sessions d = record r.device { sessions = d }
 
-  catching : (d : Sessions) → SubmissionsShow c.client d → IsAcked d → IsCatchingUp (keep_in schedule) (history_for schedule x.takes o) c.client (with_sessions d) most
-  catching d shows acknowledged = record {
-    shows = shows;
+  catching : (d : Sessions) → SubmissionsRepresent c.client d → IsAcked d → IsCatchingUp (keep_in schedule) (history_for schedule x.takes o) c.client (with_sessions d) most
+  catching d represents acknowledged = record {
+    represents = represents;
     acked = acknowledged;
     log = r.log;
     pages = r.pages;
@@ -103,7 +103,7 @@ module _ (schedule : WireView) (right : IsWireSchedule schedule) (b : Bounds) (s
   before = catching r.device.sessions r.submissions acked_before
 
   moved_is : moved m w ≡ spoke i c t w
-  moved_is = ap (λ d. caught_up_by i most d w) r.shows.there ∙ ap (λ answer. said_in answer i c t w) taken
+  moved_is = ap (λ d. caught_up_by i most d w) r.represents.there ∙ ap (λ answer. said_in answer i c t w) taken
 
   built : IsUpAs o (Query asked) z
   built = request_built (keep_in schedule) (history_for schedule x.takes o) c.client r.device most before o
@@ -120,7 +120,7 @@ module _ (schedule : WireView) (right : IsWireSchedule schedule) (b : Bounds) (s
   follows : WorldFollows who r.logins (moved m w) r.view (Says z ∷ [])
   follows =
       subst (WorldFollows who r.logins (moved m w) r.view) (asks_put (keep_in schedule) (history_for schedule x.takes o) c.client r.device most before)
-      (ask_in who r.logins w r.view c r.shows (prompt_runs awaits r.view r.prompt) r.shows.there (within schedule right b small says w x runs i o owned) most (omega (arith, low)) taken)
+      (ask_in who r.logins w r.view c r.represents (prompt_runs awaits r.view r.prompt) r.represents.there (within schedule right b small says w x runs i o owned) most (omega (arith, low)) taken)
 
   abbrev g : DeviceGoes schedule (moved m w) i o (history_for schedule x.takes o) (Says z ∷ []) r.device.sessions
   g = spoken.g schedule b says w x runs i o owned m t z (Query asked) moved_is read built timely follows
@@ -134,34 +134,34 @@ module _ (schedule : WireView) (right : IsWireSchedule schedule) (b : Bounds) (s
   abbrev new : Device
   new = acted_by schedule b says m w x runs i o owned (events.CatchUp most) at
 
-  behind : IsCatchingUp (keep_in schedule) (history_for schedule x.takes o) c.client there most
-  behind =
-      catching at (spoken.shows_at schedule b says w x runs i o owned m t z (Query asked) moved_is read built timely follows)
+  following : IsCatchingUp (keep_in schedule) (history_for schedule x.takes o) c.client there most
+  following =
+      catching at (spoken.represents_at schedule b says w x runs i o owned m t z (Query asked) moved_is read built timely follows)
       (spoken.acked_at schedule b says w x runs i o owned m t z (Query asked) moved_is read built timely follows acked_before)
 
   -- the archive's last number, as the application has it
   abbrev began : ℕ
   began = (events.around x r.device).last
 
-  client_is : g.shows.device ≡ record c { client = t.client }
+  client_is : g.represents.device ≡ record c { client = t.client }
   client_is = spoken.client_is schedule b says w x runs i o owned m t z (Query asked) moved_is read built timely follows
 
   sessions_are : IsDevice stanzas_read (seen g.view) new.sessions
   sessions_are =
       subst (IsDevice stanzas_read (seen g.view)) (spoken.end_is schedule b says w x runs i o owned m t z (Query asked) moved_is read built timely follows) g.sessions
 
-  submissions_are : SubmissionsShow g.shows.device.client new.sessions
+  submissions_are : SubmissionsRepresent g.represents.device.client new.sessions
   submissions_are =
-      subst (λ (d : ItemDevice). SubmissionsShow d.client new.sessions) (sym client_is)
-      (asks_shows (keep_in schedule) (history_for schedule x.takes o) c.client there most behind began)
+      subst (λ (d : ItemDevice). SubmissionsRepresent d.client new.sessions) (sym client_is)
+      (asks_represents (keep_in schedule) (history_for schedule x.takes o) c.client there most following began)
 
-  log_is : LogShows (keep_in schedule) (history_for schedule x.takes o) g.shows.device.client.log new.reading
+  log_is : LogRepresents (keep_in schedule) (history_for schedule x.takes o) g.represents.device.client.log new.reading
   log_is =
-      subst (λ (d : ItemDevice). LogShows (keep_in schedule) (history_for schedule x.takes o) d.client.log new.reading) (sym client_is)
-      (asks_log (keep_in schedule) (history_for schedule x.takes o) c.client there most behind began)
+      subst (λ (d : ItemDevice). LogRepresents (keep_in schedule) (history_for schedule x.takes o) d.client.log new.reading) (sym client_is)
+      (asks_log (keep_in schedule) (history_for schedule x.takes o) c.client there most following began)
 
-  pages_are : g.shows.device.client.pages ≡ new.reading.asked
-  pages_are = ap (λ (d : ItemDevice). d.client.pages) client_is ∙ asks_pages (keep_in schedule) (history_for schedule x.takes o) c.client there most behind
+  pages_are : g.represents.device.client.pages ≡ new.reading.asked
+  pages_are = ap (λ (d : ItemDevice). d.client.pages) client_is ∙ asks_pages (keep_in schedule) (history_for schedule x.takes o) c.client there most following
 
   still_said : says + 0 ≤ b.says
   still_said = let old = runs.said in omega (arith, old)
@@ -169,18 +169,18 @@ module _ (schedule : WireView) (right : IsWireSchedule schedule) (b : Bounds) (s
   bounded : r.device.reading.asked + 1 ≤ b.pages + 1
   bounded = let few = more r.device r.there in omega (arith, few)
 
-  pub request_runs : MoveRuns schedule b says m w x
+  pub request_runs : MoveSimulates schedule b says m w x
   request_runs =
       move_runs schedule b says m w x runs i o owned
       (spoken.one_device schedule b says w x runs i o owned m t z (Query asked) moved_is read built timely follows)
-      (move_fits UpFits DownFits HallFits ClientFits keep_here takes_any m w runs.fits (some, low))
+      (move_fits UpFits DownFits ServerFits ClientFits keep_here takes_any m w runs.fits (some, low))
       (λ j p is other.
-      ask_leaves (identity_at schedule j p) (runs.devices j p is).logins w (runs.devices j p is).view (runs.devices j p is).shows i other c r.shows.there (of_its_own who r.logins w r.view r.shows j other) most)
+      ask_leaves (identity_at schedule j p) (runs.devices j p is).logins w (runs.devices j p is).view (runs.devices j p is).represents i other c r.represents.there (of_its_own who r.logins w r.view r.represents j other) most)
       (Says z ∷ []) g
-      (spoken.drifted schedule b says w x runs i o owned m t z (Query asked) moved_is read built timely follows).0 at
-      (spoken.drifted schedule b says w x runs i o owned m t z (Query asked) moved_is read built timely follows).2
+      (spoken.session_stepped schedule b says w x runs i o owned m t z (Query asked) moved_is read built timely follows).0 at
+      (spoken.session_stepped schedule b says w x runs i o owned m t z (Query asked) moved_is read built timely follows).2
       (events.CatchUp most) (record {
-        may = asks_may (keep_in schedule) (history_for schedule x.takes o) c.client there most behind;
+        may = asks_may (keep_in schedule) (history_for schedule x.takes o) c.client there most following;
         alone = refl;
         account = refl;
         sessions = sessions_are;
@@ -196,9 +196,9 @@ module _ (schedule : WireView) (right : IsWireSchedule schedule) (b : Bounds) (s
       })
 
 -- of whichever device of the world
-pub requests_run : (schedule : WireView) (b : Bounds) (says : ℕ) (w : ItemWorld) (x : World) → IsWireSchedule schedule → AreSmall b → (runs : WorldRuns schedule b says w x) → (i : ℕ) (o : Owned) → IsOwned schedule i o → (d : ItemDevice) → slice_get w.devices i ≡ Some d
-    → (most : ℕ) → MayItem (CatchUp i most) → IsInBounds b says (CatchUp i most) w x → catch_up_answer d.client ≡ Ok tt → MoveRuns schedule b says (CatchUp i most) w x
+pub requests_run : (schedule : WireView) (b : Bounds) (says : ℕ) (w : ItemWorld) (x : AppWorld) → IsWireSchedule schedule → AreSmall b → (runs : WorldSimulates schedule b says w x) → (i : ℕ) (o : Owned) → IsOwned schedule i o → (d : ItemDevice) → slice_get w.devices i ≡ Some d
+    → (most : ℕ) → MayItem (CatchUp i most) → IsInBounds b says (CatchUp i most) w x → catch_up_answer d.client ≡ Ok tt → MoveSimulates schedule b says (CatchUp i most) w x
 requests_run schedule b says w x right small runs i o owned d there most may more taken =
     let r = runs.devices i o owned in
-    let same = same_Some d r.shows.device (sym there ∙ r.shows.there) in
+    let same = same_Some d r.represents.device (sym there ∙ r.represents.there) in
     request_runs schedule right b small says w x runs i o owned most may.0 may.1 more (subst (λ (e : ItemDevice). catch_up_answer e.client ≡ Ok tt) same taken)

@@ -7,13 +7,13 @@ use Rattle.std.specs.Option.{option_map}
 use Rattle.std.specs.Result.{result_ok}
 use Rattle.std.specs.Str.{bytes_eq}
 use Rattle.base_lemmas.proofs.Bytes.{same-from_bytes_eq}
-use Rattle.srv_state.specs.State.{Hall, Step, full_address}
+use Rattle.srv_state.specs.State.{ServerState, Step, full_address}
 use Rattle.srv_state.specs.Steps.{Act, Bind, Say, act, acted}
 use Rattle.srv_state.specs.Streams.{parting_where, standing_of}
 use Rattle.srv_state.specs.Words.{is_long, word_of}
 use Rattle.srv_state.specs.declared.word.Word.TheVariants as word
 use Rattle.im_extensions.specs.Bind.{bind_request_elem}
-use Rattle.sim_3_items.specs.ItemMoves.{step_of, takes_told}
+use Rattle.sim_3_items.specs.ItemMoves.{step_of, takes_reported}
 use Rattle.sim_3_items.specs.ItemWorlds.{itself, read_of}
 use Rattle.sim_4_links_follow.proofs.BindReads.{resource_asked, resource_chosen}
 use Rattle.sm_live.specs.Rule.{IsRule}
@@ -28,11 +28,11 @@ use Rattle.im_requests.specs.Sessions.{bind_item, setting_elem}
 use Rattle.cmd_schedule.specs.Contents.{Owned}
 use Rattle.srv_core.specs.Table.{at_open, at_word}
 use Rattle.sim_5_moves.proofs.Flagged.{Flagged, FlaggedAs, flagged_about, flags_begin, flags_end, owns_about}
-use Rattle.sim_5_moves.proofs.MuteActs.{IsAbout, then_mute}
-use Rattle.sim_5_moves.proofs.MuteRows.{mute_parting}
+use Rattle.sim_5_moves.proofs.NonStanzaActs.{IsAbout, then_non_stanza}
+use Rattle.sim_5_moves.proofs.NonStanzaRows.{non_stanza_parting}
 use Rattle.sim_5_moves.specs.Coming.{MayBind, behind_item}
 use Rattle.srv_handlers.specs.Bindings.{binding_as, chosen, former_of}
-use Rattle.sim_3_items.specs.Served.{FlagsShow, IsOfDevice, ServerRuns}
+use Rattle.sim_3_items.specs.Served.{FlagsRepresent, IsOfDevice, ServerSimulates}
 use Rattle.sim_1_applications.specs.Devices.{Sessions, Take}
 use Rattle.sim_1_applications.specs.Events.{binds}
 use Rattle.im_stanza.specs.Readings.{stanza_of}
@@ -68,7 +68,7 @@ all_less : (P : Session ItemOut → Type 0) (found : Option (Session ItemOut)) (
 all_less P None ss all = all
 all_less P (Some s) ss all = all_left P (λ t. not (t.shown.number == s.shown.number)) ss all
 
-module _ (account : ℕ) (resource : List ℕ) (h : Hall ItemOut) (rule : IsRule h.sessions h.next) where
+module _ (account : ℕ) (resource : List ℕ) (h : ServerState ItemOut) (rule : IsRule h.sessions h.next) where
   -- no session with the name is left
   abbrev IsFound : Session ItemOut → Type 0
   IsFound t = session_of t.shown.number h.sessions ≡ Some t
@@ -85,7 +85,7 @@ module _ (account : ℕ) (resource : List ℕ) (h : Hall ItemOut) (rule : IsRule
 
 -- ---- the row
 
-module _ (owned : List Owned) (names : List (List ℕ)) (k account : ℕ) (o : Owned) (h : Hall ItemOut) (may : MayBind owned names k account o h) where
+module _ (owned : List Owned) (names : List (List ℕ)) (k account : ℕ) (o : Owned) (h : ServerState ItemOut) (may : MayBind owned names k account o h) where
   abbrev resource : List ℕ
   resource = o.device
 
@@ -95,8 +95,8 @@ module _ (owned : List Owned) (names : List (List ℕ)) (k account : ℕ) (o : O
   abbrev first : Step ItemOut
   first = act itself (Bind account resource k) (step_of h)
 
-  behind_is : behind_item k (bind_item resource) h ≡ acted itself rest first
-  behind_is =
+  after_is : behind_item k (bind_item resource) h ≡ acted itself rest first
+  after_is =
       let st = standing_of may.conn in
       let e = bind_elem resource in
       let acts =
@@ -117,33 +117,33 @@ module _ (owned : List Owned) (names : List (List ℕ)) (k account : ℕ) (o : O
         sessions = all_pushed Q (fresh h.next account resource k) here (less (session_named account resource h.sessions) h.sessions) others;
         told = λ moment. refl;
       } in
-      subst (Goes Q (step_of h)) (sym behind_is)
-      (then_mute Q about rest (mute_parting (former_of (option_map ended_of (session_named account resource h.sessions))) (error_item Conflict) (Say k (bound_item (codes "bind") (full_address account resource h)) ∷ []) tt) (step_of h) first goes)
+      subst (Goes Q (step_of h)) (sym after_is)
+      (then_non_stanza Q about rest (non_stanza_parting (former_of (option_map ended_of (session_named account resource h.sessions))) (error_item Conflict) (Say k (bound_item (codes "bind") (full_address account resource h)) ∷ []) tt) (step_of h) first goes)
 
-  pub bind_runs : (keep : ℕ) (takes : List Take) → ServerRuns keep owned names takes h → ServerRuns keep owned names takes (behind_item k (bind_item resource) h).hall
+  pub bind_runs : (keep : ℕ) (takes : List Take) → ServerSimulates keep owned names takes h → ServerSimulates keep owned names takes (behind_item k (bind_item resource) h).server_state
   bind_runs keep takes runs =
       let P = Owns keep owned names in
-      let here : IsOfDevice owned names (fresh h.next account resource k) = record { place = may.place; device = o; there = may.there; account = may.named; resource = refl } in
+      let here : IsOfDevice owned names (fresh h.next account resource k) = record { position = may.position; device = o; there = may.there; account = may.named; resource = refl } in
       let goes = bind_goes P (owns_about keep owned names) (all_less P (session_named account resource h.sessions) h.sessions runs.sessions) here in
-      runs_on keep owned names takes h (behind_item k (bind_item resource) h).hall goes.domain goes.accounts goes.archives goes.sessions runs
+      runs_on keep owned names takes h (behind_item k (bind_item resource) h).server_state goes.domain goes.accounts goes.archives goes.sessions runs
 
-  pub bind_silent : (moment : ℕ) → takes_told moment (behind_item k (bind_item resource) h).outs ≡ []
+  pub bind_silent : (moment : ℕ) → takes_reported moment (behind_item k (bind_item resource) h).outs ≡ []
   bind_silent moment = (bind_goes (λ s. Unit {0}) (λ s t number accounts resources available carbons priority is. tt) (each (less (session_named account resource h.sessions) h.sessions)) tt).told moment
     where
       each : (ss : List (Session ItemOut)) → AllByRecursion (λ s. Unit {0}) ss
       each [] = tt
       each (s ∷ ss) = (tt, each ss)
 
-  pub bind_flags : (d : Sessions) → IsRule h.sessions h.next → FlagsShow account resource (behind_item k (bind_item resource) h).hall (binds d)
+  pub bind_flags : (d : Sessions) → IsRule h.sessions h.next → FlagsRepresent account resource (behind_item k (bind_item resource) h).server_state (binds d)
   bind_flags d rule = λ live t found.
       let Q = Flagged account resource false false in
       let goes = bind_goes Q (flagged_about account resource false false) (none_named account resource h rule (session_named account resource h.sessions) refl) (λ named. (refl, refl, refl)) in
-      flags_end account resource false false (behind_item k (bind_item resource) h).hall.sessions goes.sessions t found
+      flags_end account resource false false (behind_item k (bind_item resource) h).server_state.sessions goes.sessions t found
 
-  pub bind_spares : (other : ℕ) (text : List ℕ) (d : Sessions) → IsRule h.sessions h.next → (account ≡ other → resource ≢ text) → FlagsShow other text h d → FlagsShow other text (behind_item k (bind_item resource) h).hall d
-  bind_spares other text d rule apart shows = λ live t found.
+  pub bind_spares : (other : ℕ) (text : List ℕ) (d : Sessions) → IsRule h.sessions h.next → (account ≡ other → resource ≢ text) → FlagsRepresent other text h d → FlagsRepresent other text (behind_item k (bind_item resource) h).server_state d
+  bind_spares other text d rule apart represents = λ live t found.
       let P = FlaggedAs other text d in
       let here : P (fresh h.next account resource k) =
       λ named. (let both = and_parts (account == other) (bytes_eq resource text) named in absurd (apart (eqb-true account other both.0) (same-from_bytes_eq resource text both.1))) in
-      let goes = bind_goes P (flagged_about other text _ _) (all_less P (session_named account resource h.sessions) h.sessions (flags_begin other text h d rule live shows)) here in
-      flags_end other text _ _ (behind_item k (bind_item resource) h).hall.sessions goes.sessions t found
+      let goes = bind_goes P (flagged_about other text _ _) (all_less P (session_named account resource h.sessions) h.sessions (flags_begin other text h d rule live represents)) here in
+      flags_end other text _ _ (behind_item k (bind_item resource) h).server_state.sessions goes.sessions t found

@@ -5,7 +5,7 @@ use Rattle.std.proofs.lemmas.Option.{none-some}
 use Rattle.std.specs.List.{AllByRecursion, slice_get}
 use Rattle.std.specs.Option.{IfSome}
 use Rattle.mam_archive.specs.Entries.{EntryView, entry_numbered, newest}
-use Rattle.srv_state.specs.State.{Hall, Kept}
+use Rattle.srv_state.specs.State.{Kept, ServerState}
 use Rattle.srv_state.specs.Steps.{Act, Send}
 use Rattle.cmd_direct.proofs.NextPages.{entry_is}
 use Rattle.im_forwarding.specs.Queries.{no_such_place}
@@ -19,30 +19,30 @@ use Rattle.sim_3_items.proofs.PagesDown.{end_read, entry_read, not_found_read}
 use Rattle.sim_3_items.specs.Meant.{Fits, IsEntryNumber, IsPage}
 use Rattle.im_jid.specs.Normal.{normal}
 use Rattle.sm_live.specs.Sessions.{Session, told}
-use Rattle.sm_live.specs.declared.told.Told.{Told}
+use Rattle.sm_live.specs.declared.told.SessionInfo.{SessionInfo}
 use Rattle.mam_pages.specs.Cuts.{CutView}
 use Rattle.im_replies.specs.Requests.{EnvelopeView, iq_error_item, result_item}
-use Rattle.sim_5_moves.proofs.Halls.{around, own_bare, own_full}
+use Rattle.sim_5_moves.proofs.ServerStates.{around, own_bare, own_full}
 use Rattle.sim_5_moves.specs.Replied.{IsReplyCase, IsSessionOf, around_of}
 use Rattle.srv_handlers.specs.Requests.{asker_of, envelope_of, paging, sending_entries, sending_entry}
 use Rattle.im_requests.specs.Messages.{queryid_text}
 use Rattle.cmd_schedule.specs.Contents.{Owned}
 use Rattle.sim_3_items.specs.Built.{IsAnswer, IsDown, IsDownAs, asker_for}
-use Rattle.sim_3_items.specs.Served.{ServerRuns}
+use Rattle.sim_3_items.specs.Served.{ServerSimulates}
 use Rattle.sim_1_applications.specs.Devices.{Take}
 use Rattle.sim_1_applications.specs.Stanzas.{Carbons, Message, Presence, Query, Up}
-use Rattle.sim_1_applications.proofs.Turned.{history_follows}
+use Rattle.sim_1_applications.proofs.Rendered.{history_follows}
 use Rattle.sim_1_applications.specs.Reported.{history_at}
 use Rattle.im_stanza.specs.Views.{IqView}
 use Rattle.xml_trees.specs.Trees.{Elem, no_nodes}
 use Rattle.xml_writer.specs.Items.{ItemOut}
 
 -- what is found stands somewhere
-find_place : (n : ℕ) (xs : List EntryView) (e : EntryView) → entry_numbered n xs ≡ Some e → (i : ℕ) × (slice_get xs i ≡ Some e)
-find_place n [] e is = absurd (none-some e is)
-find_place n (x ∷ xs) e is = elim (cases_Bool (x.number == n)) [
+find_position : (n : ℕ) (xs : List EntryView) (e : EntryView) → entry_numbered n xs ≡ Some e → (i : ℕ) × (slice_get xs i ≡ Some e)
+find_position n [] e is = absurd (none-some e is)
+find_position n (x ∷ xs) e is = elim (cases_Bool (x.number == n)) [
   | inl here ↦ (zero, rw here at is)
-  | inr other ↦ let rest = find_place n xs e (rw other at is) in (suc rest.0, rest.1)
+  | inr other ↦ let rest = find_position n xs e (rw other at is) in (suc rest.0, rest.1)
 ]
 
 -- an entry that is kept is one of the history
@@ -51,17 +51,17 @@ module _ (keep : ℕ) (owned : List Owned) (takes : List Take) (account : List �
   in_history n e is =
       let history = history_at owned takes account in
       let old = length history - keep in
-      let place = find_place n (newest keep history) e is in
-      entry_is 1 history (history_follows owned takes account) (old + place.0) e (get_in_drop old history place.0 e place.1)
+      let position = find_position n (newest keep history) e is in
+      entry_is 1 history (history_follows owned takes account) (old + position.0) e (get_in_drop old history position.0 e position.1)
 
-module _ (keep : ℕ) (owned : List Owned) (names : List (List ℕ)) (takes : List Take) (h : Hall ItemOut) (o : Owned) (s : Session ItemOut) (runs : ServerRuns keep owned names takes h) (session : IsSessionOf o names h s) where
+module _ (keep : ℕ) (owned : List Owned) (names : List (List ℕ)) (takes : List Take) (h : ServerState ItemOut) (o : Owned) (s : Session ItemOut) (runs : ServerSimulates keep owned names takes h) (session : IsSessionOf o names h s) where
   abbrev history : List EntryView
   history = history_at owned takes o.account
 
   abbrev n : ℕ
   n = s.shown.number
 
-  abbrev t : Told
+  abbrev t : SessionInfo
   t = told s
 
   answers : (q : IqView) → q.to ≡ None → IsAnswer q.id (envelope_of q t h)
@@ -121,7 +121,7 @@ module _ (keep : ℕ) (owned : List Owned) (names : List (List ℕ)) (takes : Li
         subst (λ entries. AllByRecursion (IsDown o history) (sends_to n (sending_entries as_it_is n asker entries cut.numbers (Send n (fin_item a cut) ∷ [])))) (sym same)
         (entries_built cut.numbers (Send n (fin_item a cut) ∷ []) is.all last)
 
-module _ (keep : ℕ) (owned : List Owned) (names : List (List ℕ)) (takes : List Take) (h : Hall ItemOut) (o : Owned) (s : Session ItemOut) where
+module _ (keep : ℕ) (owned : List Owned) (names : List (List ℕ)) (takes : List Take) (h : ServerState ItemOut) (o : Owned) (s : Session ItemOut) where
   pub sent_built : (x : Up) (e : Elem) → IsReplyCase keep owned names takes h o s x e → AllByRecursion (IsDown o (history_at owned takes o.account)) (sends_to s.shown.number (does_on e (told s) h))
   sent_built Carbons e is =
       let z = result_item (envelope_of iq_of_switch (told s) h) no_nodes in

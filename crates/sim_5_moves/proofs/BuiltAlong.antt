@@ -3,12 +3,12 @@ use Rattle.std.proofs.Common.{◌≡◌, ℕ, ◌+◌, Bool, true, false, All, L
 use Rattle.std.proofs.lemmas.List.Elements.{All-append, All-cons, All-nil}
 use Rattle.std.specs.Option.{option_map}
 use Rattle.mam_archive.specs.Entries.{EntryView}
-use Rattle.sim_3_items.specs.Deeds.{Deed, Drops, Enters, Gives, Learns, Names, Reads, Says, Takes, deed_of, deeds_of}
+use Rattle.sim_3_items.specs.Labels.{Drops, Enters, Gives, Label, Learns, Names, Reads, Says, Takes, label_of, labels_of}
 use Rattle.sim_2_links.proofs.Entries.{Entry, New, Old, entry, was}
 use Rattle.sim_2_links.proofs.Numbers.{reached_rises}
 use Rattle.sim_2_links.proofs.Reached.{link_kept}
 use Rattle.sim_2_links.proofs.Seen.{move_seen}
-use Rattle.sim_2_links.specs.Events.{Bound, Counted, Dropped, Ended, Event, Handled, Heard, IsSeenAs, Known, Learned, Named, Said, Seen, SeenSession, Served, after, new_session, own_number, row_number, seen}
+use Rattle.sim_2_links.specs.Events.{Bound, Counted, Dropped, Ended, Handled, Heard, IsSeenAs, Known, Learned, LinkEvent, Named, Said, Seen, SeenSession, Served, after, new_session, own_number, row_number, seen}
 use Rattle.sim_2_links.specs.Machine.{AsksToBind, AsksToResume, Cuts, Demands, Detaches, Dials, EndsRow, Foots, Forgets, Hears, HearsEarly, Keeps, LetsGo, LinkMove, LinkReached, LinkReaches, Parks, Puts, Queues, ReadsBound, ReadsCount, ReadsEnabled, ReadsFailed, ReadsHand, ReadsRequest, ReadsResumed, ReadsStanza, Requests, Serves, Shuts, TakesBind, TakesCount, TakesEnable, TakesFoot, TakesHand, TakesHighResume, TakesLateResume, TakesRequest, TakesResume, TakesStanza, TakesStrangeResume}
 use Rattle.sim_2_links.specs.Telling.{Tells}
 use Rattle.sim_2_links.specs.Views.{View, alter, has}
@@ -21,7 +21,7 @@ use Rattle.xml_writer.specs.Items.{ItemOut}
 
 module _ (o : Owned) (history : List EntryView) where
   -- what an event puts is built
-  abbrev PutsBuilt : Event ItemOut → Type 0
+  abbrev PutsBuilt : LinkEvent ItemOut → Type 0
   PutsBuilt (Said p z) = IsUp o z
   PutsBuilt (Served p z) = IsDown o history z
   PutsBuilt e = Unit {0}
@@ -43,7 +43,7 @@ module _ (o : Owned) (history : List EntryView) where
         → AllBuilt o history (record s { sessions = alter f s.sessions })
     changed f keeps q t there = let x = was f s.sessions q t there in subst (AreBuilt o history) x.2 (keeps q x.0 (built q x.0 x.1))
 
-    after_built : (e : Event ItemOut) → PutsBuilt e → AllBuilt o history (after e s)
+    after_built : (e : LinkEvent ItemOut) → PutsBuilt e → AllBuilt o history (after e s)
     after_built (Bound m) put = λ q t there. by q t (entry m new_session s.sessions q t there)
       where
         by : (q : ℕ) (t : SeenSession ItemOut) → Entry m new_session s.sessions q t → AreBuilt o history t
@@ -62,21 +62,21 @@ module _ (o : Owned) (history : List EntryView) where
 
   -- ---- a move
 
-  abbrev EventBuilt : Option (Event ItemOut) → Type 0
+  abbrev EventBuilt : Option (LinkEvent ItemOut) → Type 0
   EventBuilt None = Unit {0}
   EventBuilt (Some e) = PutsBuilt e
 
-  seen_built : (e : Option (Event ItemOut)) (s next : Seen ItemOut) → IsSeenAs e s next → EventBuilt e → AllBuilt o history s → AllBuilt o history next
+  seen_built : (e : Option (LinkEvent ItemOut)) (s next : Seen ItemOut) → IsSeenAs e s next → EventBuilt e → AllBuilt o history s → AllBuilt o history next
   seen_built None s next same put built = subst (AllBuilt o history) (sym same) built
   seen_built (Some e) s next (may, same) put built = subst (AllBuilt o history) (sym same) (after_built s built e put)
 
   -- an event of the session that the server has live, or of the client's, where there is one
-  of_number : (tell : ℕ → Event ItemOut) → ((p : ℕ) → PutsBuilt (tell p)) → (n : Option ℕ) → EventBuilt (option_map tell n)
+  of_number : (tell : ℕ → LinkEvent ItemOut) → ((p : ℕ) → PutsBuilt (tell p)) → (n : Option ℕ) → EventBuilt (option_map tell n)
   of_number tell put None = tt
   of_number tell put (Some p) = put p
 
-  -- what it tells puts what its deed says
-  tells_built : (move : LinkMove ItemOut) (v : View ItemOut) (e : Option (Event ItemOut)) → Tells move v e → ArePutBuilt o history (deed_of move) → EventBuilt e
+  -- what it tells puts what its label says
+  tells_built : (move : LinkMove ItemOut) (v : View ItemOut) (e : Option (LinkEvent ItemOut)) → Tells move v e → ArePutBuilt o history (label_of move) → EventBuilt e
   tells_built (Cuts k i j) v e is put = subst EventBuilt (sym is) tt
   tells_built (Dials k) v e is put = subst EventBuilt (sym is) tt
   tells_built (LetsGo k) v e is put = subst EventBuilt (sym is) tt
@@ -116,7 +116,7 @@ module _ (o : Owned) (history : List EntryView) where
   tells_built (Keeps z) v e is put = subst EventBuilt (sym is) (of_number (λ p. Served p z) (λ p. put.0) (row_number v.row))
   tells_built (Demands k) v e is put = subst EventBuilt (sym is) tt
 
-  puts_split : (ds more : List (Deed ItemOut)) → ArePutBuilt o history (ds ++ more) → ArePutBuilt o history ds × ArePutBuilt o history more
+  puts_split : (ds more : List (Label ItemOut)) → ArePutBuilt o history (ds ++ more) → ArePutBuilt o history ds × ArePutBuilt o history more
   puts_split [] more put = (tt, put)
   puts_split (Says z ∷ ds) more put = let x = puts_split ds more put.1 in ((put.0, x.0), x.1)
   puts_split (Gives z ∷ ds) more put = let x = puts_split ds more put.1 in ((put.0, x.0), x.1)
@@ -127,9 +127,9 @@ module _ (o : Owned) (history : List EntryView) where
   puts_split (Learns ∷ ds) more put = puts_split ds more put
   puts_split (Drops ∷ ds) more put = puts_split ds more put
 
-  pub built_along : (moves : List (LinkMove ItemOut)) (v last : View ItemOut) → LinkReached v → LinkReaches moves v last → ArePutBuilt o history (deeds_of moves) → AllBuilt o history (seen v) → AllBuilt o history (seen last)
+  pub built_along : (moves : List (LinkMove ItemOut)) (v last : View ItemOut) → LinkReached v → LinkReaches moves v last → ArePutBuilt o history (labels_of moves) → AllBuilt o history (seen v) → AllBuilt o history (seen last)
   built_along [] v last reached same put built = subst (λ x. AllBuilt o history (seen x)) (sym same) built
   built_along (move ∷ moves) v last reached (next, by, along) put built =
       let seen_so = move_seen move v next by (link_kept v reached) (reached_rises v reached) in
-      let puts = puts_split (deed_of move) (deeds_of moves) put in
+      let puts = puts_split (label_of move) (labels_of moves) put in
       built_along moves next last (reached_along (move ∷ []) v next reached (next, by, refl)) along puts.1 (seen_built seen_so.0 (seen v) (seen next) seen_so.2 (tells_built move v seen_so.0 seen_so.1 puts.0) built)

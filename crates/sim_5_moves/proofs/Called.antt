@@ -7,23 +7,23 @@ use Rattle.sim_3_items.specs.ItemPipes.{ItemWire}
 use Rattle.sim_3_items.specs.ItemWorlds.{ItemDevice, ItemWorld}
 use Rattle.sim_5_moves.proofs.ReplyEvents.{set_long}
 use Rattle.sim_5_moves.specs.Moves.{IsOneDevice}
-use Rattle.cmd_network.specs.Places.{changed_at, changed_where}
+use Rattle.cmd_network.specs.Positions.{changed_at, changed_where}
 
 -- connections are changed, and stay their devices'
 abbrev pub AreOfSame : List ItemWire → List ItemWire → Type 0
-AreOfSame old new = (place : ℕ) (wire : ItemWire) → slice_get new place ≡ Some wire → (was : ItemWire) × (slice_get old place ≡ Some was) × (wire.device ≡ was.device)
+AreOfSame old new = (position : ℕ) (wire : ItemWire) → slice_get new position ≡ Some wire → (was : ItemWire) × (slice_get old position ≡ Some was) × (wire.device ≡ was.device)
 
 module _ (f : ItemWire → ItemWire) (same : (v : ItemWire) → (f v).device ≡ v.device) where
-  at_same : (place : ℕ) (l : List ItemWire) → AreOfSame l (changed_at place f l)
-  at_same place [] q wire at = absurd (none-some wire at)
+  at_same : (position : ℕ) (l : List ItemWire) → AreOfSame l (changed_at position f l)
+  at_same position [] q wire at = absurd (none-some wire at)
   at_same zero (v ∷ l) zero wire at = (v, refl, ap (λ (u : ItemWire). u.device) (sym (same_Some (f v) wire at)) ∙ same v)
   at_same zero (v ∷ l) (suc q) wire at = (wire, at, refl)
-  at_same (suc place) (v ∷ l) zero wire at = (wire, at, refl)
-  at_same (suc place) (v ∷ l) (suc q) wire at = at_same place l q wire at
+  at_same (suc position) (v ∷ l) zero wire at = (wire, at, refl)
+  at_same (suc position) (v ∷ l) (suc q) wire at = at_same position l q wire at
 
   pub where_same : (here : Option ℕ) (l : List ItemWire) → AreOfSame l (changed_where here f l)
   where_same None l q wire at = (wire, at, refl)
-  where_same (Some place) l q wire at = at_same place l q wire at
+  where_same (Some position) l q wire at = at_same position l q wire at
 
 pub same_twice : (a b c : List ItemWire) → AreOfSame a b → AreOfSame b c → AreOfSame a c
 same_twice a b c first second q wire at =

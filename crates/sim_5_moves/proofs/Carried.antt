@@ -3,15 +3,15 @@ use Rattle.std.proofs.Common.{◌≡◌, ℕ, Bool, true, false, List, [], ◌�
 use Rattle.std.proofs.lemmas.Bool.{cases_Bool, eqb-true}
 use Rattle.std.specs.Prelude.{nat_eq}
 use Rattle.mam_archive.specs.Entries.{EntryView}
-use Rattle.srv_state.specs.State.{Hall, bare_address, session_address}
+use Rattle.srv_state.specs.State.{ServerState, bare_address, session_address}
 use Rattle.srv_state.specs.Steps.{Act}
 use Rattle.im_forwarding.specs.Copies.{copy_item}
 use Rattle.im_forwarding.specs.Passed.{passed_item}
 use Rattle.sim_5_moves.proofs.HearingSums.{where_so}
 use Rattle.sim_5_moves.proofs.Picks.{picks}
 use Rattle.sim_5_moves.specs.Sent.{as_it_is, sends_to}
-use Rattle.sm_live.specs.Sessions.{told_of}
-use Rattle.sm_live.specs.declared.told.Told.{Told}
+use Rattle.sm_live.specs.Sessions.{info_of}
+use Rattle.sm_live.specs.declared.told.SessionInfo.{SessionInfo}
 use Rattle.srv_handlers.specs.Messages.{archiving, carrying, copy_for, copying, copying_to, delivering, delivering_to, number_in, telling}
 use Rattle.im_messages.specs.Entries.{entry_of}
 use Rattle.srv_route.specs.Routes.{RouteOf}
@@ -41,40 +41,40 @@ empty_where : (b : Bool) → where_so {X = ItemOut} b [] ≡ []
 empty_where true = refl
 empty_where false = refl
 
-module _ (m : MessageView) (accounts : List ℕ) (h : Hall ItemOut) where
-  abbrev pub delivered_to : Option Told → List ItemOut
+module _ (m : MessageView) (accounts : List ℕ) (h : ServerState ItemOut) where
+  abbrev pub delivered_to : Option SessionInfo → List ItemOut
   delivered_to None = []
   delivered_to (Some t) = passed_item (bare_address t.account h) (number_in t.account accounts h) m ∷ []
 
   abbrev pub delivered : ℕ → List ItemOut
-  delivered k = delivered_to (told_of k h.sessions)
+  delivered k = delivered_to (info_of k h.sessions)
 
-  abbrev pub copied_to : Bool → ℕ → Option Told → List ItemOut
+  abbrev pub copied_to : Bool → ℕ → Option SessionInfo → List ItemOut
   copied_to sent k None = []
   copied_to sent k (Some t) = copy_item (copy_for sent m accounts t.account h) (session_address k h) ∷ []
 
   abbrev pub copied : Bool → ℕ → List ItemOut
-  copied sent k = copied_to sent k (told_of k h.sessions)
+  copied sent k = copied_to sent k (info_of k h.sessions)
 
   module _ (n : ℕ) where
-    one_delivered : (k : ℕ) (o : Option Told) (more : List (Act ItemOut)) → sends_to n (delivering_to as_it_is m accounts k o h more) ≡ where_so (nat_eq k n) (delivered_to o) ++ sends_to n more
+    one_delivered : (k : ℕ) (o : Option SessionInfo) (more : List (Act ItemOut)) → sends_to n (delivering_to as_it_is m accounts k o h more) ≡ where_so (nat_eq k n) (delivered_to o) ++ sends_to n more
     one_delivered k None more = ap (λ zs. zs ++ sends_to n more) (sym (empty_where (nat_eq k n)))
     one_delivered k (Some t) more = refl
 
     all_delivered : (ks : List ℕ) (more : List (Act ItemOut)) → sends_to n (delivering as_it_is m accounts ks h more) ≡ picks (delivered n) n ks ++ sends_to n more
     all_delivered [] more = refl
     all_delivered (k ∷ ks) more =
-        one_delivered k (told_of k h.sessions) (delivering as_it_is m accounts ks h more) ∙ (λ i. same_there delivered k n i ++ all_delivered ks more i)
+        one_delivered k (info_of k h.sessions) (delivering as_it_is m accounts ks h more) ∙ (λ i. same_there delivered k n i ++ all_delivered ks more i)
         ∙ sym (append_assoc (where_so (nat_eq k n) (delivered n)) (picks (delivered n) n ks) (sends_to n more))
 
-    one_copied : (sent : Bool) (k : ℕ) (o : Option Told) (more : List (Act ItemOut)) → sends_to n (copying_to as_it_is sent m accounts k o h more) ≡ where_so (nat_eq k n) (copied_to sent k o) ++ sends_to n more
+    one_copied : (sent : Bool) (k : ℕ) (o : Option SessionInfo) (more : List (Act ItemOut)) → sends_to n (copying_to as_it_is sent m accounts k o h more) ≡ where_so (nat_eq k n) (copied_to sent k o) ++ sends_to n more
     one_copied sent k None more = ap (λ zs. zs ++ sends_to n more) (sym (empty_where (nat_eq k n)))
     one_copied sent k (Some t) more = refl
 
     all_copied : (sent : Bool) (ks : List ℕ) (more : List (Act ItemOut)) → sends_to n (copying as_it_is sent m accounts ks h more) ≡ picks (copied sent n) n ks ++ sends_to n more
     all_copied sent [] more = refl
     all_copied sent (k ∷ ks) more =
-        one_copied sent k (told_of k h.sessions) (copying as_it_is sent m accounts ks h more) ∙ (λ i. same_there (copied sent) k n i ++ all_copied sent ks more i)
+        one_copied sent k (info_of k h.sessions) (copying as_it_is sent m accounts ks h more) ∙ (λ i. same_there (copied sent) k n i ++ all_copied sent ks more i)
         ∙ sym (append_assoc (where_so (nat_eq k n) (copied sent n)) (picks (copied sent n) n ks) (sends_to n more))
 
     -- ---- what the message sends

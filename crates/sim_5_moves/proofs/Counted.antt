@@ -1,8 +1,8 @@
 -- What a client learns of how many stanzas were handled is what its session in the links is told.
 use Rattle.std.proofs.Common.{◌≡◌, ℕ, ◌+◌, ◌≤◌, true, [], ◌∷◌, Option, Some, None, length, refl, ap, subst, ◌∙◌, arith, length-append}
 use Rattle.std.proofs.lemmas.List.{length-drop}
-use Rattle.sim_3_items.specs.Clients.{ClientShows, IsOwn, IsOwnShown}
-use Rattle.sim_3_items.specs.Deeds.{Learns}
+use Rattle.sim_3_items.specs.Clients.{ClientRepresents, IsOwn, IsOwnRepresented}
+use Rattle.sim_3_items.specs.Labels.{Learns}
 use Rattle.sim_3_items.specs.Identities.{Identity, Login}
 use Rattle.sim_3_items.specs.WordItems.{told_count}
 use Rattle.sim_3_items.specs.Items.{stanzas_read}
@@ -13,7 +13,7 @@ use Rattle.sim_2_links.specs.Views.{Own, View}
 use Rattle.sim_2_events.specs.Lists.{IsDevice}
 use Rattle.sim_5_devices.proofs.Put.{own_session, queue_length, seen_there}
 use Rattle.sm_outbox.specs.Sessions.{SessionView}
-use Rattle.sim_5_devices.specs.Deeds.{DoesAll}
+use Rattle.sim_5_devices.specs.Labels.{DoesAll}
 use Rattle.sim_1_applications.specs.Devices.{Sessions, up_put}
 use Rattle.sim_1_applications.specs.Events.{acknowledged}
 use Rattle.xml_writer.specs.Items.{ItemOut}
@@ -45,12 +45,12 @@ none_above v d kept device o own =
 -- ---- behind the word
 
 -- the client has a session, and so have the links
-shown_own : (o : Option (Own ItemOut)) (s : SessionView ItemOut) → IsOwnShown o (Some s) → (own : Own ItemOut) × (o ≡ Some own) × IsOwn own s
+shown_own : (o : Option (Own ItemOut)) (s : SessionView ItemOut) → IsOwnRepresented o (Some s) → (own : Own ItemOut) × (o ≡ Some own) × IsOwn own s
 shown_own None s shown = absurd shown
 shown_own (Some own) s shown = (own, refl, shown)
 
-pub told_so : (who : Identity) (logins : ℕ → Login) (e : ItemDevice) (v : View ItemOut) (d : Sessions) (s : SessionView ItemOut) → ClientShows who logins e v → LinkKept v → IsDevice stanzas_read (seen v) d → e.client.session ≡ Some s
+pub told_so : (who : Identity) (logins : ℕ → Login) (e : ItemDevice) (v : View ItemOut) (d : Sessions) (s : SessionView ItemOut) → ClientRepresents who logins e v → LinkKept v → IsDevice stanzas_read (seen v) d → e.client.session ≡ Some s
     → s.waiting.acked ≡ told_count d.now.acked
-told_so who logins e v d s shows kept device has =
-    let mine = shown_own v.own s (subst (IsOwnShown v.own) has shows.own) in
+told_so who logins e v d s represents kept device has =
+    let mine = shown_own v.own s (subst (IsOwnRepresented v.own) has represents.own) in
     mine.2.acked ∙ ap told_count (acked_so v d kept device mine.0 mine.1)

@@ -11,30 +11,30 @@ use Rattle.cl_login.specs.declared.login_state.LoginState.TheVariants as state
 use Rattle.sim_4_links_follow.proofs.AllReads.{counts_read, end_read, expected, login_read}
 use Rattle.sim_4_links_follow.proofs.Turning.{element_at, header_at, on_element}
 use Rattle.sim_4_links_follow.proofs.Working.{phase_here}
-use Rattle.cl_handlers.specs.Clients.{ClientView, Turn}
+use Rattle.cl_handlers.specs.Clients.{ClientStep, ClientView}
 use Rattle.cl_handlers.specs.LoginSteps.{follows, goes_on, login_row, peer_fault}
 use Rattle.cl_handlers.specs.SessionRows.{features2_row, features2_with, resumes_or_binds}
 use Rattle.cl_handlers.specs.Speech.{in_items, uttered_where}
-use Rattle.cl_handlers.specs.Turns.{ends, is_apart, puts}
+use Rattle.cl_handlers.specs.ClientSteps.{ends, is_apart, puts}
 use Rattle.cl_handlers.specs.declared.events.PeerFault.{PeerFault}
 use Rattle.cl_handlers.specs.declared.events.PeerFault.TheVariants.{Closed, NoFeature, Stream, Unexpected}
 use Rattle.cl_handlers.specs.declared.phase.Phase.{Phase}
 use Rattle.cl_handlers.specs.declared.phase.Phase.TheVariants as phase
 use Rattle.sim_3_items.specs.Identities.{Identity, Login}
-use Rattle.sim_3_items.specs.Reading.{IsNextDown, IsRead, noted, turn_on}
-use Rattle.sim_3_items.specs.WordItems.{down_item, is_behind_login}
-use Rattle.sim_5_moves.specs.DownMovesWords.{IsQuiet}
+use Rattle.sim_3_items.specs.Reading.{IsNextDown, IsRead, client_step_on, noted}
+use Rattle.sim_3_items.specs.WordItems.{down_item, is_after_login}
+use Rattle.sim_5_moves.specs.DownMovesWords.{IsSilentWord}
 use Rattle.im_login.specs.Features.{features_read}
 use Rattle.im_login.specs.declared.features.Features.{Features}
 use Rattle.sim_3_items.specs.ItemPipes.{ItemWire}
-use Rattle.sim_3_items.specs.ItemWorlds.{ItemDevice, silent_turn}
+use Rattle.sim_3_items.specs.ItemWorlds.{ItemDevice, silent_client_step}
 use Rattle.sim_2_links.specs.Views.{Table, View}
 use Rattle.sim_2_links.specs.Words.{Chal, Conflict, Constraint, Down, DownWord, End, Err, Feat, Head, InAuth, InFeatures1, InFeatures2, InOnline, InResponse, Req, Succ, TooHigh}
 use Rattle.sm_outbox.specs.Sessions.{SessionView}
 use Rattle.im_payload.specs.Bare.{bare}
 use Rattle.im_payload.specs.Names.{management}
 use Rattle.im_payload.specs.declared.fault.ExtFault.{ExtFault}
-use Rattle.sim_5_moves.specs.Quiet.{SameUser}
+use Rattle.sim_5_moves.specs.Silent.{SameUser}
 use Rattle.im_login.specs.Readings.{failure_read}
 use Rattle.auth_scram.specs.Exchange.{added_nonce, expecting}
 use Rattle.im_stanza.specs.Errors.{stream_error_elem}
@@ -43,14 +43,14 @@ use Rattle.xml_trees.specs.Readers.{is_named}
 use Rattle.xml_trees.specs.Trees.{Elem}
 use Rattle.xml_writer.specs.Items.{Closing, ItemOut, Opening, Whole}
 
-pub record IsCalm (c : ClientView ItemOut) (t : Turn ItemOut ItemOut) : Type 0 where
+pub record IsCalm (c : ClientView ItemOut) (t : ClientStep ItemOut ItemOut) : Type 0 where
   pub notes : noted t.out.notes ≡ []
   pub user : SameUser c t.client
 
 pub same_user : (c : ClientView ItemOut) (at : Phase) → SameUser c (record c { phase = at })
 same_user c at = record { epoch = refl; n = refl; said = refl; session = refl; log = refl; pages = refl }
 
-calm_if : (c : ClientView ItemOut) (b : Bool) (t u : Turn ItemOut ItemOut) → IsCalm c t → IsCalm c u → IsCalm c (if b then t else u)
+calm_if : (c : ClientView ItemOut) (b : Bool) (t u : ClientStep ItemOut ItemOut) → IsCalm c t → IsCalm c u → IsCalm c (if b then t else u)
 calm_if c true t u first second = first
 calm_if c false t u first second = second
 
@@ -58,8 +58,8 @@ module _ (d : ItemDevice) where
   abbrev c : ClientView ItemOut
   c = d.client
 
-  abbrev now : Turn ItemOut ItemOut
-  now = silent_turn d.client
+  abbrev now : ClientStep ItemOut ItemOut
+  now = silent_client_step d.client
 
   nothing : IsCalm c now
   nothing = record { notes = refl; user = same_user c c.phase }
@@ -104,15 +104,15 @@ module _ (d : ItemDevice) where
 
   -- ---- items
 
-  item_calm : ((e : Elem) → IsCalm c (turn_on (Whole e) d)) → (i : ItemOut) → IsCalm c (turn_on i d)
+  item_calm : ((e : Elem) → IsCalm c (client_step_on (Whole e) d)) → (i : ItemOut) → IsCalm c (client_step_on i d)
   item_calm each (Opening h) = header_calm c.phase
   item_calm each (Whole e) = each e
   item_calm each Closing = calm_if c (is_apart c.phase) now (ends now Closed) nothing (ended Closed)
 
-  login_item : (s : LoginState) → c.phase ≡ phase.Login s → (i : ItemOut) → IsCalm c (turn_on i d)
+  login_item : (s : LoginState) → c.phase ≡ phase.Login s → (i : ItemOut) → IsCalm c (client_step_on i d)
   login_item s at i = item_calm (λ e. subst (IsCalm c) (sym (on_element d e (phase.Login s) at)) (login_calm s e)) i
 
-  features_item : c.phase ≡ phase.Features2 → (i : ItemOut) → IsCalm c (turn_on i d)
+  features_item : c.phase ≡ phase.Features2 → (i : ItemOut) → IsCalm c (client_step_on i d)
   features_item at i = item_calm (λ e. subst (IsCalm c) (sym (on_element d e phase.Features2 at)) (features_calm e)) i
 
   -- ---- a request, and an error of the stream
@@ -124,10 +124,10 @@ module _ (d : ItemDevice) where
   answers_calm None = nothing
   answers_calm (Some s) = record { notes = refl; user = same_user c c.phase }
 
-  request_item : c.phase ≡ phase.Online → IsCalm c (turn_on (Whole request) d)
+  request_item : c.phase ≡ phase.Online → IsCalm c (client_step_on (Whole request) d)
   request_item at = subst (IsCalm c) (sym (on_element d request phase.Online at)) (answers_calm c.session)
 
-  error_item : (condition : List ℕ) → IsCalm c (turn_on (Whole (stream_error_elem condition None)) d)
+  error_item : (condition : List ℕ) → IsCalm c (client_step_on (Whole (stream_error_elem condition None)) d)
   error_item condition =
       let e : Elem = stream_error_elem condition None in
       calm_if c (is_apart c.phase) now (ends now (Stream (stream_condition e))) nothing (ended (Stream (stream_condition e)))
@@ -139,16 +139,16 @@ module _ (who : Identity) (logins : ℕ → Login) (d : ItemDevice) (wires : Tab
   never (inl e) = cc e
   never (inr e) = cc e
 
-  pub word_calm : (word : DownWord ItemOut) (p : IsNextDown who logins d wires v k word) → IsQuiet word → IsCalm d.client (turn_on (down_item who (logins k) k (is_behind_login p.conn.client) word) d)
+  pub word_calm : (word : DownWord ItemOut) (p : IsNextDown who logins d wires v k word) → IsSilentWord word → IsCalm d.client (client_step_on (down_item who (logins k) k (is_after_login p.conn.client) word) d)
   word_calm Head p is = header_calm d d.client.phase
   word_calm Feat p is = elim (expected who logins d wires v k Feat p) [
-    | inl at ↦ login_item d (state.Features1 (added_nonce (logins k).mine)) (phase_here who logins d wires v k Feat p InFeatures1 at) (down_item who (logins k) k (is_behind_login p.conn.client) Feat)
-    | inr at ↦ features_item d (phase_here who logins d wires v k Feat p InFeatures2 at) (down_item who (logins k) k (is_behind_login p.conn.client) Feat)
+    | inl at ↦ login_item d (state.Features1 (added_nonce (logins k).mine)) (phase_here who logins d wires v k Feat p InFeatures1 at) (down_item who (logins k) k (is_after_login p.conn.client) Feat)
+    | inr at ↦ features_item d (phase_here who logins d wires v k Feat p InFeatures2 at) (down_item who (logins k) k (is_after_login p.conn.client) Feat)
   ]
   word_calm Chal p is =
-      login_item d (state.Authing (logins k).client) (phase_here who logins d wires v k Chal p InAuth (expected who logins d wires v k Chal p)) (down_item who (logins k) k (is_behind_login p.conn.client) Chal)
+      login_item d (state.Authing (logins k).client) (phase_here who logins d wires v k Chal p InAuth (expected who logins d wires v k Chal p)) (down_item who (logins k) k (is_after_login p.conn.client) Chal)
   word_calm Succ p is =
-      login_item d (state.Responding (expecting (logins k).client (Ok (logins k).reply))) (phase_here who logins d wires v k Succ p InResponse (expected who logins d wires v k Succ p)) (down_item who (logins k) k (is_behind_login p.conn.client) Succ)
+      login_item d (state.Responding (expecting (logins k).client (Ok (logins k).reply))) (phase_here who logins d wires v k Succ p InResponse (expected who logins d wires v k Succ p)) (down_item who (logins k) k (is_after_login p.conn.client) Succ)
   word_calm (Down Req) p is = let e = expected who logins d wires v k (Down Req) p in request_item d (phase_here who logins d wires v k (Down Req) p (InOnline e.0.number) e.2)
   word_calm (Err Conflict) p is = error_item d (codes "conflict")
   word_calm (Err Constraint) p is = error_item d (codes "resource-constraint")
@@ -156,7 +156,7 @@ module _ (who : Identity) (logins : ℕ → Login) (d : ItemDevice) (wires : Tab
   word_calm End p is = absurd (expected who logins d wires v k End p)
   word_calm _ p is = absurd is
 
-  pub word_read : (word : DownWord ItemOut) (p : IsNextDown who logins d wires v k word) → IsQuiet word → IsRead who logins d wires v k p.conn p.wire word
+  pub word_read : (word : DownWord ItemOut) (p : IsNextDown who logins d wires v k word) → IsSilentWord word → IsRead who logins d wires v k p.conn p.wire word
   word_read Head p is = login_read who logins d wires v k Head p tt
   word_read Feat p is = login_read who logins d wires v k Feat p tt
   word_read Chal p is = login_read who logins d wires v k Chal p tt

@@ -3,24 +3,24 @@ use Rattle.std.proofs.Common.{◌≡◌, ℕ, ◌==◌, true, false, List, [], �
 use Rattle.std.proofs.lemmas.Bool.{cases_Bool}
 use Rattle.std.specs.List.{AllByRecursion, slice_get}
 use Rattle.mam_archive.specs.Entries.{EntryView, entry_numbered}
-use Rattle.srv_state.specs.State.{Hall, Kept, Step}
+use Rattle.srv_state.specs.State.{Kept, ServerState, Step}
 use Rattle.srv_state.specs.Steps.{Act, Copy, Handle, Send, act, acted, in_sessions}
 use Rattle.im_forwarding.specs.Results.{AskerView, fin_item}
 use Rattle.sim_5_moves.proofs.AnswersReplies.{carbons_does, iq_in, iq_of_switch, page, presence_does, request_does}
 use Rattle.sim_5_moves.specs.Sent.{as_it_is, does_on}
-use Rattle.sim_3_items.specs.ItemMoves.{step_of, takes_told}
+use Rattle.sim_3_items.specs.ItemMoves.{step_of, takes_reported}
 use Rattle.sim_3_items.specs.ItemWorlds.{itself}
 use Rattle.sm_live.specs.Sessions.{Session, asks, copies, handles, presents, told, waits, with_session}
-use Rattle.sm_live.specs.declared.told.Told.{Told}
+use Rattle.sm_live.specs.declared.told.SessionInfo.{SessionInfo}
 use Rattle.mam_pages.specs.Cuts.{CutView}
 use Rattle.im_replies.specs.Requests.{result_item}
-use Rattle.sim_5_moves.proofs.Halls.{around}
+use Rattle.sim_5_moves.proofs.ServerStates.{around}
 use Rattle.sim_5_moves.proofs.Walks.{Goes, IsSend, IsSteady, all_changed, all_weaker, counting_first, then_counted, then_sends, then_sessions}
-use Rattle.sim_5_moves.specs.Replied.{IsReplyCase, around_of, behind}
+use Rattle.sim_5_moves.specs.Replied.{IsReplyCase, around_of, following}
 use Rattle.srv_handlers.specs.Requests.{asker_of, envelope_of, paging, sending_entries, sending_entry}
 use Rattle.im_requests.specs.Messages.{queryid_text}
 use Rattle.cmd_schedule.specs.Contents.{Owned}
-use Rattle.sim_3_items.specs.Served.{IsOfDevice, ServerRuns}
+use Rattle.sim_3_items.specs.Served.{IsOfDevice, ServerSimulates}
 use Rattle.sim_1_applications.specs.Devices.{Take}
 use Rattle.sim_1_applications.specs.Stanzas.{Carbons, Message, Presence, Query, Up}
 use Rattle.im_stanza.specs.Views.{IqView}
@@ -45,7 +45,7 @@ module _ (n : ℕ) (asker : AskerView) (entries : List EntryView) (more : List (
   entries_sent [] = all
   entries_sent (k ∷ ks) = entry_sent (entry_numbered k entries) (sending_entries as_it_is n asker entries ks more) (entries_sent ks)
 
-page_sent : (q : IqView) (t : Told) (queryid : List ℕ) (kept : Kept) (cut : Option CutView) (h : Hall ItemOut) → AllByRecursion IsSend (paging as_it_is q t queryid kept cut h)
+page_sent : (q : IqView) (t : SessionInfo) (queryid : List ℕ) (kept : Kept) (cut : Option CutView) (h : ServerState ItemOut) → AllByRecursion IsSend (paging as_it_is q t queryid kept cut h)
 page_sent q t queryid kept None h = (tt, tt)
 page_sent q t queryid kept (Some cut) h = entries_sent t.number (asker_of t queryid h) kept.entries (Send t.number (fin_item (envelope_of q t h) cut) ∷ []) (tt, tt) cut.numbers
 
@@ -62,7 +62,7 @@ module _ (P Q : Session ItemOut → Type 0) (before : IsSteady P) (after : IsSte
     domain = goes.domain;
     accounts = goes.accounts;
     archives = goes.archives;
-    sessions = all_weaker P Q weaker next.hall.sessions goes.sessions;
+    sessions = all_weaker P Q weaker next.server_state.sessions goes.sessions;
     told = goes.told;
   }
     where
@@ -73,7 +73,7 @@ module _ (P Q : Session ItemOut → Type 0) (before : IsSteady P) (after : IsSte
       ]
 
 module _ (P Q : Session ItemOut → Type 0) (before : IsSteady P) (after : IsSteady Q)
-    (keep : ℕ) (owned : List Owned) (names : List (List ℕ)) (takes : List Take) (h : Hall ItemOut) (o : Owned) (s : Session ItemOut) (all : AllByRecursion P h.sessions) where
+    (keep : ℕ) (owned : List Owned) (names : List (List ℕ)) (takes : List Take) (h : ServerState ItemOut) (o : Owned) (s : Session ItemOut) (all : AllByRecursion P h.sessions) where
   abbrev n : ℕ
   n = s.shown.number
 
@@ -83,24 +83,24 @@ module _ (P Q : Session ItemOut → Type 0) (before : IsSteady P) (after : IsSte
   first_goes : Goes P (step_of h) first
   first_goes = then_counted P before s.shown.counted n (step_of h) all
 
-  behind_is : (e : Elem) (acts : List (Act ItemOut)) → does_on e (told s) h ≡ acts → behind e s h ≡ acted itself acts first
-  behind_is e acts is = counting_first s.shown.counted n (does_on e (told s) h) (step_of h) ∙ ap (λ a. acted itself a first) is
+  after_is : (e : Elem) (acts : List (Act ItemOut)) → does_on e (told s) h ≡ acts → following e s h ≡ acted itself acts first
+  after_is e acts is = counting_first s.shown.counted n (does_on e (told s) h) (step_of h) ∙ ap (λ a. acted itself a first) is
 
-  pub behind_goes : (x : Up) (e : Elem) → IsReplyCase keep owned names takes h o s x e
-      → ((t : Session ItemOut) → (t.shown.number == n) ≡ true → P t → Q (alters x t)) → ((t : Session ItemOut) → (t.shown.number == n) ≡ false → P t → Q t) → Goes Q (step_of h) (behind e s h)
-  behind_goes Carbons e is here elsewhere =
+  pub after_goes : (x : Up) (e : Elem) → IsReplyCase keep owned names takes h o s x e
+      → ((t : Session ItemOut) → (t.shown.number == n) ≡ true → P t → Q (alters x t)) → ((t : Session ItemOut) → (t.shown.number == n) ≡ false → P t → Q t) → Goes Q (step_of h) (following e s h)
+  after_goes Carbons e is here elsewhere =
       let z = result_item (envelope_of iq_of_switch (told s) h) no_nodes in
-      subst (Goes Q (step_of h)) (sym (behind_is e _ (carbons_does (told s) h e (sym is.built))))
+      subst (Goes Q (step_of h)) (sym (after_is e _ (carbons_does (told s) h e (sym is.built))))
       (then_sends Q after (Send n z ∷ []) (tt, tt) (step_of h) (act itself (Copy n true) first) (switched P Q before after Carbons n here elsewhere (step_of h) first first_goes))
-  behind_goes Presence e is here elsewhere =
-      subst (Goes Q (step_of h)) (sym (behind_is e _ (presence_does (told s) h e (sym is.built)))) (switched P Q before after Presence n here elsewhere (step_of h) first first_goes)
-  behind_goes (Message m) e is here elsewhere = absurd is.replied
-  behind_goes (Query r) e is here elsewhere =
+  after_goes Presence e is here elsewhere =
+      subst (Goes Q (step_of h)) (sym (after_is e _ (presence_does (told s) h e (sym is.built)))) (switched P Q before after Presence n here elsewhere (step_of h) first first_goes)
+  after_goes (Message m) e is here elsewhere = absurd is.replied
+  after_goes (Query r) e is here elsewhere =
       let known = around keep owned names takes h is.runs o s is.session is.some is.few in
       let a = around_of keep names takes o.account in
       let cut = page a (told s) h r known is.replied in
       let acts = paging as_it_is (iq_in r) (told s) (queryid_text r.number) known.kept cut h in
-      subst (Goes Q (step_of h)) (sym (behind_is e acts (request_does a (told s) h r known is.replied e (sym is.built.0))))
+      subst (Goes Q (step_of h)) (sym (after_is e acts (request_does a (told s) h r known is.replied e (sym is.built.0))))
       (then_sends Q after acts (page_sent (iq_in r) (told s) (queryid_text r.number) known.kept cut h) (step_of h) first
       (unswitched P Q before after (Query r) n here elsewhere (λ t. refl) (step_of h) first first_goes))
 
@@ -112,7 +112,7 @@ module _ (keep : ℕ) (owned : List Owned) (names : List (List ℕ)) where
 
   pub same_owner : (s t : Session ItemOut) → t.shown.account ≡ s.shown.account → t.shown.resource ≡ s.shown.resource → Owns s → Owns t
   same_owner s t account resource is = record {
-    place = is.place;
+    position = is.position;
     device = is.device;
     there = is.there;
     account = ap (slice_get names) account ∙ is.account;
@@ -132,20 +132,20 @@ module _ (keep : ℕ) (owned : List Owned) (names : List (List ℕ)) where
   altered_owner (Message m) s is = is
   altered_owner (Query r) s is = is
 
-  pub runs_on : (takes : List Take) (h next : Hall ItemOut) → next.domain ≡ h.domain → next.accounts ≡ h.accounts → next.archives ≡ h.archives → AllByRecursion Owns next.sessions → ServerRuns keep owned names takes h → ServerRuns keep owned names takes next
+  pub runs_on : (takes : List Take) (h next : ServerState ItemOut) → next.domain ≡ h.domain → next.accounts ≡ h.accounts → next.archives ≡ h.archives → AllByRecursion Owns next.sessions → ServerSimulates keep owned names takes h → ServerSimulates keep owned names takes next
   runs_on takes h next domain accounts archives sessions runs = record {
     configured = record { domain = domain ∙ runs.configured.domain; accounts = accounts ∙ runs.configured.accounts };
-    archives = λ place name there. ap (λ (all : List Kept). slice_get all place) archives ∙ runs.archives place name there;
+    archives = λ position name there. ap (λ (all : List Kept). slice_get all position) archives ∙ runs.archives position name there;
     many = ap length archives ∙ runs.many;
     sessions = sessions;
   }
 
-  module _ (takes : List Take) (h : Hall ItemOut) (o : Owned) (s : Session ItemOut) (x : Up) (e : Elem) (is : IsReplyCase keep owned names takes h o s x e) where
-    owns_goes : Goes Owns (step_of h) (behind e s h)
-    owns_goes = behind_goes Owns Owns owns_steady owns_steady keep owned names takes h o s is.runs.sessions x e is (λ t here own. altered_owner x t own) (λ t other own. own)
+  module _ (takes : List Take) (h : ServerState ItemOut) (o : Owned) (s : Session ItemOut) (x : Up) (e : Elem) (is : IsReplyCase keep owned names takes h o s x e) where
+    owns_goes : Goes Owns (step_of h) (following e s h)
+    owns_goes = after_goes Owns Owns owns_steady owns_steady keep owned names takes h o s is.runs.sessions x e is (λ t here own. altered_owner x t own) (λ t other own. own)
 
-    pub still_runs : ServerRuns keep owned names takes (behind e s h).hall
-    still_runs = runs_on takes h (behind e s h).hall owns_goes.domain owns_goes.accounts owns_goes.archives owns_goes.sessions is.runs
+    pub still_runs : ServerSimulates keep owned names takes (following e s h).server_state
+    still_runs = runs_on takes h (following e s h).server_state owns_goes.domain owns_goes.accounts owns_goes.archives owns_goes.sessions is.runs
 
-    pub tells_nothing : (moment : ℕ) → takes_told moment (behind e s h).outs ≡ []
+    pub tells_nothing : (moment : ℕ) → takes_reported moment (following e s h).outs ≡ []
     tells_nothing moment = owns_goes.told moment

@@ -1,13 +1,13 @@
--- Where no device has a deed, all drift, and the worlds are beside one another still.
+-- Where no device has a label, all drift, and the worlds are related still.
 use Rattle.std.proofs.Common.{◌≡◌, ℕ, ◌+◌, ◌≤◌, ◌<◌, List, [], ◌∷◌, ◌++◌, Some, length, refl, sym, ap, subst, ◌∙◌, append-nil, arith}
 use Rattle.std.proofs.lemmas.Option.{same_Some, slice_get_within}
 use Rattle.std.specs.List.{slice_get}
-use Rattle.mam_archive.proofs.NumberedEntries.{at_place}
+use Rattle.mam_archive.proofs.NumberedEntries.{at_position}
 use Rattle.sim_4_links_follow.specs.Following.{WorldFollows}
 use Rattle.sim_3_images.specs.Devices.{identity_at}
-use Rattle.sim_3_items.specs.Deeds.{awaits}
+use Rattle.sim_3_items.specs.Labels.{awaits}
 use Rattle.sim_3_items.specs.Identities.{Login}
-use Rattle.sim_3_items.specs.Shows.{Shows}
+use Rattle.sim_3_items.specs.Represents.{Represents}
 use Rattle.sim_3_items.specs.Items.{stanzas_read}
 use Rattle.sim_3_items.specs.ItemWorlds.{ItemWorld}
 use Rattle.sim_2_links.proofs.Reached.{link_kept}
@@ -18,50 +18,50 @@ use Rattle.sim_2_links.specs.Paging.{PagingReached}
 use Rattle.sim_2_links.specs.Views.{View}
 use Rattle.sim_2_events.specs.Lists.{IsDevice}
 use Rattle.sim_5_devices.specs.InTime.{paging_here}
-use Rattle.sim_5_devices.specs.Shown.{LogShows}
-use Rattle.sim_5_moves.proofs.QuietWorldsFlags.{IsNamedBare, flags_behind}
-use Rattle.sim_5_moves.proofs.QuietWorldsUsers.{drifts_show_submissions, same_submissions}
-use Rattle.sim_5_moves.specs.Quiet.{QuietDevice, QuietRuns, QuietWorld}
+use Rattle.sim_5_devices.specs.Shown.{LogRepresents}
+use Rattle.sim_5_moves.proofs.QuietWorldsFlags.{IsNamedBare, flags_after}
+use Rattle.sim_5_moves.proofs.QuietWorldsUsers.{same_submissions, session_steps_show_submissions}
+use Rattle.sim_5_moves.specs.Silent.{SilentDevice, SilentSimulates, SilentWorld}
 use Rattle.cmd_schedule.specs.Contents.{Owned}
 use Rattle.cmd_schedule.specs.Schedules.{WireView}
-use Rattle.sim_5_devices.proofs.AllDrifts.{all_drift, reaches_both, spoken_both}
-use Rattle.sim_5_devices.specs.Deeds.{AllDrift, Drift, Drifts, IsDrifted}
-use Rattle.sim_3_items.specs.Served.{FlagsShow}
-use Rattle.sim_3_items.specs.Submitted.{SubmissionsShow}
-use Rattle.sim_1_applications.specs.Devices.{Device, Sessions, World}
-use Rattle.sim_1_applications.specs.Events.{Event, Reaches, Tick}
+use Rattle.sim_5_devices.proofs.AllSessionSteps.{all_session_step, reaches_both, spoken_both}
+use Rattle.sim_5_devices.specs.Labels.{AllStep, HasSessionSteps, SessionStep, SessionSteps}
+use Rattle.sim_3_items.specs.Served.{FlagsRepresent}
+use Rattle.sim_3_items.specs.Submitted.{SubmissionsRepresent}
+use Rattle.sim_1_applications.specs.Devices.{AppWorld, Device, Sessions}
+use Rattle.sim_1_applications.specs.Events.{AppEvent, Reaches, Tick}
 use Rattle.sim_1_applications.specs.Histories.{spoken_in}
 use Rattle.sim_1_applications.specs.Kept.{Taken}
 use Rattle.sim_1_applications.specs.Runs.{begins, owned_of}
 use Rattle.sim_5_moves.proofs.Going.{goes}
 use Rattle.sim_5_moves.specs.Going.{AllBuilt, DeviceGoes}
-use Rattle.sim_5_moves.specs.Running.{Bounds, DeviceRuns, IsOwned, WorldRuns, history_for, keep_in}
+use Rattle.sim_5_moves.specs.Running.{Bounds, DeviceSimulates, IsOwned, WorldSimulates, history_for, keep_in}
 use Rattle.xml_writer.specs.Items.{ItemOut}
 
 -- what a device is behind the move, but for its place in the world of the applications
-pub record Stands (schedule : WireView) (after : ItemWorld) (x : World) (i : ℕ) (d : Device) (last : Sessions) (o : Owned) : Type 0 where
+pub record Stands (schedule : WireView) (after : ItemWorld) (x : AppWorld) (i : ℕ) (d : Device) (last : Sessions) (o : Owned) : Type 0 where
   pub logins : ℕ → Login
   pub view : View ItemOut
   pub in_time : PagingReached paging_here view
   pub prompt : PromptReached awaits view
-  pub shows : Shows (identity_at schedule i o) logins after view
+  pub represents : Represents (identity_at schedule i o) logins after view
   pub account : d.account ≡ o.account
   pub sessions : IsDevice stanzas_read (seen view) last
   pub built : AllBuilt o (history_for schedule x.takes o) (seen view)
-  pub submissions : SubmissionsShow shows.device.client last
-  pub log : LogShows (keep_in schedule) (history_for schedule x.takes o) shows.device.client.log d.reading
-  pub pages : shows.device.client.pages ≡ d.reading.asked
-  pub flags : FlagsShow (identity_at schedule i o).account o.device after.server last
+  pub submissions : SubmissionsRepresent represents.device.client last
+  pub log : LogRepresents (keep_in schedule) (history_for schedule x.takes o) represents.device.client.log d.reading
+  pub pages : represents.device.client.pages ≡ d.reading.asked
+  pub flags : FlagsRepresent (identity_at schedule i o).account o.device after.server last
 
-abbrev IsSo : WireView → ItemWorld → World → ℕ → Device → Sessions → Type 0
+abbrev IsSo : WireView → ItemWorld → AppWorld → ℕ → Device → Sessions → Type 0
 IsSo schedule after x i d last = (o : Owned) × IsOwned schedule i o × Stands schedule after x i d last o
 
-module _ (schedule : WireView) (b : Bounds) (says : ℕ) (w : ItemWorld) (x : World) (runs : WorldRuns schedule b says w x) (taken : Taken x) (after : ItemWorld) (passed : ℕ) (quiet : QuietWorld schedule b w x after passed) where
+module _ (schedule : WireView) (b : Bounds) (says : ℕ) (w : ItemWorld) (x : AppWorld) (runs : WorldSimulates schedule b says w x) (taken : Taken x) (after : ItemWorld) (passed : ℕ) (quiet : SilentWorld schedule b w x after passed) where
   module _ (i : ℕ) (o : Owned) (owned : IsOwned schedule i o) where
-    abbrev old : DeviceRuns schedule w x i o
+    abbrev old : DeviceSimulates schedule w x i o
     old = runs.devices i o owned
 
-    abbrev move : QuietDevice schedule w x i o old after
+    abbrev move : SilentDevice schedule w x i o old after
     move = quiet.devices i o owned old
 
     gone : DeviceGoes schedule after i o (history_for schedule x.takes o) [] old.device.sessions
@@ -70,12 +70,12 @@ module _ (schedule : WireView) (b : Bounds) (says : ℕ) (w : ItemWorld) (x : Wo
     bare : IsNamedBare old.device.sessions
     bare = λ stage. let s = (taken.devices i old.device old.there).sessions.now.is_session in (s.available stage, s.carbons stage)
 
-    old_stands : (y : IsDrifted old.device) × IsSo schedule after x i old.device y.last
+    old_stands : (y : HasSessionSteps old.device) × IsSo schedule after x i old.device y.last
     old_stands =
-        let user = move.user gone.shows.device gone.shows.there in
-        let xs = gone.amid.0 in
-        let leads = gone.amid.1 in (
-          record { drifts = xs; last = gone.end; leads = leads },
+        let user = move.user gone.represents.device gone.represents.there in
+        let xs = gone.interleaved.0 in
+        let leads = gone.interleaved.1 in (
+          record { session_steps = xs; last = gone.end; leads = leads },
           (
             o,
             owned,
@@ -84,34 +84,34 @@ module _ (schedule : WireView) (b : Bounds) (says : ℕ) (w : ItemWorld) (x : Wo
               view = gone.view;
               in_time = gone.in_time;
               prompt = gone.prompt;
-              shows = gone.shows;
+              represents = gone.represents;
               account = old.account;
               sessions = gone.sessions;
               built = gone.built;
-              submissions = same_submissions old.shows.device.client gone.shows.device.client gone.end user (drifts_show_submissions xs old.shows.device.client old.device.sessions gone.end leads old.submissions);
-              log = subst (λ l. LogShows (keep_in schedule) (history_for schedule x.takes o) l old.device.reading) (sym user.log) old.log;
+              submissions = same_submissions old.represents.device.client gone.represents.device.client gone.end user (session_steps_show_submissions xs old.represents.device.client old.device.sessions gone.end leads old.submissions);
+              log = subst (λ l. LogRepresents (keep_in schedule) (history_for schedule x.takes o) l old.device.reading) (sym user.log) old.log;
               pages = user.pages ∙ old.pages;
-              flags = flags_behind stanzas_read (identity_at schedule i o) w.server after.server old.logins gone.logins old.view gone.view (link_kept gone.view gone.reached) old.shows.server gone.shows.server old.device.sessions gone.end old.sessions gone.sessions xs leads bare old.flags move.flags;
+              flags = flags_after stanzas_read (identity_at schedule i o) w.server after.server old.logins gone.logins old.view gone.view (link_kept gone.view gone.reached) old.represents.server gone.represents.server old.device.sessions gone.end old.sessions gone.sessions xs leads bare old.flags move.flags;
             },
           ),
         )
 
-  device_stands : (i : ℕ) (d : Device) → slice_get x.devices i ≡ Some d → (y : IsDrifted d) × IsSo schedule after x i d y.last
+  device_stands : (i : ℕ) (d : Device) → slice_get x.devices i ≡ Some d → (y : HasSessionSteps d) × IsSo schedule after x i d y.last
   device_stands i d there =
       let within = slice_get_within x.devices i d there in
       let many = runs.many_there in
-      let owner = at_place i (owned_of schedule) (omega (arith, within, many)) in
+      let owner = at_position i (owned_of schedule) (omega (arith, within, many)) in
       let device = (runs.devices i owner.0 owner.1).device in
       let same : device ≡ d = same_Some device d (sym (runs.devices i owner.0 owner.1).there ∙ there) in
-      subst (λ e. (y : IsDrifted e) × IsSo schedule after x i e y.last) same (old_stands i owner.0 owner.1)
+      subst (λ e. (y : HasSessionSteps e) × IsSo schedule after x i e y.last) same (old_stands i owner.0 owner.1)
 
-  all : AllDrift (IsSo schedule after x) (record x { clock = x.clock + passed })
-  all = all_drift (IsSo schedule after x) (record x { clock = x.clock + passed }) device_stands
+  all : AllStep (IsSo schedule after x) (record x { clock = x.clock + passed })
+  all = all_session_step (IsSo schedule after x) (record x { clock = x.clock + passed }) device_stands
 
-  abbrev next : World
+  abbrev next : AppWorld
   next = record x { clock = x.clock + passed; devices = all.devices }
 
-  device_runs : (i : ℕ) (o : Owned) → IsOwned schedule i o → DeviceRuns schedule after next i o
+  device_runs : (i : ℕ) (o : Owned) → IsOwned schedule i o → DeviceSimulates schedule after next i o
   device_runs i o owned =
       let before = runs.devices i o owned in
       let e = all.each i before.device before.there in
@@ -121,7 +121,7 @@ module _ (schedule : WireView) (b : Bounds) (says : ℕ) (w : ItemWorld) (x : Wo
         view = st.view;
         in_time = st.in_time;
         prompt = st.prompt;
-        shows = st.shows;
+        represents = st.represents;
         device = record before.device { sessions = e.0 };
         there = e.2;
         account = st.account;
@@ -134,18 +134,18 @@ module _ (schedule : WireView) (b : Bounds) (says : ℕ) (w : ItemWorld) (x : Wo
       }
 
   asked_same : (i : ℕ) (d e : Device) → slice_get x.devices i ≡ Some d → slice_get all.devices i ≡ Some e → e.reading.asked ≡ d.reading.asked
-  asked_same i d e there behind = let y = all.each i d there in ap (λ (f : Device). f.reading.asked) (same_Some e (record d { sessions = y.0 }) (sym behind ∙ y.2))
+  asked_same i d e there following = let y = all.each i d there in ap (λ (f : Device). f.reading.asked) (same_Some e (record d { sessions = y.0 }) (sym following ∙ y.2))
 
   asked_still : (i : ℕ) (e : Device) → slice_get all.devices i ≡ Some e → e.reading.asked ≤ b.pages + 1
-  asked_still i e behind =
-      let within = slice_get_within all.devices i e behind in
+  asked_still i e following =
+      let within = slice_get_within all.devices i e following in
       let many = all.many in
-      let d = at_place i x.devices (omega (arith, within, many)) in
-      let same = asked_same i d.0 e d.1 behind in
+      let d = at_position i x.devices (omega (arith, within, many)) in
+      let same = asked_same i d.0 e d.1 following in
       let few = runs.asked i d.0 d.1 in
       omega (arith, same, few)
 
-  pub quiet_runs : QuietRuns schedule b says x after
+  pub quiet_runs : SilentSimulates schedule b says x after
   quiet_runs = record {
     events = Tick passed ∷ all.events;
     next = next;

@@ -2,44 +2,44 @@
 use Rattle.std.proofs.Common.{◌≡◌, ◌≢◌, ◌≤◌, ◌+◌, ℕ, false, List, [], ◌∷◌, ◌++◌, drop, length, refl, sym, ap, ap₂, subst, ◌∙◌, append_assoc, arith}
 use Rattle.std.proofs.lemmas.List.{length-drop}
 use Rattle.mam_archive.specs.Entries.{EntryView}
-use Rattle.cl_handlers.specs.Clients.{Turn}
+use Rattle.cl_handlers.specs.Clients.{ClientStep}
 use Rattle.cl_handlers.specs.SessionRows.{begins}
 use Rattle.cl_handlers.specs.Speech.{in_items}
-use Rattle.sim_5_moves.proofs.ClientsDrifted.{IsDriftedTo, drifted_to}
-use Rattle.sim_3_items.specs.Deeds.{Deed, Enters, Says}
+use Rattle.sim_5_moves.proofs.ClientsStepped.{IsSteppedTo, stepped_to}
+use Rattle.sim_3_items.specs.Labels.{Enters, Label, Says}
 use Rattle.sim_3_items.specs.Reading.{noted}
 use Rattle.sim_3_items.proofs.ItemsUp.{carbons_read, presence_read}
 use Rattle.sim_3_items.specs.Items.{stanzas_read}
 use Rattle.sim_3_items.specs.ItemMoves.{Down}
-use Rattle.sim_3_items.specs.ItemWorlds.{ItemDevice, ItemWorld, silent_turn}
+use Rattle.sim_3_items.specs.ItemWorlds.{ItemDevice, ItemWorld, silent_client_step}
 use Rattle.sim_2_events.proofs.Acts.{first_two}
 use Rattle.sim_2_events.specs.Acts.{MayAct}
 use Rattle.sim_2_events.specs.Lists.{knows}
 use Rattle.sim_5_devices.specs.InTime.{AreInTime}
-use Rattle.sim_5_devices.specs.Shown.{LogShows}
+use Rattle.sim_5_devices.specs.Shown.{LogRepresents}
 use Rattle.sim_5_moves.proofs.Acting.{act_reaches, act_spoken}
 use Rattle.im_requests.specs.Sessions.{available_item, carbons_item}
 use Rattle.sm_resumption.specs.Previds.{previd_of}
 use Rattle.cmd_schedule.specs.Contents.{Owned}
 use Rattle.cmd_schedule.specs.Schedules.{WireView}
-use Rattle.sim_5_devices.proofs.Sorted.{drifts_first, enable_at}
-use Rattle.sim_5_devices.specs.Deeds.{Binds, Counts, DoesAll, DoesAmid, Drift, Drifts, Ends, drift_events, drifted}
+use Rattle.sim_5_devices.proofs.Sorted.{enable_at, session_steps_first}
+use Rattle.sim_5_devices.specs.Labels.{Binds, Counts, DoesAll, DoesInterleaved, Ends, SessionStep, SessionSteps, session_step_events, session_stepped}
 use Rattle.sim_3_items.specs.Built.{IsUpAs}
-use Rattle.sim_3_items.specs.Submitted.{SubmissionsShow}
-use Rattle.sim_1_applications.specs.Devices.{Counted, Device, Known, Named, Session, Sessions, World, up_put}
+use Rattle.sim_3_items.specs.Submitted.{SubmissionsRepresent}
+use Rattle.sim_1_applications.specs.Devices.{AppWorld, Counted, Device, Known, Named, Session, Sessions, up_put}
 use Rattle.sim_1_applications.specs.Events.{At, ReadEnabled, goes_online, put_up}
 use Rattle.sim_1_applications.specs.Kept.{IsSession}
 use Rattle.sim_1_applications.specs.Stanzas.{Carbons, Presence, Up}
 use Rattle.sim_5_moves.proofs.SessionWordsComing as coming
-use Rattle.sim_5_moves.proofs.SessionWordsComing.{Coming, IsHeard, acted_by, amid, between_both, end, flags_there, heard_runs, history, old, t}
+use Rattle.sim_5_moves.proofs.SessionWordsComing.{Coming, IsHeard, acted_by, between_both, end, flags_there, heard_runs, history, interleaved, old, t}
 use Rattle.sim_5_devices.proofs.SubmissionsEnds.{entered_told}
 use Rattle.sim_5_devices.proofs.Served.{same_told}
 use Rattle.sim_5_devices.specs.Told.{SameUps}
 use Rattle.sim_5_moves.specs.Going.{ArePutBuilt}
-use Rattle.sim_5_moves.specs.Running.{Bounds, DeviceRuns, MoveRuns, keep_in}
+use Rattle.sim_5_moves.specs.Running.{Bounds, DeviceSimulates, MoveSimulates, keep_in}
 use Rattle.xml_writer.specs.Items.{ItemOut}
 
-abbrev enters : List (Deed ItemOut)
+abbrev enters : List (Label ItemOut)
 enters = Enters ∷ Says carbons_item ∷ Says available_item ∷ []
 
 abbrev entered : Sessions → Sessions
@@ -54,11 +54,11 @@ enters_so there last (one, (may, is), (two, (on, at), (three, (still, so), same)
 )
 
 -- what the client knows to be counted stays so
-still_known : (xs : List Drift) (d last : Sessions) → Drifts xs d last → d.now.stage ≡ Known → last.now.stage ≡ Known
+still_known : (xs : List SessionStep) (d last : Sessions) → SessionSteps xs d last → d.now.stage ≡ Known → last.now.stage ≡ Known
 still_known [] d last same known = ap (λ (s : Sessions). s.now.stage) same ∙ known
-still_known (Binds ∷ xs) d last by known = still_known xs (drifted Binds d) last by.1 known
+still_known (Binds ∷ xs) d last by known = still_known xs (session_stepped Binds d) last by.1 known
 still_known (Counts ∷ xs) d last by known = absurd (let both : Known ≡ Named = sym known ∙ (enable_at d by.0).1 in let no_way : ⊥ = cc in no_way)
-still_known (Ends ∷ xs) d last by known = still_known xs (drifted Ends d) last by.1 known
+still_known (Ends ∷ xs) d last by known = still_known xs (session_stepped Ends d) last by.1 known
 
 one_more : (acked most : ℕ) (l : List Up) → length l ≤ most → most + 1 ≤ 1000 → length (drop acked l) + 1 ≤ 1000
 one_more acked most l few room = let e = length-drop acked l in omega arith
@@ -78,7 +78,7 @@ enters_timely s none = (
 enters_built : (o : Owned) (entries : List EntryView) → ArePutBuilt o entries enters
 enters_built o entries = (subst (λ y. IsUpAs o y carbons_item) (sym carbons_read) refl, (subst (λ y. IsUpAs o y available_item) (sym presence_read) refl, tt))
 
-same_entered : (d there : Sessions) → IsDriftedTo d there → SameUps (entered d) (entered there)
+same_entered : (d there : Sessions) → IsSteppedTo d there → SameUps (entered d) (entered there)
 same_entered d there by = record {
   past = by.past;
   n = by.n;
@@ -89,27 +89,27 @@ same_entered d there by = record {
 
 -- ---- the word
 
-module _ (schedule : WireView) (b : Bounds) (says : ℕ) (w : ItemWorld) (x : World) (c : Coming schedule b says w x) where
+module _ (schedule : WireView) (b : Bounds) (says : ℕ) (w : ItemWorld) (x : AppWorld) (c : Coming schedule b says w x) where
   abbrev i : ℕ
   i = c.wire.device
 
-  abbrev was : DeviceRuns schedule w x i c.o
+  abbrev was : DeviceSimulates schedule w x i c.o
   was = old schedule b says w x c
 
   abbrev d : ItemDevice
   d = coming.d schedule b says w x c
 
-  abbrev before : Turn ItemOut ItemOut
-  before = silent_turn d.client
+  abbrev before : ClientStep ItemOut ItemOut
+  before = silent_client_step d.client
 
   module _ (m : ℕ) (turn : t schedule b says w x c ≡ begins in_items before (previd_of m)) where
     notes_so : noted (t schedule b says w x c).out.notes ≡ enters
-    notes_so = ap (λ (u : Turn ItemOut ItemOut). noted u.out.notes) turn
+    notes_so = ap (λ (u : ClientStep ItemOut ItemOut). noted u.out.notes) turn
 
-    sorted : (xs : List Drift) × (there : Sessions) × Drifts xs was.device.sessions there × DoesAll stanzas_read enters there (end schedule b says w x c)
+    sorted : (xs : List SessionStep) × (there : Sessions) × SessionSteps xs was.device.sessions there × DoesAll stanzas_read enters there (end schedule b says w x c)
     sorted =
-        drifts_first stanzas_read enters was.device.sessions (end schedule b says w x c) (tt, (tt, (tt, tt)))
-        (subst (λ ds. DoesAmid stanzas_read ds was.device.sessions (end schedule b says w x c)) notes_so (amid schedule b says w x c))
+        session_steps_first stanzas_read enters was.device.sessions (end schedule b says w x c) (tt, (tt, (tt, tt)))
+        (subst (λ ds. DoesInterleaved stanzas_read ds was.device.sessions (end schedule b says w x c)) notes_so (interleaved schedule b says w x c))
 
     abbrev there : Sessions
     there = sorted.1
@@ -117,17 +117,17 @@ module _ (schedule : WireView) (b : Bounds) (says : ℕ) (w : ItemWorld) (x : Wo
     both : MayAct ReadEnabled there × (end schedule b says w x c ≡ entered there)
     both = enters_so there (end schedule b says w x c) sorted.3
 
-    abbrev drifted_there : Device
-    drifted_there = record was.device { sessions = there }
+    abbrev stepped_there : Device
+    stepped_there = record was.device { sessions = there }
 
     may : (there.online ≡ false) × (there.now.stage ≡ Counted)
-    may = both.0 drifted_there refl
+    may = both.0 stepped_there refl
 
     ends_so : end schedule b says w x c ≡ goes_online there
     ends_so = both.1 ∙ sym (first_two there)
 
-    by : IsDriftedTo was.device.sessions there
-    by = drifted_to sorted.0 was.device.sessions there sorted.2
+    by : IsSteppedTo was.device.sessions there
+    by = stepped_to sorted.0 was.device.sessions there sorted.2
 
     is_session : IsSession was.device.sessions.now
     is_session = (c.ground.taken.devices i was.device was.there).sessions.now.is_session
@@ -138,27 +138,27 @@ module _ (schedule : WireView) (b : Bounds) (says : ℕ) (w : ItemWorld) (x : Wo
     none_put : up_put was.device.sessions.now ≡ []
     none_put = ap₂ (λ got rest. got ++ rest) (is_session.up_got unknown) (is_session.up_rest unknown)
 
-    submits : SubmissionsShow (begins in_items before (previd_of m)).client (goes_online there)
+    submits : SubmissionsRepresent (begins in_items before (previd_of m)).client (goes_online there)
     submits =
-        subst (SubmissionsShow (begins in_items before (previd_of m)).client) (sym (first_two there))
+        subst (SubmissionsRepresent (begins in_items before (previd_of m)).client) (sym (first_two there))
         (same_told (begins in_items before (previd_of m)).client (entered was.device.sessions) (entered there) (same_entered was.device.sessions there by)
-        (entered_told before was.device.sessions (previd_of m) (record { shows = was.submissions; offline = sym by.online ∙ may.0; session = is_session; unknown = unknown })))
+        (entered_told before was.device.sessions (previd_of m) (record { represents = was.submissions; offline = sym by.online ∙ may.0; session = is_session; unknown = unknown })))
 
     acts : IsHeard schedule b says w x c (acted_by schedule b says w x c ReadEnabled there)
     acts = record {
       timely = subst (λ ds. AreInTime ds was.device.sessions.now) (sym notes_so) (enters_timely was.device.sessions.now none_put);
       put = subst (ArePutBuilt c.o (history schedule b says w x c)) (sym notes_so) (enters_built c.o (history schedule b says w x c));
-      events = drift_events i sorted.0 ++ At i ReadEnabled ∷ [];
+      events = session_step_events i sorted.0 ++ At i ReadEnabled ∷ [];
       reaches = act_reaches x i was.device was.there sorted.0 there sorted.2 ReadEnabled may refl;
       silent = act_spoken i sorted.0 ReadEnabled;
       between = λ j. between_both j i sorted.0 [] ReadEnabled tt;
       account = refl;
       ends = ends_so;
-      submissions = subst (λ (u : Turn ItemOut ItemOut). SubmissionsShow u.client (goes_online there)) (sym turn) submits;
-      log = subst (λ (u : Turn ItemOut ItemOut). LogShows (keep_in schedule) (history schedule b says w x c) u.client.log was.device.reading) (sym turn) was.log;
-      pages = ap (λ (u : Turn ItemOut ItemOut). u.client.pages) turn ∙ was.pages;
+      submissions = subst (λ (u : ClientStep ItemOut ItemOut). SubmissionsRepresent u.client (goes_online there)) (sym turn) submits;
+      log = subst (λ (u : ClientStep ItemOut ItemOut). LogRepresents (keep_in schedule) (history schedule b says w x c) u.client.log was.device.reading) (sym turn) was.log;
+      pages = ap (λ (u : ClientStep ItemOut ItemOut). u.client.pages) turn ∙ was.pages;
       flags = flags_there schedule b says w x c sorted.0 there sorted.2 (ap (λ (s : Sessions). s.row) ends_so);
     }
 
-    pub entered_runs : MoveRuns schedule b says (Down c.place) w x
+    pub entered_runs : MoveSimulates schedule b says (Down c.position) w x
     entered_runs = heard_runs schedule b says w x c (acted_by schedule b says w x c ReadEnabled there) acts

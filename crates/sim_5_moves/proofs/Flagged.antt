@@ -2,12 +2,12 @@
 use Rattle.std.proofs.Common.{◌≡◌, ◌≢◌, ℕ, ◌==◌, ◌&&◌, Bool, true, List, [], ◌∷◌, Some, pos, sym, ◌∙◌}
 use Rattle.std.specs.List.{AllByRecursion}
 use Rattle.std.specs.Str.{bytes_eq}
-use Rattle.srv_state.specs.State.{Hall}
+use Rattle.srv_state.specs.State.{ServerState}
 use Rattle.sm_live.specs.Rule.{IsRule}
 use Rattle.sm_live.specs.Sessions.{Session, is_named, session_named, session_of}
 use Rattle.sim_5_moves.proofs.RepliesFlags.{all_are_found, found_has, the_named}
-use Rattle.sim_5_moves.proofs.MuteActs.{IsAbout}
-use Rattle.sim_3_items.specs.Served.{FlagsShow}
+use Rattle.sim_5_moves.proofs.NonStanzaActs.{IsAbout}
+use Rattle.sim_3_items.specs.Served.{FlagsRepresent}
 use Rattle.sim_1_applications.specs.Devices.{NoRow, Sessions}
 use Rattle.sim_1_applications.specs.Events.{is_present}
 use Rattle.cmd_schedule.specs.Contents.{Owned}
@@ -29,12 +29,12 @@ flagged_about account resource available carbons s t number accounts resources a
 pub owns_about : (keep : ℕ) (owned : List Owned) (names : List (List ℕ)) → IsAbout (Owns keep owned names)
 owns_about keep owned names s t number accounts resources availables carbonses priorities is = same_owner keep owned names s t accounts resources is
 
-pub flags_begin : (account : ℕ) (resource : List ℕ) (h : Hall ItemOut) (d : Sessions) → IsRule h.sessions h.next → d.row ≢ NoRow → FlagsShow account resource h d → AllByRecursion (FlaggedAs account resource d) h.sessions
-flags_begin account resource h d rule live shows = each h.sessions (all_are_found account resource h rule)
+pub flags_begin : (account : ℕ) (resource : List ℕ) (h : ServerState ItemOut) (d : Sessions) → IsRule h.sessions h.next → d.row ≢ NoRow → FlagsRepresent account resource h d → AllByRecursion (FlaggedAs account resource d) h.sessions
+flags_begin account resource h d rule live represents = each h.sessions (all_are_found account resource h rule)
   where
     each : (ts : List (Session ItemOut)) → AllByRecursion (λ t. session_of t.shown.number h.sessions ≡ Some t) ts → AllByRecursion (FlaggedAs account resource d) ts
     each [] all = tt
-    each (t ∷ ts) all = (λ named. shows live t (the_named account resource h rule t all.0 named), each ts all.1)
+    each (t ∷ ts) all = (λ named. represents live t (the_named account resource h rule t all.0 named), each ts all.1)
 
 pub flags_end : (account : ℕ) (resource : List ℕ) (available carbons : Bool) (ss : List (Session ItemOut)) → AllByRecursion (Flagged account resource available carbons) ss → (t : Session ItemOut) → session_named account resource ss ≡ Some t →
     (t.shown.available ≡ available) × (t.shown.carbons ≡ carbons) × (t.shown.priority ≡ pos 0)

@@ -5,7 +5,7 @@ use Rattle.std.proofs.lemmas.Option.{none-some}
 use Rattle.std.specs.List.{AllByRecursion, find}
 use Rattle.std.specs.Option.{option_map}
 use Rattle.std.specs.Result.{result_ok}
-use Rattle.srv_state.specs.State.{Hall, Step, full_address}
+use Rattle.srv_state.specs.State.{ServerState, Step, full_address}
 use Rattle.srv_state.specs.Steps as steps
 use Rattle.srv_state.specs.Steps.{Say, act, acted, put, shut}
 use Rattle.srv_state.specs.Streams.{parting_where, standing_of}
@@ -25,7 +25,7 @@ use Rattle.sim_2_links.specs.Links.{LinkKept}
 use Rattle.sim_2_links.specs.Views.{Table, View, on_phase, session_on}
 use Rattle.sim_2_links.specs.Words.{Bind, Ready}
 use Rattle.sm_live.specs.Sessions.{Session, ended_of, fresh, is_named, less, session_at, session_named, told}
-use Rattle.sim_5_moves.specs.Quiet.{IsFresh}
+use Rattle.sim_5_moves.specs.Silent.{IsFresh}
 use Rattle.im_replies.specs.Requests.{bound_item}
 use Rattle.im_replies.specs.Streams.{error_item}
 use Rattle.im_replies.specs.declared.conditions.StreamCondition.TheVariants.{Conflict}
@@ -67,7 +67,7 @@ parting_goes account resource k (Some f) error z s next goes =
     then_put P ready k z s (shut f (put f Closing (put f error next)))
     (then_shut P ready f s (put f Closing (put f error next)) (then_put P ready f Closing s (put f error next) (then_put P ready f error s next goes)))
 
-module _ (who : Identity) (logins : ℕ → Login) (h : Hall ItemOut) (wires : Table ItemWire) (v : View ItemOut) (k : ℕ) (p : IsFirst who logins h wires v k Bind) where
+module _ (who : Identity) (logins : ℕ → Login) (h : ServerState ItemOut) (wires : Table ItemWire) (v : View ItemOut) (k : ℕ) (p : IsFirst who logins h wires v k Bind) where
   kept : LinkKept v
   kept = kept_here who logins h wires v k Bind p
 
@@ -101,7 +101,7 @@ module _ (who : Identity) (logins : ℕ → Login) (h : Hall ItemOut) (wires : T
   none_named : (o : Option (Session ItemOut)) → session_named who.account who.resource h.sessions ≡ o → session_named who.account who.resource (less o h.sessions) ≡ None
   none_named None is = is
   none_named (Some s) is =
-      named_gone (λ t. not (t.shown.number == s.shown.number)) who.account who.resource h.next h.sessions s p.server.hall.sessions is (ap not (eq-eqb s.shown.number s.shown.number refl))
+      named_gone (λ t. not (t.shown.number == s.shown.number)) who.account who.resource h.next h.sessions s p.server.server_state.sessions is (ap not (eq-eqb s.shown.number s.shown.number refl))
 
   older_new : AllByRecursion IsNew older
   older_new =
@@ -125,8 +125,8 @@ module _ (who : Identity) (logins : ℕ → Login) (h : Hall ItemOut) (wires : T
       subst (Goes IsNew (step_of h)) (sym bind_step)
       (parting_goes who.account who.resource k (former_of (option_map ended_of (session_named who.account who.resource h.sessions))) (error_item Conflict) (bound_item (codes "bind") (full_address who.account who.resource h)) (step_of h) first first_goes)
 
-  uncounted : (s : Session ItemOut) → session_named who.account who.resource (on_item k (up_item who (logins k) Bind) h).hall.sessions ≡ Some s → s.shown.counted ≡ false
-  uncounted s found = let has = found_has IsNew (is_named who.account who.resource) (on_item k (up_item who (logins k) Bind) h).hall.sessions s bind_goes.sessions found in has.0 has.1
+  uncounted : (s : Session ItemOut) → session_named who.account who.resource (on_item k (up_item who (logins k) Bind) h).server_state.sessions ≡ Some s → s.shown.counted ≡ false
+  uncounted s found = let has = found_has IsNew (is_named who.account who.resource) (on_item k (up_item who (logins k) Bind) h).server_state.sessions s bind_goes.sessions found in has.0 has.1
 
-  pub bound_fresh : IsBare who.account who.resource (on_item k (up_item who (logins k) Bind) h).hall → IsFresh who.account who.resource (on_item k (up_item who (logins k) Bind) h).hall
+  pub bound_fresh : IsBare who.account who.resource (on_item k (up_item who (logins k) Bind) h).server_state → IsFresh who.account who.resource (on_item k (up_item who (logins k) Bind) h).server_state
   bound_fresh bare = λ s found. let flags = bare s found in (flags.0, flags.1, flags.2, uncounted s found)

@@ -63,7 +63,7 @@ module _ (acts : List (Act ItemOut)) (given : List ItemOut) where
       none_left [] y more same = (let no_way : ⊥ = cc in no_way)
       none_left (x ∷ xs) y more same = (let no_way : ⊥ = cc in no_way)
 
-      go : (row behind : Option (Row ItemOut)) → IsGiven acts given row behind → ((r : Row ItemOut) → row ≡ Some r → sends_to r.number acts ≡ []) → given ≡ []
-      go None behind so quiet = so.0
+      go : (row following : Option (Row ItemOut)) → IsGiven acts given row following → ((r : Row ItemOut) → row ≡ Some r → sends_to r.number acts ≡ []) → given ≡ []
+      go None following so quiet = so.0
       go (Some r) None so quiet = absurd (none_left given so.0 so.1 (sym (quiet r refl) ∙ so.2))
       go (Some r) (Some n) so quiet = so.1 ∙ quiet r refl

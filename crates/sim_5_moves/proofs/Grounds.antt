@@ -4,7 +4,7 @@ use Rattle.std.proofs.lemmas.Option.{same_Some, slice_get-get_or, slice_get_with
 use Rattle.std.specs.List.{AllByRecursion, slice_get}
 use Rattle.sim_5_moves.specs.Ground.{IsGround}
 use Rattle.sim_3_images.proofs.OwnedDevices.{declared}
-use Rattle.cmd_direct.proofs.TurnRuns.{all_places}
+use Rattle.cmd_direct.proofs.TurnRuns.{all_positions}
 use Rattle.sim_3_items.specs.ItemWorlds.{ItemWorld}
 use Rattle.sim_5_devices.specs.Named.{AreNamed, IsNamed}
 use Rattle.cmd_schedule.specs.Contents.{Owned}
@@ -15,12 +15,12 @@ use Rattle.sim_1_applications.proofs.Said.{takes_few}
 use Rattle.sim_1_applications.proofs.Later.{later_along}
 use Rattle.sim_1_applications.proofs.Runs.{taken_along, taken_beginning}
 use Rattle.sim_1_applications.proofs.TileRuns.{read_along, read_beginning}
-use Rattle.sim_1_applications.specs.Devices.{Device, World}
+use Rattle.sim_1_applications.specs.Devices.{AppWorld, Device}
 use Rattle.sim_1_applications.specs.Runs.{begins, owned_of}
 use Rattle.cmd_world.proofs.Declares.{are_accounts, are_names, some_kept}
 use Rattle.cmd_world.proofs.Traces.{may_run_all}
 use Rattle.cmd_world.specs.Declaring.{AreNames}
-use Rattle.sim_5_moves.specs.Running.{AreSmall, Bounds, WorldRuns, keep_in, names_of}
+use Rattle.sim_5_moves.specs.Running.{AreSmall, Bounds, WorldSimulates, keep_in, names_of}
 
 -- ---- names
 
@@ -30,7 +30,7 @@ all_names (name ∷ names) are = (are.0, all_names names are.1)
 
 -- ---- the world
 
-module _ (schedule : WireView) (right : IsWireSchedule schedule) (b : Bounds) (small : AreSmall b) (says : ℕ) (w : ItemWorld) (x : World) (runs : WorldRuns schedule b says w x) where
+module _ (schedule : WireView) (right : IsWireSchedule schedule) (b : Bounds) (small : AreSmall b) (says : ℕ) (w : ItemWorld) (x : AppWorld) (runs : WorldSimulates schedule b says w x) where
   -- each device is one of the schedule's
   home : (i : ℕ) (d : Device) → slice_get x.devices i ≡ Some d → (o : Owned) × (slice_get (owned_of schedule) i ≡ Some o) × (d.account ≡ o.account)
   home i d at =
@@ -45,7 +45,7 @@ module _ (schedule : WireView) (right : IsWireSchedule schedule) (b : Bounds) (s
   named = record {
     accounts = subst (AllByRecursion (λ name. is_name name ≡ true)) (sym (later_along runs.led.events (begins schedule) x runs.led.reaches).accounts)
         (all_names (names_of schedule) (are_names (names_of schedule) (are_accounts schedule (may_run_all schedule right))));
-    devices = all_places IsNamed (owned_of schedule) (λ i o at. let known = declared schedule i o right at in record { account = known.account; device = known.device });
+    devices = all_positions IsNamed (owned_of schedule) (λ i o at. let known = declared schedule i o right at in record { account = known.account; device = known.device });
     homes = home;
   }
 

@@ -4,7 +4,7 @@ use Rattle.std.proofs.lemmas.List.Elements.{All-cons, All-head, All-nil, All-tai
 use Rattle.std.proofs.lemmas.List.Folds.{find-append}
 use Rattle.std.specs.Option.{option_or}
 use Rattle.mam_archive.specs.Entries.{EntryView, entry_numbered}
-use Rattle.sim_3_items.specs.Deeds.{gives_all, says_all}
+use Rattle.sim_3_items.specs.Labels.{gives_all, says_all}
 use Rattle.sim_3_items.specs.Downs.{down_stanza}
 use Rattle.sim_2_links.specs.Events.{Seen}
 use Rattle.cmd_schedule.specs.Contents.{Owned}
@@ -49,7 +49,7 @@ built_taken schedule takes new o s built =
     let grown = history_more (owned_of schedule) takes new o.account in
     subst (λ history. AllBuilt o history s) (sym grown.1) (built_grows o (history_for schedule takes o) grown.0 s built)
 
--- ---- deeds
+-- ---- labels
 
 pub gives_built : (o : Owned) (history : List EntryView) (zs : List ItemOut) → All (IsDown o history) zs → ArePutBuilt o history (gives_all zs)
 gives_built o history [] are = tt

@@ -9,7 +9,7 @@ use Rattle.std.specs.Option.{option_map}
 use Rattle.std.specs.Str.{bytes_eq}
 use Rattle.mam_archive.specs.Entries.{EntryView}
 use Rattle.base_lemmas.proofs.Bytes.{bytes_eq-self}
-use Rattle.srv_state.specs.State.{Hall, archive_at, session_address}
+use Rattle.srv_state.specs.State.{ServerState, archive_at, session_address}
 use Rattle.im_forwarding.specs.Copies.{copy_item}
 use Rattle.im_forwarding.specs.Passed.{passed_item}
 use Rattle.sim_3_images.proofs.NamedDevices.{normal_full}
@@ -23,12 +23,12 @@ use Rattle.sim_5_moves.specs.Sent.{as_it_is}
 use Rattle.sim_3_items.proofs.ItemsDown.{copied_read, passed_read}
 use Rattle.sim_3_items.specs.Downs.{down_stanza}
 use Rattle.sim_3_items.specs.Meant.{IsEntryNumber, IsSubmitted}
-use Rattle.sm_live.specs.Sessions.{Session, is_of, number_of, session_of, told, told_of}
-use Rattle.srv_handlers.specs.Messages.{carrying, copy_for, number_behind, number_in}
+use Rattle.sm_live.specs.Sessions.{Session, info_of, is_of, number_of, session_of, told}
+use Rattle.srv_handlers.specs.Messages.{carrying, copy_for, number_after, number_in}
 use Rattle.im_jid.specs.Normal.{normal}
 use Rattle.sim_5_moves.proofs.Addresses.{normal_to}
 use Rattle.sim_5_moves.proofs.Archived.{is_named, same_name}
-use Rattle.sim_5_moves.proofs.Places.{bare_is, full_is}
+use Rattle.sim_5_moves.proofs.Positions.{bare_is, full_is}
 use Rattle.sim_5_moves.proofs.TakenEntries.{take_now}
 use Rattle.sim_5_moves.specs.Hearing.{hears_in}
 use Rattle.sim_5_moves.specs.Submits.{IsSessionAt, Submits}
@@ -42,7 +42,7 @@ use Rattle.sim_1_applications.proofs.Archives.{last_grows}
 use Rattle.sim_1_applications.specs.Devices.{Take, concerns, last_of}
 use Rattle.sim_1_applications.specs.Stanzas.{Down, Submission}
 use Rattle.sim_1_applications.specs.Stanzas.Down.{Live}
-use Rattle.sim_1_applications.proofs.Turned.{history_few, history_long}
+use Rattle.sim_1_applications.proofs.Rendered.{history_few, history_long}
 use Rattle.sim_1_applications.specs.Reported.{history_at}
 use Rattle.im_stanza.specs.Views.{MessageView}
 use Rattle.xml_trees.specs.Trees.{Elem}
@@ -77,7 +77,7 @@ module _ (p : Owned) (history : List EntryView) where
 
 -- ---- tests
 
-module _ {keep : ℕ} {owned : List Owned} {names : List (List ℕ)} {takes : List Take} {h : Hall ItemOut} {i : ℕ} {o : Owned} {s : Session ItemOut} {m : Submission} {e : Elem} (x : Submits keep owned names takes h i o s m e) (account : ℕ) (at : slice_get names account ≡ Some m.to) (j : ℕ) (p : Owned) (u : Session ItemOut) (v : IsSessionAt owned names h j p u) where
+module _ {keep : ℕ} {owned : List Owned} {names : List (List ℕ)} {takes : List Take} {h : ServerState ItemOut} {i : ℕ} {o : Owned} {s : Session ItemOut} {m : Submission} {e : Elem} (x : Submits keep owned names takes h i o s m e) (account : ℕ) (at : slice_get names account ≡ Some m.to) (j : ℕ) (p : Owned) (u : Session ItemOut) (v : IsSessionAt owned names h j p u) where
   abbrev take : Take
   take = take_now h i o m
 
@@ -101,14 +101,14 @@ module _ {keep : ℕ} {owned : List Owned} {names : List (List ℕ)} {takes : Li
 
   -- ---- by names
 
-  turned : (a b : List ℕ) → bytes_eq a b ≡ bytes_eq b a
-  turned a b = nat_list_eq_equiv.symm a b
+  rendered : (a b : List ℕ) → bytes_eq a b ≡ bytes_eq b a
+  rendered a b = nat_list_eq_equiv.symm a b
 
   senders_is : of_senders ≡ bytes_eq p.account o.account
-  senders_is = same_name x s.shown.account u.shown.account o.account p.account x.session.account v.account ∙ turned o.account p.account
+  senders_is = same_name x s.shown.account u.shown.account o.account p.account x.session.account v.account ∙ rendered o.account p.account
 
   recipients_is : of_recipients ≡ bytes_eq p.account m.to
-  recipients_is = same_name x account u.shown.account m.to p.account at v.account ∙ turned m.to p.account
+  recipients_is = same_name x account u.shown.account m.to p.account at v.account ∙ rendered m.to p.account
 
   one_of_both : (of_senders || of_recipients) ≡ concerns p.account take
   one_of_both = ap₂ (λ a b. a || b) senders_is recipients_is
@@ -137,8 +137,8 @@ module _ {keep : ℕ} {owned : List Owned} {names : List (List ℕ)} {takes : Li
   module _ (which : (u.shown.account ≡ s.shown.account) ⊎ (u.shown.account ≡ account)) (is : concerns p.account take ≡ true) where
     number_here : number_in u.shown.account accounts h ≡ Some number
     number_here =
-        ap (λ b. if b then number_behind (archive_at u.shown.account h) else None) (in_archives o.device m (told s) h account u.shown.account which)
-        ∙ ap number_behind (x.runs.archives u.shown.account p.account v.account) ∙ ap Some (grows is)
+        ap (λ b. if b then number_after (archive_at u.shown.account h) else None) (in_archives o.device m (told s) h account u.shown.account which)
+        ∙ ap number_after (x.runs.archives u.shown.account p.account v.account) ∙ ap Some (grows is)
 
     submission : IsSubmitted full
     submission = record { chat = refl; origin = origin_of o.device m.epoch m.n; said = m.text; apart = m.private; contains = refl }
@@ -151,7 +151,7 @@ module _ {keep : ℕ} {owned : List Owned} {names : List (List ℕ)} {takes : Li
     to_normal : normal (m.to ++ 64 ∷ h.domain) ≡ Ok (m.to ++ 64 ∷ h.domain)
     to_normal = normal_to x
 
-    told_here : told_of u.shown.number h.sessions ≡ Some (told u)
+    told_here : info_of u.shown.number h.sessions ≡ Some (told u)
     told_here = ap (option_map told) v.lives
 
     delivered_reads : ReadsAs p history (delivered full accounts h u.shown.number) (Live number ∷ [])
@@ -206,8 +206,8 @@ module _ {keep : ℕ} {owned : List Owned} {names : List (List ℕ)} {takes : Li
       apart : (s.shown.number == u.shown.number) ≡ false → (j == i) ≡ false
       apart other = elim (cases_Bool (j == i)) [
         | inl one ↦
-            let place : j ≡ i = eqb-true j i one in
-            let owner : p ≡ o = same_Some p o (sym v.device ∙ ap (slice_get owned) place ∙ x.session.device) in
+            let position : j ≡ i = eqb-true j i one in
+            let owner : p ≡ o = same_Some p o (sym v.device ∙ ap (slice_get owned) position ∙ x.session.device) in
             let account_is : u.shown.account ≡ s.shown.account = eqb-true u.shown.account s.shown.account (senders_is ∙ ap (λ (q : Owned). bytes_eq q.account o.account) owner ∙ bytes_eq-self o.account) in
             let resource_is : s.shown.resource ≡ u.shown.resource = x.session.resource ∙ ap (λ (q : Owned). q.device) (sym owner) ∙ sym v.resource in
             let same = x.rule.names s.shown.number u.shown.number s u x.session.lives v.lives (sym account_is) resource_is in

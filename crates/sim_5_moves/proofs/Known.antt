@@ -4,7 +4,7 @@ use Rattle.law_limits.specs.Within.{IsClientWithin}
 use Rattle.sim_5_devices.proofs.Kept.{Paged, paged_begins, paged_kept}
 use Rattle.sim_5_devices.specs.Pages.{IsPaged}
 use Rattle.sim_3_images.proofs.OwnedDevices.{declared}
-use Rattle.sim_3_images.proofs.FittingImages.{client_within}
+use Rattle.sim_3_images.proofs.FittingEncodings.{client_within}
 use Rattle.sim_3_items.specs.ItemWorlds.{ItemDevice, ItemWorld}
 use Rattle.sim_5_devices.specs.Shown.{IsReadingGiven}
 use Rattle.sim_5_devices.proofs.Readings.{reading_given}
@@ -17,20 +17,20 @@ use Rattle.sim_1_applications.proofs.Said.{n_few, takes_few}
 use Rattle.sim_1_applications.proofs.Taken.{said_few}
 use Rattle.sim_1_applications.proofs.Runs.{taken_along, taken_beginning}
 use Rattle.sim_1_applications.proofs.TileRuns.{read_along, read_beginning}
-use Rattle.sim_1_applications.specs.Devices.{World, first_of, last_of}
+use Rattle.sim_1_applications.specs.Devices.{AppWorld, first_of, last_of}
 use Rattle.sim_1_applications.specs.Kept.{AreLogged, Read, Taken}
 use Rattle.sim_1_applications.specs.Reported.{history_at}
 use Rattle.sim_1_applications.specs.Runs.{begins, owned_of}
 use Rattle.sim_5_devices.specs.Told.{IsAcked}
 use Rattle.cmd_world.proofs.Declares.{some_kept}
 use Rattle.sim_5_moves.proofs.MessageEvents.{there_too}
-use Rattle.sim_5_moves.specs.Running.{AreSmall, Bounds, DeviceRuns, IsOwned, WorldRuns, history_for, keep_in, names_of}
+use Rattle.sim_5_moves.specs.Running.{AreSmall, Bounds, DeviceSimulates, IsOwned, WorldSimulates, history_for, keep_in, names_of}
 
 -- a device that the world has is one of the schedule's
-pub owned_there : (schedule : WireView) (b : Bounds) (says : ℕ) (w : ItemWorld) (x : World) → WorldRuns schedule b says w x → (i : ℕ) (d : ItemDevice) → slice_get w.devices i ≡ Some d → (o : Owned) × IsOwned schedule i o
+pub owned_there : (schedule : WireView) (b : Bounds) (says : ℕ) (w : ItemWorld) (x : AppWorld) → WorldSimulates schedule b says w x → (i : ℕ) (d : ItemDevice) → slice_get w.devices i ≡ Some d → (o : Owned) × IsOwned schedule i o
 owned_there schedule b says w x runs i d there = there_too w.devices (owned_of schedule) i d runs.many there
 
-module _ (schedule : WireView) (right : IsWireSchedule schedule) (b : Bounds) (small : AreSmall b) (says : ℕ) (w : ItemWorld) (x : World) (runs : WorldRuns schedule b says w x) where
+module _ (schedule : WireView) (right : IsWireSchedule schedule) (b : Bounds) (small : AreSmall b) (says : ℕ) (w : ItemWorld) (x : AppWorld) (runs : WorldSimulates schedule b says w x) where
   taken : Taken x
   taken = taken_along runs.led.events (begins schedule) x runs.led.reaches (taken_beginning (keep_in schedule) (names_of schedule) _)
 
@@ -48,20 +48,20 @@ module _ (schedule : WireView) (right : IsWireSchedule schedule) (b : Bounds) (s
       omega (arith, takes, spoken, said, bounded)
 
   module _ (i : ℕ) (o : Owned) (owned : IsOwned schedule i o) where
-    abbrev r : DeviceRuns schedule w x i o
+    abbrev r : DeviceSimulates schedule w x i o
     r = runs.devices i o owned
 
     pub device_named : is_name o.device ≡ true
     device_named = (declared schedule i o right owned).device
 
-    pub within : IsClientWithin r.shows.device.client
-    within = client_within w i r.shows.device runs.fits r.shows.there
+    pub within : IsClientWithin r.represents.device.client
+    within = client_within w i r.represents.device runs.fits r.represents.there
 
     pub acked : IsAcked r.device.sessions
     acked = (taken.devices i r.device r.there).sessions.now.is_session.acked
 
     -- no number of a submission is above what users said
-    pub numbers_fit : r.shows.device.client.n + 1 < 2 ^ 64
+    pub numbers_fit : r.represents.device.client.n + 1 < 2 ^ 64
     numbers_fit =
         let same = r.submissions.n in
         let few = n_few (keep_in schedule) (names_of schedule) _ runs.led.events x runs.led.reaches i r.device r.there in
@@ -74,7 +74,7 @@ module _ (schedule : WireView) (right : IsWireSchedule schedule) (b : Bounds) (s
     pub paged : IsPaged r.device
     paged = from_beginning Paged paged_kept paged_begins (keep_in schedule) (names_of schedule) _ runs.led.events x runs.led.reaches i r.device r.there
 
-    pub pages_fit : r.shows.device.client.pages + 1 < 2 ^ 64
+    pub pages_fit : r.represents.device.client.pages + 1 < 2 ^ 64
     pages_fit =
         let same = r.pages in
         let few = runs.asked i r.device r.there in

@@ -8,22 +8,22 @@ pub mod HearingSums
 pub mod Carried
 pub mod AnswersMessages
 -- replies
-pub mod Halls
+pub mod ServerStates
 pub mod Replying
 pub mod Building
 pub mod Walks
 pub mod Effects
 pub mod RepliesFlags
 -- server words
-pub mod MuteActs
-pub mod MuteRows
+pub mod NonStanzaActs
+pub mod NonStanzaRows
 pub mod Flagged
 pub mod Mutes
 pub mod Binding
 pub mod Events
 pub mod ServerWordsStanzas
 -- messages
-pub mod Places
+pub mod Positions
 pub mod TakenEntries
 pub mod Marked
 pub mod Booked
@@ -47,14 +47,14 @@ pub mod Going
 pub mod FullQueues
 pub mod MessageEvents
 pub mod ReplyEvents
-pub mod DeedEvents
+pub mod LabelEvents
 -- connections
 pub mod Still
 -- one device
 pub mod Acting
 -- flags kept
-pub mod FlagsKeptDrifted
 pub mod FlagsKeptFlags
+pub mod FlagsKeptStepped
 -- users
 pub mod Called
 pub mod Turning
@@ -68,8 +68,8 @@ pub mod Grown
 pub mod Gone
 -- clients
 pub mod Next
-pub mod ClientsDrifted
-pub mod Turned
+pub mod ClientsStepped
+pub mod Rendered
 pub mod Alone
 pub mod ClientsDowns
 -- user calls
@@ -90,9 +90,9 @@ pub mod SessionWordsWords
 -- what a client has behind a word
 pub mod DownMovesTurns
 -- one device drifts
-pub mod Drifting
+pub mod SessionStepping
 pub mod DownMovesEnds
-pub mod Quiet
+pub mod Silent
 -- all may
 pub mod Dials
 -- each item that comes down
@@ -113,7 +113,7 @@ pub mod MessagesGiven
 -- servers
 pub mod Placed
 pub mod UpBuilt
-pub mod Amid
+pub mod Interleaved
 pub mod ServersFlags
 pub mod Links
 pub mod ServersComing

@@ -4,9 +4,9 @@ use Rattle.std.proofs.lemmas.Option.{same_Some}
 use Rattle.sim_4_links_follow.proofs.Stays.{reached_along}
 use Rattle.sim_4_links_follow.specs.Following.{WorldFollows}
 use Rattle.sim_3_images.specs.Devices.{identity_at}
-use Rattle.sim_3_items.specs.Deeds.{Deed, awaits, deeds_of}
+use Rattle.sim_3_items.specs.Labels.{Label, awaits, labels_of}
 use Rattle.sim_3_items.specs.Identities.{Login}
-use Rattle.sim_3_items.specs.Shows.{Shows}
+use Rattle.sim_3_items.specs.Represents.{Represents}
 use Rattle.sim_3_items.specs.Items.{stanzas_read}
 use Rattle.sim_3_items.specs.ItemWorlds.{ItemDevice, ItemWorld}
 use Rattle.sim_2_links.proofs.Reached.{link_kept}
@@ -20,19 +20,19 @@ use Rattle.sim_2_links.specs.Views.{View}
 use Rattle.sim_2_events.specs.Lists.{IsDevice}
 use Rattle.sim_5_devices.proofs.Staying.{paging_stays, prompt_stays}
 use Rattle.sim_5_devices.specs.InTime.{AreInTime, paging_here}
-use Rattle.sim_5_devices.specs.Shown.{LogShows}
+use Rattle.sim_5_devices.specs.Shown.{LogRepresents}
 use Rattle.cmd_schedule.specs.Contents.{Owned}
 use Rattle.cmd_schedule.specs.Schedules.{WireView}
-use Rattle.sim_5_devices.proofs.SessionDeedsSteps.{moves_done}
-use Rattle.sim_5_devices.specs.Deeds.{DoesAmid}
-use Rattle.sim_3_items.specs.Served.{FlagsShow}
-use Rattle.sim_3_items.specs.Submitted.{SubmissionsShow}
-use Rattle.sim_1_applications.specs.Devices.{Device, Sessions, Take, World}
+use Rattle.sim_5_devices.proofs.SessionLabelsSteps.{moves_done}
+use Rattle.sim_5_devices.specs.Labels.{DoesInterleaved}
+use Rattle.sim_3_items.specs.Served.{FlagsRepresent}
+use Rattle.sim_3_items.specs.Submitted.{SubmissionsRepresent}
+use Rattle.sim_1_applications.specs.Devices.{AppWorld, Device, Sessions, Take}
 use Rattle.sim_5_devices.proofs.Served.{same_told}
 use Rattle.sim_5_devices.specs.Told.{SameUps}
 use Rattle.sim_5_moves.proofs.BuiltAlong.{built_along}
 use Rattle.sim_5_moves.specs.Going.{AllBuilt, ArePutBuilt}
-use Rattle.sim_5_moves.specs.Running.{DeviceRuns, history_for, keep_in}
+use Rattle.sim_5_moves.specs.Running.{DeviceSimulates, history_for, keep_in}
 use Rattle.xml_writer.specs.Items.{ItemOut}
 
 -- ---- a device, but for its place in the world of the applications
@@ -42,22 +42,22 @@ pub record Stands (schedule : WireView) (after : ItemWorld) (takes : List Take) 
   pub view : View ItemOut
   pub in_time : PagingReached paging_here view
   pub prompt : PromptReached awaits view
-  pub shows : Shows (identity_at schedule i o) logins after view
+  pub represents : Represents (identity_at schedule i o) logins after view
   pub account : d.account ≡ o.account
   pub sessions : IsDevice stanzas_read (seen view) d.sessions
   pub built : AllBuilt o (history_for schedule takes o) (seen view)
-  pub submissions : SubmissionsShow shows.device.client d.sessions
-  pub log : LogShows (keep_in schedule) (history_for schedule takes o) shows.device.client.log d.reading
-  pub pages : shows.device.client.pages ≡ d.reading.asked
-  pub flags : FlagsShow (identity_at schedule i o).account o.device after.server d.sessions
+  pub submissions : SubmissionsRepresent represents.device.client d.sessions
+  pub log : LogRepresents (keep_in schedule) (history_for schedule takes o) represents.device.client.log d.reading
+  pub pages : represents.device.client.pages ≡ d.reading.asked
+  pub flags : FlagsRepresent (identity_at schedule i o).account o.device after.server d.sessions
 
-pub stands_run : (schedule : WireView) (after : ItemWorld) (next : World) (i : ℕ) (o : Owned) (d : Device) → Stands schedule after next.takes i o d → slice_get next.devices i ≡ Some d → DeviceRuns schedule after next i o
+pub stands_run : (schedule : WireView) (after : ItemWorld) (next : AppWorld) (i : ℕ) (o : Owned) (d : Device) → Stands schedule after next.takes i o d → slice_get next.devices i ≡ Some d → DeviceSimulates schedule after next i o
 stands_run schedule after next i o d s there = record {
   logins = s.logins;
   view = s.view;
   in_time = s.in_time;
   prompt = s.prompt;
-  shows = s.shows;
+  represents = s.represents;
   device = d;
   there = there;
   account = s.account;
@@ -71,18 +71,18 @@ stands_run schedule after next i o d s there = record {
 
 -- ---- its links
 
-module _ (schedule : WireView) (w : ItemWorld) (x : World) (i : ℕ) (o : Owned) (old : DeviceRuns schedule w x i o) (after : ItemWorld) (done : List (Deed ItemOut)) (f : WorldFollows (identity_at schedule i o) old.logins after old.view done) where
+module _ (schedule : WireView) (w : ItemWorld) (x : AppWorld) (i : ℕ) (o : Owned) (old : DeviceSimulates schedule w x i o) (after : ItemWorld) (done : List (Label ItemOut)) (f : WorldFollows (identity_at schedule i o) old.logins after old.view done) where
   reached : LinkReached old.view
   reached = prompt_runs awaits old.view old.prompt
 
-  pub all_done : (end : Sessions) × DoesAmid stanzas_read (deeds_of f.moves) old.device.sessions end × IsDevice stanzas_read (seen f.next) end
+  pub all_done : (end : Sessions) × DoesInterleaved stanzas_read (labels_of f.moves) old.device.sessions end × IsDevice stanzas_read (seen f.next) end
   all_done = moves_done stanzas_read f.moves old.view f.next old.device.sessions reached f.leads old.sessions
 
   abbrev pub end : Sessions
   end = all_done.0
 
-  pub amid : DoesAmid stanzas_read done old.device.sessions end
-  amid = subst (λ ds. DoesAmid stanzas_read ds old.device.sessions end) f.does all_done.1
+  pub interleaved : DoesInterleaved stanzas_read done old.device.sessions end
+  interleaved = subst (λ ds. DoesInterleaved stanzas_read ds old.device.sessions end) f.does all_done.1
 
   pub end_is : IsDevice stanzas_read (seen f.next) end
   end_is = all_done.2
@@ -92,22 +92,22 @@ module _ (schedule : WireView) (w : ItemWorld) (x : World) (i : ℕ) (o : Owned)
 
   module _ (takes : List Take) (timely : AreInTime done old.device.sessions.now) (put : ArePutBuilt o (history_for schedule takes o) done) (built : AllBuilt o (history_for schedule takes o) (seen old.view)) (users : after.devices ≡ w.devices) where
     -- its client does nothing
-    same_user : old.shows.device ≡ f.shows.device
-    same_user = same_Some old.shows.device f.shows.device (sym old.shows.there ∙ ap (λ (l : List ItemDevice). slice_get l i) (sym users) ∙ f.shows.there)
+    same_user : old.represents.device ≡ f.represents.device
+    same_user = same_Some old.represents.device f.represents.device (sym old.represents.there ∙ ap (λ (l : List ItemDevice). slice_get l i) (sym users) ∙ f.represents.there)
 
-    pub stands : (d : Device) → d.account ≡ o.account → IsDevice stanzas_read (seen f.next) d.sessions → SameUps old.device.sessions d.sessions → LogShows (keep_in schedule) (history_for schedule takes o) old.shows.device.client.log d.reading
-        → d.reading.asked ≡ old.device.reading.asked → FlagsShow (identity_at schedule i o).account o.device after.server d.sessions → Stands schedule after takes i o d
+    pub stands : (d : Device) → d.account ≡ o.account → IsDevice stanzas_read (seen f.next) d.sessions → SameUps old.device.sessions d.sessions → LogRepresents (keep_in schedule) (history_for schedule takes o) old.represents.device.client.log d.reading
+        → d.reading.asked ≡ old.device.reading.asked → FlagsRepresent (identity_at schedule i o).account o.device after.server d.sessions → Stands schedule after takes i o d
     stands d account sessions ups log asked flags = record {
       logins = old.logins;
       view = f.next;
       in_time = paging_stays f.moves old.view f.next old.device.sessions old.in_time f.leads f.prompt old.sessions (subst (λ ds. AreInTime ds old.device.sessions.now) (sym f.does) timely);
       prompt = prompt_stays f.moves old.view f.next old.prompt f.leads f.prompt;
-      shows = f.shows;
+      represents = f.represents;
       account = account;
       sessions = sessions;
       built = built_along o (history_for schedule takes o) f.moves old.view f.next reached f.leads (subst (ArePutBuilt o (history_for schedule takes o)) (sym f.does) put) built;
-      submissions = subst (λ (e : ItemDevice). SubmissionsShow e.client d.sessions) same_user (same_told old.shows.device.client old.device.sessions d.sessions ups old.submissions);
-      log = subst (λ (e : ItemDevice). LogShows (keep_in schedule) (history_for schedule takes o) e.client.log d.reading) same_user log;
+      submissions = subst (λ (e : ItemDevice). SubmissionsRepresent e.client d.sessions) same_user (same_told old.represents.device.client old.device.sessions d.sessions ups old.submissions);
+      log = subst (λ (e : ItemDevice). LogRepresents (keep_in schedule) (history_for schedule takes o) e.client.log d.reading) same_user log;
       pages = subst (λ (e : ItemDevice). e.client.pages ≡ d.reading.asked) same_user (old.pages ∙ sym asked);
       flags = flags;
     }

@@ -2,12 +2,12 @@
 use Rattle.std.proofs.Common.{◌≡◌, ℕ, ◌==◌, Bool, true, false, cond, List, [], ◌∷◌, Option, Some, None, refl, ap, ◌∙◌}
 use Rattle.mam_archive.specs.Entries.{EntryView}
 use Rattle.srv_state.specs.Handling.{counting}
-use Rattle.srv_state.specs.State.{Hall}
+use Rattle.srv_state.specs.State.{ServerState}
 use Rattle.srv_state.specs.Steps.{Act}
 use Rattle.sim_5_moves.proofs.AnswersMessages.{archs, as_sent, route}
 use Rattle.sim_5_moves.specs.Sent.{as_it_is}
-use Rattle.sm_live.specs.Sessions.{told_of}
-use Rattle.sm_live.specs.declared.told.Told.{Told}
+use Rattle.sm_live.specs.Sessions.{info_of}
+use Rattle.sm_live.specs.declared.told.SessionInfo.{SessionInfo}
 use Rattle.srv_handlers.specs.Messages.{archiving, carrying, copying, copying_to, delivering, delivering_to, telling}
 use Rattle.im_messages.specs.Entries.{entry_of}
 use Rattle.srv_route.specs.Routes.{archives_of}
@@ -19,7 +19,7 @@ use Rattle.law_server.proofs.MessageMarks.{taken_marks}
 use Rattle.law_server.specs.Taken.{Taken}
 use Rattle.xml_writer.specs.Items.{ItemOut}
 
-pub counted_marks : (t : Told) (acts : List (Act ItemOut)) → marks (counting t acts) ≡ marks acts
+pub counted_marks : (t : SessionInfo) (acts : List (Act ItemOut)) → marks (counting t acts) ≡ marks acts
 counted_marks t acts = go t.counted
   where
     go : (b : Bool) → marks (counting (record t { counted = b }) acts) ≡ marks acts
@@ -28,22 +28,22 @@ counted_marks t acts = go t.counted
 
 -- ---- what is sent marks nothing
 
-module _ (m : MessageView) (accounts : List ℕ) (h : Hall ItemOut) where
-  quiet_delivery : (n : ℕ) (o : Option Told) (more : List (Act ItemOut)) → marks (delivering_to as_it_is m accounts n o h more) ≡ marks more
+module _ (m : MessageView) (accounts : List ℕ) (h : ServerState ItemOut) where
+  quiet_delivery : (n : ℕ) (o : Option SessionInfo) (more : List (Act ItemOut)) → marks (delivering_to as_it_is m accounts n o h more) ≡ marks more
   quiet_delivery n None more = refl
   quiet_delivery n (Some t) more = refl
 
   quiet_delivering : (numbers : List ℕ) (more : List (Act ItemOut)) → marks (delivering as_it_is m accounts numbers h more) ≡ marks more
   quiet_delivering [] more = refl
-  quiet_delivering (n ∷ numbers) more = quiet_delivery n (told_of n h.sessions) (delivering as_it_is m accounts numbers h more) ∙ quiet_delivering numbers more
+  quiet_delivering (n ∷ numbers) more = quiet_delivery n (info_of n h.sessions) (delivering as_it_is m accounts numbers h more) ∙ quiet_delivering numbers more
 
-  quiet_copy : (sent : Bool) (n : ℕ) (o : Option Told) (more : List (Act ItemOut)) → marks (copying_to as_it_is sent m accounts n o h more) ≡ marks more
+  quiet_copy : (sent : Bool) (n : ℕ) (o : Option SessionInfo) (more : List (Act ItemOut)) → marks (copying_to as_it_is sent m accounts n o h more) ≡ marks more
   quiet_copy sent n None more = refl
   quiet_copy sent n (Some t) more = refl
 
   quiet_copying : (sent : Bool) (numbers : List ℕ) (more : List (Act ItemOut)) → marks (copying as_it_is sent m accounts numbers h more) ≡ marks more
   quiet_copying sent [] more = refl
-  quiet_copying sent (n ∷ numbers) more = quiet_copy sent n (told_of n h.sessions) (copying as_it_is sent m accounts numbers h more) ∙ quiet_copying sent numbers more
+  quiet_copying sent (n ∷ numbers) more = quiet_copy sent n (info_of n h.sessions) (copying as_it_is sent m accounts numbers h more) ∙ quiet_copying sent numbers more
 
 -- ---- the message
 
@@ -63,7 +63,7 @@ archived_marks moment sender account m false sent quiet =
 abbrev pub taken_of : ℕ → ℕ → EntryView → Taken
 taken_of sender account e = record { sender = sender; addressee = account; entry = e }
 
-pub carried_marks : (resource : List ℕ) (m : Submission) (t : Told) (h : Hall ItemOut) (account : ℕ) →
+pub carried_marks : (resource : List ℕ) (m : Submission) (t : SessionInfo) (h : ServerState ItemOut) (account : ℕ) →
     marks (carrying as_it_is (as_sent resource m t h account) (archs resource m t h account) (route resource m t h account) h)
     ≡ taken_marks (taken_of t.account account (entry_of 0 h.moment (as_sent resource m t h account)))
 carried_marks resource m t h account =

@@ -4,9 +4,9 @@ use Rattle.std.proofs.lemmas.Bool.{and_parts, eqb-true}
 use Rattle.std.specs.List.{slice_get}
 use Rattle.std.specs.Str.{bytes_eq}
 use Rattle.base_lemmas.proofs.Bytes.{same-from_bytes_eq}
-use Rattle.srv_state.specs.State.{Hall}
+use Rattle.srv_state.specs.State.{ServerState}
 use Rattle.sim_3_items.specs.Identities.{Identity, Login}
-use Rattle.sim_3_items.specs.Servers.{IsRowShown}
+use Rattle.sim_3_items.specs.Servers.{IsRowRepresented}
 use Rattle.base_io.specs.Names.{is_among}
 use Rattle.sim_3_items.specs.Downs.{down_stanza}
 use Rattle.sim_3_items.specs.Items.{stanzas_read}
@@ -20,7 +20,7 @@ use Rattle.sim_5_moves.specs.Done.{acts_on}
 use Rattle.sim_5_moves.specs.Hearing.{heard_in, hears_in, only_at, taken_now}
 use Rattle.sim_5_moves.specs.Submits.{IsSessionAt, Submits}
 use Rattle.cmd_schedule.specs.Contents.{Owned}
-use Rattle.sim_3_items.specs.Served.{FlagsShow}
+use Rattle.sim_3_items.specs.Served.{FlagsRepresent}
 use Rattle.sim_1_applications.specs.Devices.{Device, Sessions, Take, last_of}
 use Rattle.sim_1_applications.specs.Events.{Around, hears_of, reply}
 use Rattle.sim_1_applications.specs.Stanzas.{Submission}
@@ -29,13 +29,13 @@ use Rattle.sim_1_applications.specs.Stanzas.Up.{Message}
 use Rattle.sim_5_moves.specs.Handled.{IsHeardOf}
 use Rattle.sim_4_links_follow.specs.Given.{IsGiven, sends_to}
 use Rattle.sim_5_moves.proofs.GivenHere.{ended_row, heard, lives_on}
-use Rattle.sim_5_moves.specs.Beside.{IsBeside}
+use Rattle.sim_5_moves.specs.Recipients.{IsRecipient}
 use Rattle.xml_trees.specs.Trees.{Elem}
 use Rattle.sim_3_images.proofs.RuleKept.{found_is, numbered_here}
 use Rattle.xml_writer.specs.Items.{ItemOut}
 
-module _ {keep : ℕ} {owned : List Owned} {names : List (List ℕ)} {takes : List Take} {h : Hall ItemOut} {i : ℕ} {o : Owned} {s : Session ItemOut} {m : Submission} {e : Elem} (x : Submits keep owned names takes h i o s m e) (exists : is_among m.to names ≡ true)
-    (j : ℕ) (p : Owned) (who : Identity) (logins : ℕ → Login) (v next : View ItemOut) (d : Device) (given : List ItemOut) (last : Sessions) (at : IsBeside owned names h j p who logins v d) (is : IsGiven (acts_on s h e) given v.row next.row) (device : IsDevice stanzas_read (seen next) last) where
+module _ {keep : ℕ} {owned : List Owned} {names : List (List ℕ)} {takes : List Take} {h : ServerState ItemOut} {i : ℕ} {o : Owned} {s : Session ItemOut} {m : Submission} {e : Elem} (x : Submits keep owned names takes h i o s m e) (exists : is_among m.to names ≡ true)
+    (j : ℕ) (p : Owned) (who : Identity) (logins : ℕ → Login) (v next : View ItemOut) (d : Device) (given : List ItemOut) (last : Sessions) (at : IsRecipient owned names h j p who logins v d) (is : IsGiven (acts_on s h e) given v.row next.row) (device : IsDevice stanzas_read (seen next) last) where
   abbrev t : Take
   t = record { device = i; account = o.account; said = m; moment = h.moment }
 
@@ -54,7 +54,7 @@ module _ {keep : ℕ} {owned : List Owned} {names : List (List ℕ)} {takes : Li
       ∙ (λ k. only_at u.shown.number s.shown.number (back k) ++ heard_in (takes ++ new k) (new k) j p u)
       ∙ ap (λ l. l ++ (if hears_in t j p u then Live number ∷ [] else [])) (only_nothing u.shown.number s.shown.number)
 
-  by_row : (row : Option (Row ItemOut)) (found : Option (Session ItemOut)) → v.row ≡ row → session_named who.account who.resource h.sessions ≡ found → IsRowShown row found → IsGiven (acts_on s h e) given row next.row
+  by_row : (row : Option (Row ItemOut)) (found : Option (Session ItemOut)) → v.row ≡ row → session_named who.account who.resource h.sessions ≡ found → IsRowRepresented row found → IsGiven (acts_on s h e) given row next.row
       → IsHeardOf (hears_of t j d) number (map down_stanza given) last
   by_row None found none named shown so =
       let away : hears_of t j d ≡ false = ap (λ row. hears_of t j (record d { sessions = record d.sessions { row = row } })) (ended_row v d.sessions at.sessions none) in
@@ -70,8 +70,8 @@ module _ {keep : ℕ} {owned : List Owned} {names : List (List ℕ)} {takes : Li
         account = ap (slice_get names) account ∙ at.account;
         resource = resource ∙ at.resource;
       } in
-      let flags : FlagsShow u.shown.account u.shown.resource h d.sessions =
-      subst (λ a. FlagsShow a u.shown.resource h d.sessions) (sym account) (subst (λ l. FlagsShow who.account l h d.sessions) (sym resource) at.flags) in
+      let flags : FlagsRepresent u.shown.account u.shown.resource h d.sessions =
+      subst (λ a. FlagsRepresent a u.shown.resource h d.sessions) (sym account) (subst (λ l. FlagsRepresent who.account l h d.sessions) (sym resource) at.flags) in
       let found : session_named u.shown.account u.shown.resource h.sessions ≡ Some u = ap₂ (λ a l. session_named a l h.sessions) account resource ∙ named in
       let hears : hears_in t j p u ≡ hears_of t j d = hears_alike t j d p h u at.of_account (lives_on v d.sessions r at.sessions some) flags found in
       let goes : map down_stanza (sends_to r.number (acts_on s h e)) ≡ (if hears_of t j d then Live number ∷ [] else []) =

@@ -17,7 +17,7 @@ use Rattle.sim_2_links.proofs.Expected.{expected_down}
 use Rattle.sim_2_links.proofs.Numbers.{reached_rises}
 use Rattle.sim_2_links.proofs.Reached.{link_kept}
 use Rattle.sim_2_links.proofs.Seen.{move_seen}
-use Rattle.sim_2_links.specs.Events.{Event, Heard, IsSeenAs, May, Seen, SeenSession, own_number, seen}
+use Rattle.sim_2_links.specs.Events.{Heard, IsSeenAs, LinkEvent, May, Seen, SeenSession, own_number, seen}
 use Rattle.sim_2_links.specs.LinkMoves.{IsDownStanza, read_if}
 use Rattle.sim_2_links.specs.Links.{LinkKept}
 use Rattle.sim_2_links.specs.Machine.{LinkMoves, LinkReached, ReadsStanza}
@@ -47,7 +47,7 @@ pub record IsNextStanza (v : View ItemOut) (d : ItemDevice) (z : ItemOut) : Type
   pub rest : List ItemOut
   pub put : seen_one.down_put ≡ seen_one.down_got ++ z ∷ rest
 
-may_hear : (z : ItemOut) (s next : Seen ItemOut) (p : ℕ) (e : Option (Event ItemOut)) → e ≡ Some (Heard p z) → IsSeenAs e s next → May (Heard p z) s
+may_hear : (z : ItemOut) (s next : Seen ItemOut) (p : ℕ) (e : Option (LinkEvent ItemOut)) → e ≡ Some (Heard p z) → IsSeenAs e s next → May (Heard p z) s
 may_hear z s next p e is so = (let at = subst (λ e. IsSeenAs e s next) is so in at.0)
 
 module _ (who : Identity) (logins : ℕ → Login) (d : ItemDevice) (wires : Table ItemWire) (v : View ItemOut) (k : ℕ) (z : ItemOut) (p : IsNextDown who logins d wires v k (Down (St z))) where
@@ -87,7 +87,7 @@ module _ (who : Identity) (logins : ℕ → Login) (d : ItemDevice) (wires : Tab
         put = may.1.3;
       }
     where
-      of_it : Option (Own ItemOut) → Option (Event ItemOut)
+      of_it : Option (Own ItemOut) → Option (LinkEvent ItemOut)
       of_it o = option_map (λ p. Heard p z) (own_number o)
 
 -- ---- the same of the sessions
@@ -99,12 +99,12 @@ pub record IsNextRead (o : Owned) (history : List EntryView) (z : ItemOut) (d : 
   pub first : d.now.down_rest ≡ down_stanza z ∷ rest
   pub built : IsDown o history z
 
-all_behind : (P : ItemOut → Type 0) (got : List ItemOut) (z : ItemOut) (rest : List ItemOut) → All P (got ++ z ∷ rest) → P z
-all_behind P [] z rest all = All-head P z rest all
-all_behind P (g ∷ got) z rest all = all_behind P got z rest (All-tail P g (got ++ z ∷ rest) all)
+all_after : (P : ItemOut → Type 0) (got : List ItemOut) (z : ItemOut) (rest : List ItemOut) → All P (got ++ z ∷ rest) → P z
+all_after P [] z rest all = All-head P z rest all
+all_after P (g ∷ got) z rest all = all_after P got z rest (All-tail P g (got ++ z ∷ rest) all)
 
 all_at : (P : ItemOut → Type 0) (got : List ItemOut) (z : ItemOut) (rest put : List ItemOut) → put ≡ got ++ z ∷ rest → All P put → P z
-all_at P got z rest put is all = all_behind P got z rest (subst (All P) is all)
+all_at P got z rest put is all = all_after P got z rest (subst (All P) is all)
 
 module _ (v : View ItemOut) (cd : ItemDevice) (z : ItemOut) (n : IsNextStanza v cd z) (d : Sessions) (device : IsDevice stanzas_read (seen v) d) where
   online_here : (d.online ≡ true) × IsSession stanzas_read n.seen_one d.now

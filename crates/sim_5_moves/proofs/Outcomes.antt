@@ -5,7 +5,7 @@ use Rattle.std.proofs.lemmas.Option.{same_Some}
 use Rattle.std.specs.Prelude.{nat_eq}
 use Rattle.mam_archive.specs.Entries.{EntryView}
 use Rattle.srv_state.specs.Handling.{counting}
-use Rattle.srv_state.specs.State.{Hall}
+use Rattle.srv_state.specs.State.{ServerState}
 use Rattle.srv_state.specs.Steps.{Send}
 use Rattle.base_io.specs.Names.{is_among}
 use Rattle.sim_5_moves.proofs.AnswersMessages.{archs, as_sent, route, unserved}
@@ -14,7 +14,7 @@ use Rattle.sim_5_moves.specs.Sent as answers
 use Rattle.sim_5_moves.specs.Sent.{as_it_is}
 use Rattle.sim_3_items.proofs.ItemsDown.{bounced_read}
 use Rattle.sim_3_items.specs.Meant.{IsOrigin}
-use Rattle.sim_3_items.specs.ItemMoves.{step_of, takes_told}
+use Rattle.sim_3_items.specs.ItemMoves.{step_of, takes_reported}
 use Rattle.sim_3_items.specs.ItemWorlds.{Take as Told}
 use Rattle.sm_live.specs.Sessions.{Session, session_of, told}
 use Rattle.srv_handlers.specs.Messages.{carrying}
@@ -26,13 +26,13 @@ use Rattle.sim_5_moves.proofs.Marked.{carried_marks}
 use Rattle.sim_5_moves.proofs.Rows.{IsKnown, bounce, known_or_not, row_carries, row_refuses, same_sends}
 use Rattle.sim_5_moves.proofs.Staying.{ArePassing, carrying_passes, counting_passes, devices_stay}
 use Rattle.sim_5_moves.proofs.TakenEntries.{entry_same, take_now}
-use Rattle.sim_5_moves.specs.Done.{acts_on, behind}
+use Rattle.sim_5_moves.specs.Done.{acts_on, following}
 use Rattle.sim_5_moves.specs.Hearing.{heard_in, hears_in, only_at, taken_now}
 use Rattle.sim_5_moves.specs.Submits.{IsSessionAt, Submits}
 use Rattle.sm_outbox.specs.Submissions.{origin_of}
 use Rattle.im_replies.specs.Requests.{bounce_item}
 use Rattle.cmd_schedule.specs.Contents.{Owned}
-use Rattle.sim_3_items.specs.Served.{ArchivesShow, ServerRuns, take_told}
+use Rattle.sim_3_items.specs.Served.{ArchivesRepresent, ServerSimulates, take_reported}
 use Rattle.sim_1_applications.specs.Devices.{Take, last_of}
 use Rattle.sim_1_applications.specs.Events.{Around, reply}
 use Rattle.sim_1_applications.specs.Stanzas.{Down, Submission}
@@ -61,21 +61,21 @@ reads_if : (p : Owned) (history : List EntryView) (b : Bool) (z : ItemOut) (d : 
 reads_if p history true z d so = so refl
 reads_if p history false z d so = reads_none p history
 
-turned : (n k : ℕ) → nat_eq k n ≡ (n == k)
-turned n k = elim (cases_Bool (n == k)) [
+rendered : (n k : ℕ) → nat_eq k n ≡ (n == k)
+rendered n k = elim (cases_Bool (n == k)) [
   | inl same ↦ eq-eqb k n (sym (eqb-true n k same)) ∙ sym same
   | inr other ↦ ne_eqb k n (λ is. absurd (let here = eq-eqb n k (sym is) in let no_way : ⊥ = cc in no_way)) ∙ sym other
 ]
 
-module _ {keep : ℕ} {owned : List Owned} {names : List (List ℕ)} {takes : List Take} {h : Hall ItemOut} {i : ℕ} {o : Owned} {s : Session ItemOut} {m : Submission} {e : Elem} (x : Submits keep owned names takes h i o s m e) where
+module _ {keep : ℕ} {owned : List Owned} {names : List (List ℕ)} {takes : List Take} {h : ServerState ItemOut} {i : ℕ} {o : Owned} {s : Session ItemOut} {m : Submission} {e : Elem} (x : Submits keep owned names takes h i o s m e) where
   abbrev take : Take
   take = take_now h i o m
 
   abbrev new : List Take
   new = taken_now names h i o m
 
-  abbrev next : Hall ItemOut
-  next = (behind s h e).hall
+  abbrev next : ServerState ItemOut
+  next = (following s h e).server_state
 
   new_is : (b : Bool) → is_among m.to names ≡ b → new ≡ (if b then take ∷ [] else [])
   new_is b is = ap (λ c. if c then take ∷ [] else []) is
@@ -86,11 +86,11 @@ module _ {keep : ℕ} {owned : List Owned} {names : List (List ℕ)} {takes : Li
   all_pass =
       counting_passes (told s) (acts_on s h e)
       (elim (known_or_not x) [
-        | inl known ↦ subst ArePassing (sym (row_carries x known.0 known.1.at known.1.place)) (carrying_passes o.device m (told s) h known.0)
+        | inl known ↦ subst ArePassing (sym (row_carries x known.0 known.1.at known.1.position)) (carrying_passes o.device m (told s) h known.0)
         | inr nobody ↦ subst ArePassing (sym (row_refuses x nobody)) (tt, tt)
       ])
 
-  goes_on : (taken : Option Taken) → IsBooked h taken next (behind s h e).outs → (more : List Take) → ArchivesShow keep owned names (takes ++ more) next → ServerRuns keep owned names (takes ++ more) next
+  goes_on : (taken : Option Taken) → IsBooked h taken next (following s h e).outs → (more : List Take) → ArchivesRepresent keep owned names (takes ++ more) next → ServerSimulates keep owned names (takes ++ more) next
   goes_on taken is more archives = record {
     configured = record { domain = is.domain ∙ x.runs.configured.domain; accounts = is.accounts ∙ x.runs.configured.accounts };
     archives = archives;
@@ -100,43 +100,43 @@ module _ {keep : ℕ} {owned : List Owned} {names : List (List ℕ)} {takes : Li
 
   module _ (account : ℕ) (is : IsKnown x account) where
     row : acts_on s h e ≡ carrying as_it_is (as_sent o.device m (told s) h account) (archs o.device m (told s) h account) (route o.device m (told s) h account) h
-    row = row_carries x account is.at is.place
+    row = row_carries x account is.at is.position
 
-    taken_so : IsBooked h (Some (taken_here x account is.at)) next (behind s h e).outs
+    taken_so : IsBooked h (Some (taken_here x account is.at)) next (following s h e).outs
     taken_so = booked (told s) h (acts_on s h e) (Some (taken_here x account is.at)) (ap marks row ∙ carried_marks o.device m (told s) h account)
 
-    runs_taken : ServerRuns keep owned names (takes ++ new) next
+    runs_taken : ServerSimulates keep owned names (takes ++ new) next
     runs_taken =
-        subst (λ more. ServerRuns keep owned names (takes ++ more) next) (sym (new_is true is.known))
+        subst (λ more. ServerSimulates keep owned names (takes ++ more) next) (sym (new_is true is.known))
         (goes_on (Some (taken_here x account is.at)) taken_so (take ∷ [])
-        (archives_more x account is.at next (behind s h e).outs taken_so))
+        (archives_more x account is.at next (following s h e).outs taken_so))
 
-    told_taken : takes_told h.moment (behind s h e).outs ≡ map (take_told owned) new
+    told_taken : takes_reported h.moment (following s h e).outs ≡ map (take_reported owned) new
     told_taken =
         taken_so.notes
         ∙ ap (λ (y : EntryView). let note : Told = record { moment = h.moment; from = y.from; to = y.to; origin = y.origin } in note ∷ []) (entry_same x account)
-        ∙ ap (map (take_told owned)) (sym (new_is true is.known))
+        ∙ ap (map (take_reported owned)) (sym (new_is true is.known))
 
   module _ (nobody : is_among m.to names ≡ false) where
     refused : acts_on s h e ≡ Send s.shown.number (bounce x) ∷ []
     refused = row_refuses x nobody
 
-    none_so : IsBooked h None next (behind s h e).outs
+    none_so : IsBooked h None next (following s h e).outs
     none_so = booked (told s) h (acts_on s h e) None (ap marks refused)
 
-    runs_same : ServerRuns keep owned names (takes ++ new) next
+    runs_same : ServerSimulates keep owned names (takes ++ new) next
     runs_same =
-        subst (λ more. ServerRuns keep owned names (takes ++ more) next) (sym (new_is false nobody))
-        (goes_on None none_so [] (archives_same x next (behind s h e).outs none_so))
+        subst (λ more. ServerSimulates keep owned names (takes ++ more) next) (sym (new_is false nobody))
+        (goes_on None none_so [] (archives_same x next (following s h e).outs none_so))
 
-    told_none : takes_told h.moment (behind s h e).outs ≡ map (take_told owned) new
-    told_none = none_so.notes ∙ ap (map (take_told owned)) (sym (new_is false nobody))
+    told_none : takes_reported h.moment (following s h e).outs ≡ map (take_reported owned) new
+    told_none = none_so.notes ∙ ap (map (take_reported owned)) (sym (new_is false nobody))
 
-  pub runs_behind : ServerRuns keep owned names (takes ++ new) next
-  runs_behind = elim (known_or_not x) [ inl known ↦ runs_taken known.0 known.1 | inr nobody ↦ runs_same nobody ]
+  pub runs_after : ServerSimulates keep owned names (takes ++ new) next
+  runs_after = elim (known_or_not x) [ inl known ↦ runs_taken known.0 known.1 | inr nobody ↦ runs_same nobody ]
 
-  pub told_behind : takes_told h.moment (behind s h e).outs ≡ map (take_told owned) new
-  told_behind = elim (known_or_not x) [ inl known ↦ told_taken known.0 known.1 | inr nobody ↦ told_none nobody ]
+  pub told_after : takes_reported h.moment (following s h e).outs ≡ map (take_reported owned) new
+  told_after = elim (known_or_not x) [ inl known ↦ told_taken known.0 known.1 | inr nobody ↦ told_none nobody ]
 
   -- ---- what is sent
 
@@ -173,7 +173,7 @@ module _ {keep : ℕ} {owned : List Owned} {names : List (List ℕ)} {takes : Li
         subst (λ more. Reads more (reply a (Message m))) (sym (new_is false nobody))
         (subst (Reads []) (sym (reply_is false nobody))
         (subst (λ acts. ReadsAs p history (sends_to u.shown.number acts) (only_at u.shown.number s.shown.number (back ∷ []) ++ [])) (sym (refused nobody))
-        (subst (λ b. ReadsAs p history ((if b then z ∷ [] else []) ++ []) (only_at u.shown.number s.shown.number (back ∷ []) ++ [])) (sym (turned u.shown.number s.shown.number))
+        (subst (λ b. ReadsAs p history ((if b then z ∷ [] else []) ++ []) (only_at u.shown.number s.shown.number (back ∷ []) ++ [])) (sym (rendered u.shown.number s.shown.number))
         (reads_if p history (u.shown.number == s.shown.number) z back
         (λ here. reads_one p history z back (bounced_read (address_in m h) o.device m.epoch m.n unserved x.said.origin) (record {
           from = address_in m h;

@@ -7,11 +7,11 @@ use Rattle.std.specs.Option.{IfSome, option_map}
 use Rattle.std.specs.Prelude.{nat_lt}
 use Rattle.mam_archive.specs.Entries.{AreKept, EntryView, entry_numbered}
 use Rattle.mam_archive.specs.Ids.{id_of}
-use Rattle.srv_state.specs.State.{Hall, Kept}
+use Rattle.srv_state.specs.State.{Kept, ServerState}
 use Rattle.srv_state.specs.Steps.{Act, Send}
-use Rattle.cmd_direct.proofs.NextPages.{entry_is, kept_follow, page_behind_kept, page_behind_purged, page_of_first}
-use Rattle.cmd_direct.specs.Direct.{query_behind}
-use Rattle.cmd_direct.specs.NextPages.{cut_at, kept_behind, purged}
+use Rattle.cmd_direct.proofs.NextPages.{entry_is, kept_follow, page_after_kept, page_after_purged, page_of_first}
+use Rattle.cmd_direct.specs.Direct.{query_after}
+use Rattle.cmd_direct.specs.NextPages.{cut_at, kept_after, purged}
 use Rattle.im_forwarding.specs.Queries.{no_such_place}
 use Rattle.im_forwarding.specs.Results.{AskerView, entry_item, fin_item}
 use Rattle.sim_5_moves.proofs.Sends.{sends_here}
@@ -19,7 +19,7 @@ use Rattle.sim_5_moves.specs.Sent.{as_it_is, read_at}
 use Rattle.sim_3_items.proofs.PagesDown.{end_read, entry_read, not_found_read}
 use Rattle.sim_3_items.specs.Downs.{down_stanza}
 use Rattle.sim_3_items.specs.Meant.{Fits, IsEntryNumber, IsPage}
-use Rattle.sm_live.specs.declared.told.Told.{Told}
+use Rattle.sm_live.specs.declared.told.SessionInfo.{SessionInfo}
 use Rattle.mam_pages.specs.Cuts.{CutView}
 use Rattle.mam_pages.specs.Kept.{kept_by}
 use Rattle.mam_pages.proofs.Walked.{shorter}
@@ -86,16 +86,16 @@ module _ (keep last : ℕ) (kept : List EntryView) (known : AreKept keep last ke
   cut_there n most =
       let highest : last ≤ 4294967295 = known.most in
       record {
-        all = numbers_there kept (take most (kept_behind n last kept)) (λ i e at. there (n - purged last kept + i) e (get_in_drop (n - purged last kept) kept i e (get_in_take most (kept_behind n last kept) i e at)));
+        all = numbers_there kept (take most (kept_after n last kept)) (λ i e at. there (n - purged last kept + i) e (get_in_drop (n - purged last kept) kept i e (get_in_take most (kept_after n last kept) i e at)));
         count = omega (arith, highest, known.within);
-        index = omega (arith, highest, known.within, index_within kept (take most (kept_behind n last kept)));
+        index = omega (arith, highest, known.within, index_within kept (take most (kept_after n last kept)));
       }
 
-  pub page_there : (owner : List ℕ) (after : Option ℕ) (most : ℕ) → most ≤ 100 → IsGiven last after → IfSome (page_of (kept_by owner kept) (query_behind (option_map id_of after) most)) (IsCut kept)
+  pub page_there : (owner : List ℕ) (after : Option ℕ) (most : ℕ) → most ≤ 100 → IsGiven last after → IfSome (page_of (kept_by owner kept) (query_after (option_map id_of after) most)) (IsCut kept)
   page_there owner None most few given = subst (λ o. IfSome o (IsCut kept)) (sym (page_of_first 0 last most owner kept few (omega arith))) (cut_there 0 most)
   page_there owner (Some n) most few given = elim (cases_lt (purged last kept) n) [
-    | inl new ↦ subst (λ o. IfSome o (IsCut kept)) (sym (page_behind_kept keep n last most owner kept known few new given.1)) (cut_there n most)
-    | inr gone ↦ subst (λ o. IfSome o (IsCut kept)) (sym (page_behind_purged keep n last most owner kept known given.0 (omega (arith, gone)))) tt
+    | inl new ↦ subst (λ o. IfSome o (IsCut kept)) (sym (page_after_kept keep n last most owner kept known few new given.1)) (cut_there n most)
+    | inr gone ↦ subst (λ o. IfSome o (IsCut kept)) (sym (page_after_purged keep n last most owner kept known given.0 (omega (arith, gone)))) tt
   ]
 
 -- ---- what is sent of it
@@ -116,7 +116,7 @@ pub numbers_fit : (entries : List EntryView) (ns : List ℕ) → AllByRecursion 
 numbers_fit entries [] all = tt
 numbers_fit entries (n ∷ ns) all = (all.0.number, numbers_fit entries ns all.1)
 
-module _ (q : IqView) (t : Told) (queryid : List ℕ) (kept : Kept) (h : Hall ItemOut) (number : ℕ) (fits : Fits number) (id : q.id ≡ queryid_text number) (same : queryid ≡ queryid_text number) where
+module _ (q : IqView) (t : SessionInfo) (queryid : List ℕ) (kept : Kept) (h : ServerState ItemOut) (number : ℕ) (fits : Fits number) (id : q.id ≡ queryid_text number) (same : queryid ≡ queryid_text number) where
   pub page_read : (cut : Option CutView) → IfSome cut (IsCut kept.entries) → read_at t.number (paging as_it_is q t queryid kept cut h) ≡ stanzas_of number cut
   page_read None is =
       let item = iq_error_item (envelope_of q t h) no_such_place in

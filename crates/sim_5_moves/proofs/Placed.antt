@@ -9,9 +9,9 @@ use Rattle.sim_1_applications.proofs.Archives.{account_becomes, last_grows}
 use Rattle.sim_1_applications.proofs.Lists.{all_rest, all_weaker}
 use Rattle.sim_1_applications.proofs.Runs.{one_of, taken_beginning, taken_moves}
 use Rattle.sim_1_applications.proofs.TileRuns.{read_beginning, read_moves}
-use Rattle.sim_1_applications.proofs.Worlds.{at_place, same_place, was_device}
+use Rattle.sim_1_applications.proofs.Worlds.{at_position, same_position, was_device}
 use Rattle.sim_1_applications.specs.Answers.{last_in}
-use Rattle.sim_1_applications.specs.Devices.{Answer, Device, OpenPage, Take, World, first_of, last_of}
+use Rattle.sim_1_applications.specs.Devices.{Answer, AppWorld, Device, OpenPage, Take, first_of, last_of}
 use Rattle.sim_1_applications.specs.Events as events
 use Rattle.sim_1_applications.specs.Events.{At, Tick}
 use Rattle.sim_1_applications.specs.Kept.{DeviceRead, IsAsked, IsAt, IsPage, Read, Taken}
@@ -29,14 +29,14 @@ module _ (keep first last : ℕ) (d : Device) (known : DeviceRead keep first las
   run_within : AreWithin last d.reading.run
   run_within = all_rest (IsWithin last) (flat_map (λ run. run) d.reading.broken) d.reading.run (log_within first last d.reading.broken d.reading.run known.log.runs)
 
-  asked_place : (page : OpenPage) → IsAsked first last d page → IsGiven last page.after
-  asked_place page is = elim is.place.behind [
+  asked_position : (page : OpenPage) → IsAsked first last d page → IsGiven last page.after
+  asked_position page is = elim is.position.following [
     | inl same ↦ subst (IsGiven last) (sym same) (last_within last d.reading.run run_within)
     | inr none ↦ subst (IsGiven last) (sym none.0) tt
   ]
 
   of_answer : (page : OpenPage) (a : Option Answer) → page.max ≤ 100 → IsAt keep first last d page a → ArePlaced last d
-  of_answer page None few is = subst (AllByRecursion (IsPlaced last)) (sym is.request) ((asked_place page is, few), tt)
+  of_answer page None few is = subst (AllByRecursion (IsPlaced last)) (sym is.request) ((asked_position page is, few), tt)
   of_answer page (Some a) few is = subst (AllByRecursion (IsPlaced last)) (sym is.request) tt
 
   of_page : (o : Option OpenPage) → IsPage keep first last d o → ArePlaced last d
@@ -93,10 +93,10 @@ hears_online takes full (t ∷ ts) j d = hears_online takes full ts j (events.he
 
 -- ---- worlds
 
-abbrev pub Placed : World → Type 0
+abbrev pub Placed : AppWorld → Type 0
 Placed w = (i : ℕ) (d : Device) → slice_get w.devices i ≡ Some d → ArePlaced (last_of w.takes d.account) d
 
-module _ (w : World) (i : ℕ) (act : events.Act) (own : Device) (at : slice_get w.devices i ≡ Some own) (may : events.May act own) (read : Read (events.acted w i act own)) (placed : Placed w) where
+module _ (w : AppWorld) (i : ℕ) (act : events.Act) (own : Device) (at : slice_get w.devices i ≡ Some own) (may : events.May act own) (read : Read (events.acted w i act own)) (placed : Placed w) where
   abbrev new : List Take
   new = events.taken_by w.accounts w.clock i own act
 
@@ -111,11 +111,11 @@ module _ (w : World) (i : ℕ) (act : events.Act) (own : Device) (at : slice_get
       let same = ap (last_of (w.takes ++ new)) (account_becomes w new i act j d) in
       let before : ArePlaced last d = all_weaker (IsPlaced (last_of w.takes d.account)) (IsPlaced last) (requests d.sessions.now.up_rest) (still_given (last_of w.takes d.account) last (omega (arith, grows, same))) (placed j d there) in
       let here : (j == i) ≡ true → (events.own (events.around w d) act d).sessions.online ≡ false → ArePlaced last (events.own (events.around w d) act d) =
-      λ is off2. let place = same_place j i is in
-      let one : own ≡ d = (let g : slice_get w.devices j ≡ slice_get w.devices i = ap (slice_get w.devices) place in cc) in
+      λ is off2. let position = same_position j i is in
+      let one : own ≡ d = (let g : slice_get w.devices j ≡ slice_get w.devices i = ap (slice_get w.devices) position in cc) in
       own_placed last (events.around w d) act d (subst (events.May act) one may) off2 before in
       subst (λ zs. AllByRecursion (IsPlaced last) (requests zs)) (sym (hears_rest (w.takes ++ new) (events.full_of act) new j mid))
-      (at_place (j == i) _ _ (λ y. y.sessions.online ≡ false → ArePlaced last y) here (λ other off2. before) (sym (hears_online (w.takes ++ new) (events.full_of act) new j mid) ∙ off))
+      (at_position (j == i) _ _ (λ y. y.sessions.online ≡ false → ArePlaced last y) here (λ other off2. before) (sym (hears_online (w.takes ++ new) (events.full_of act) new j mid) ∙ off))
 
   acted_placed : Placed (events.acted w i act own)
   acted_placed j e here = by e.sessions.online refl
@@ -126,17 +126,17 @@ module _ (w : World) (i : ℕ) (act : events.Act) (own : Device) (at : slice_get
           let was = was_device f w.devices j e here in
           subst (λ (y : Device). y.sessions.online ≡ false → ArePlaced (last_of (w.takes ++ new) y.account) y) (sym was.2) (off_placed j was.0 was.1) off
 
-placed_moves : (event : events.Event) (w next : World) → events.Moves event w next → Read next → Placed w → Placed next
+placed_moves : (event : events.AppEvent) (w next : AppWorld) → events.Moves event w next → Read next → Placed w → Placed next
 placed_moves (Tick ms) w next led read placed = subst Placed (sym led) (λ i d at. placed i d at)
 placed_moves (At i act) w next led read placed = subst Placed (sym led.3) (acted_placed w i act led.0 led.1 led.2 (subst Read led.3 read) placed)
 
-pub placed_along : (all : List events.Event) (w last : World) → events.Reaches all w last → Taken w → Read w → Placed w → Placed last
+pub placed_along : (all : List events.AppEvent) (w last : AppWorld) → events.Reaches all w last → Taken w → Read w → Placed w → Placed last
 placed_along [] w last is taken read placed = subst Placed (sym is) placed
 placed_along (event ∷ all) w last led taken read placed =
     let more = read_moves event w led.0 led.1 taken read in
     placed_along all led.0 last led.2 (taken_moves event w led.0 led.1 taken) more (placed_moves event w led.0 led.1 more placed)
 
-pub from_beginning : (keep : ℕ) → 1 ≤ keep → (accounts homes : List (List ℕ)) (all : List events.Event) (w : World) → events.Reaches all (events.beginning keep accounts homes) w → Placed w
+pub from_beginning : (keep : ℕ) → 1 ≤ keep → (accounts homes : List (List ℕ)) (all : List events.AppEvent) (w : AppWorld) → events.Reaches all (events.beginning keep accounts homes) w → Placed w
 from_beginning keep some accounts homes all w led =
     placed_along all (events.beginning keep accounts homes) w led (taken_beginning keep accounts homes) (read_beginning keep some accounts homes)
     (λ i d at. one_of (λ j (e : Device). ArePlaced (last_of [] e.account) e) homes i d (λ account. tt) at)

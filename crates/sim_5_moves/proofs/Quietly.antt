@@ -1,4 +1,4 @@
--- A quiet move of a world leaves the worlds beside one another.
+-- A quiet move of a world leaves the worlds related.
 use Rattle.std.proofs.Common.{◌≡◌, ℕ, ◌+◌, List, [], length, map, slice_get, refl, sym, ap, subst, ◌∙◌, arith}
 use Rattle.std.proofs.lemmas.Option.{same_Some}
 use Rattle.sim_4_links_follow.specs.Following.{WorldFollows}
@@ -6,42 +6,42 @@ use Rattle.sim_3_images.specs.Devices.{identity_at}
 use Rattle.sim_3_items.specs.ItemMoves.{ItemMove, moved}
 use Rattle.sim_3_items.specs.ItemWorlds.{ItemDevice, ItemWorld}
 use Rattle.sim_5_moves.proofs.Engine.{quiet_runs}
-use Rattle.sim_5_moves.specs.Quiet.{DoFlagsGo, QuietDevice, QuietRuns, QuietWorld, SameUser}
+use Rattle.sim_5_moves.specs.Silent.{DoFlagsGo, SameUser, SilentDevice, SilentSimulates, SilentWorld}
 use Rattle.cmd_schedule.specs.Contents.{Owned, accounts_of}
 use Rattle.cmd_schedule.specs.Schedules.{WireView, keep_of}
 use Rattle.sim_1_applications.proofs.Runs.{taken_along, taken_beginning}
-use Rattle.sim_1_applications.specs.Devices.{Device, World}
+use Rattle.sim_1_applications.specs.Devices.{AppWorld, Device}
 use Rattle.sim_1_applications.specs.Kept.{Taken}
 use Rattle.sim_1_applications.specs.Runs.{begins, owned_of, steps_in}
-use Rattle.sim_5_moves.specs.Running.{Bounds, DeviceRuns, IsAskedBy, MoveRuns, WorldRuns, spoken_by_move}
+use Rattle.sim_5_moves.specs.Running.{Bounds, DeviceSimulates, IsAskedBy, MoveSimulates, WorldSimulates, spoken_by_move}
 
 -- a device whose client does nothing
-pub quiet_device : (schedule : WireView) (w : ItemWorld) (x : World) (after : ItemWorld) (i : ℕ) (o : Owned) (old : DeviceRuns schedule w x i o) → after.devices ≡ w.devices
-    → WorldFollows (identity_at schedule i o) old.logins after old.view [] → DoFlagsGo (identity_at schedule i o).account o.device w.server after.server → QuietDevice schedule w x i o old after
+pub quiet_device : (schedule : WireView) (w : ItemWorld) (x : AppWorld) (after : ItemWorld) (i : ℕ) (o : Owned) (old : DeviceSimulates schedule w x i o) → after.devices ≡ w.devices
+    → WorldFollows (identity_at schedule i o) old.logins after old.view [] → DoFlagsGo (identity_at schedule i o).account o.device w.server after.server → SilentDevice schedule w x i o old after
 quiet_device schedule w x after i o old same follows flags = record {
   logins = old.logins;
   follows = follows;
   user =
-      λ e there. subst (λ (d : ItemDevice). SameUser old.shows.device.client d.client) (same_Some old.shows.device e (sym old.shows.there ∙ ap (λ (l : List ItemDevice). slice_get l i) (sym same) ∙ there))
+      λ e there. subst (λ (d : ItemDevice). SameUser old.represents.device.client d.client) (same_Some old.represents.device e (sym old.represents.there ∙ ap (λ (l : List ItemDevice). slice_get l i) (sym same) ∙ there))
       (record { epoch = refl; n = refl; said = refl; session = refl; log = refl; pages = refl });
   flags = flags;
 }
 
-module _ (schedule : WireView) (b : Bounds) (says : ℕ) (w : ItemWorld) (x : World) (runs : WorldRuns schedule b says w x) where
+module _ (schedule : WireView) (b : Bounds) (says : ℕ) (w : ItemWorld) (x : AppWorld) (runs : WorldSimulates schedule b says w x) where
   pub taken : Taken x
   taken =
       taken_along runs.led.events (begins schedule) x runs.led.reaches
       (taken_beginning (keep_of schedule.version) (accounts_of (steps_in schedule)) (map (λ (o : Owned). o.account) (owned_of schedule)))
 
   -- by the move nobody says anything, and nobody asks for a page
-  pub quiet_move : (m : ItemMove) (passed : ℕ) → spoken_by_move m w ≡ [] → ((i : ℕ) (d e : Device) → e.reading.asked ≡ d.reading.asked → IsAskedBy m w i d e) → QuietWorld schedule b w x (moved m w) passed → MoveRuns schedule b says m w x
+  pub quiet_move : (m : ItemMove) (passed : ℕ) → spoken_by_move m w ≡ [] → ((i : ℕ) (d e : Device) → e.reading.asked ≡ d.reading.asked → IsAskedBy m w i d e) → SilentWorld schedule b w x (moved m w) passed → MoveSimulates schedule b says m w x
   quiet_move m passed silent asks quiet =
-      let q : QuietRuns schedule b says x (moved m w) = quiet_runs schedule b says w x runs taken (moved m w) passed quiet in
+      let q : SilentSimulates schedule b says x (moved m w) = quiet_runs schedule b says w x runs taken (moved m w) passed quiet in
       record {
         events = q.events;
         next = q.next;
         reaches = q.reaches;
         spoken = q.silent ∙ sym silent;
         asked = λ i d e there here. asks i d e (q.asked i d e there here);
-        runs = subst (λ n. WorldRuns schedule b n (moved m w) q.next) (let none = ap length silent in let same : says ≡ says + length (spoken_by_move m w) = omega arith in same) q.runs;
+        runs = subst (λ n. WorldSimulates schedule b n (moved m w) q.next) (let none = ap length silent in let same : says ≡ says + length (spoken_by_move m w) = omega arith in same) q.runs;
       }

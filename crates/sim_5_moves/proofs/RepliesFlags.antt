@@ -6,15 +6,15 @@ use Rattle.std.proofs.lemmas.Option.{none-some, same_Some}
 use Rattle.std.specs.List.{AllByRecursion, find}
 use Rattle.std.specs.Str.{bytes_eq}
 use Rattle.base_lemmas.proofs.Bytes.{same-from_bytes_eq}
-use Rattle.srv_state.specs.State.{Hall}
+use Rattle.srv_state.specs.State.{ServerState}
 use Rattle.sm_live.specs.Rule.{IsRule}
 use Rattle.sm_live.specs.Sessions.{Session, is_named, session_named, session_of}
-use Rattle.sim_5_moves.proofs.Effects.{alters, behind_goes}
+use Rattle.sim_5_moves.proofs.Effects.{after_goes, alters}
 use Rattle.sim_5_moves.proofs.Walks.{IsSteady}
-use Rattle.sim_5_moves.specs.Replied.{IsReplyCase, behind}
+use Rattle.sim_5_moves.specs.Replied.{IsReplyCase, following}
 use Rattle.srv_route.proofs.Chosen.{AreFound, all_found}
 use Rattle.cmd_schedule.specs.Contents.{Owned}
-use Rattle.sim_3_items.specs.Served.{FlagsShow}
+use Rattle.sim_3_items.specs.Served.{FlagsRepresent}
 use Rattle.sim_1_applications.specs.Devices.{NoRow, Present, Sessions, Take}
 use Rattle.sim_1_applications.specs.Events.{flagged, is_carbons, is_presence, is_present}
 use Rattle.sim_1_applications.specs.Stanzas.{Carbons, Message, Presence, Query, Up}
@@ -51,7 +51,7 @@ names_are account resource s is =
     let both = and_parts (s.shown.account == account) (bytes_eq s.shown.resource resource) is in
     (eqb-true s.shown.account account both.0, same-from_bytes_eq s.shown.resource resource both.1)
 
-module _ (account : ℕ) (resource : List ℕ) (h : Hall ItemOut) (rule : IsRule h.sessions h.next) where
+module _ (account : ℕ) (resource : List ℕ) (h : ServerState ItemOut) (rule : IsRule h.sessions h.next) where
   abbrev pub all_are_found : AllByRecursion (λ t. session_of t.shown.number h.sessions ≡ Some t) h.sessions
   all_are_found = each_found h.sessions h.sessions (all_found h.next 1 h.sessions rule.ascending)
 
@@ -89,11 +89,11 @@ shifted : (there one two : Bool) → there ≡ true → (one || (there && two)) 
 shifted true one two is = refl
 shifted false one two is = absurd (false≢true is)
 
-module _ (keep : ℕ) (owned : List Owned) (names : List (List ℕ)) (takes : List Take) (h : Hall ItemOut) (o : Owned) (s : Session ItemOut) (x : Up) (e : Elem) (is : IsReplyCase keep owned names takes h o s x e) (rule : IsRule h.sessions h.next) where
+module _ (keep : ℕ) (owned : List Owned) (names : List (List ℕ)) (takes : List Take) (h : ServerState ItemOut) (o : Owned) (s : Session ItemOut) (x : Up) (e : Elem) (is : IsReplyCase keep owned names takes h o s x e) (rule : IsRule h.sessions h.next) where
   abbrev n : ℕ
   n = s.shown.number
 
-  module _ (account : ℕ) (resource : List ℕ) (own : Bool) (d : Sessions) (shows : FlagsShow account resource h d) (live : d.row ≢ NoRow)
+  module _ (account : ℕ) (resource : List ℕ) (own : Bool) (d : Sessions) (represents : FlagsRepresent account resource h d) (live : d.row ≢ NoRow)
       (which : (t : Session ItemOut) → session_of t.shown.number h.sessions ≡ Some t → is_named account resource t ≡ true → (t.shown.number == n) ≡ own) where
     begins : AllByRecursion (HasFlags account resource n own (is_present d.row && d.now.available) (is_present d.row && d.now.carbons)) h.sessions
     begins = each h.sessions (all_are_found account resource h rule)
@@ -101,17 +101,17 @@ module _ (keep : ℕ) (owned : List Owned) (names : List (List ℕ)) (takes : Li
         each : (ts : List (Session ItemOut)) → AllByRecursion (λ t. session_of t.shown.number h.sessions ≡ Some t) ts →
             AllByRecursion (HasFlags account resource n own (is_present d.row && d.now.available) (is_present d.row && d.now.carbons)) ts
         each [] all = tt
-        each (t ∷ ts) all = (λ named. let f = shows live t (the_named account resource h rule t all.0 named) in (which t all.0 named, f.0, f.1, f.2), each ts all.1)
+        each (t ∷ ts) all = (λ named. let f = represents live t (the_named account resource h rule t all.0 named) in (which t all.0 named, f.0, f.1, f.2), each ts all.1)
 
-  ends : (account : ℕ) (resource : List ℕ) (own available carbons : Bool) → AllByRecursion (HasFlags account resource n own available carbons) (behind e s h).hall.sessions → (t : Session ItemOut) → session_named account resource (behind e s h).hall.sessions ≡ Some t →
+  ends : (account : ℕ) (resource : List ℕ) (own available carbons : Bool) → AllByRecursion (HasFlags account resource n own available carbons) (following e s h).server_state.sessions → (t : Session ItemOut) → session_named account resource (following e s h).server_state.sessions ≡ Some t →
       (t.shown.available ≡ available) × (t.shown.carbons ≡ carbons) × (t.shown.priority ≡ pos 0)
   ends account resource own available carbons all t found =
-      let has = found_has (HasFlags account resource n own available carbons) (is_named account resource) (behind e s h).hall.sessions t all found in
+      let has = found_has (HasFlags account resource n own available carbons) (is_named account resource) (following e s h).server_state.sessions t all found in
       let f = has.0 has.1 in
       (f.1, f.2, f.3)
 
-  pub own_flags : (d : Sessions) → d.row ≡ Present → FlagsShow s.shown.account s.shown.resource h d → FlagsShow s.shown.account s.shown.resource (behind e s h).hall (flagged x d)
-  own_flags d present shows = λ live t found.
+  pub own_flags : (d : Sessions) → d.row ≡ Present → FlagsRepresent s.shown.account s.shown.resource h d → FlagsRepresent s.shown.account s.shown.resource (following e s h).server_state (flagged x d)
+  own_flags d present represents = λ live t found.
       let account = s.shown.account in
       let resource = s.shown.resource in
       let available = is_present d.row && d.now.available in
@@ -120,15 +120,15 @@ module _ (keep : ℕ) (owned : List Owned) (names : List (List ℕ)) (takes : Li
       let Q = HasFlags account resource n true (is_presence x || available) (is_carbons x || carbons) in
       let which : (u : Session ItemOut) → session_of u.shown.number h.sessions ≡ Some u → is_named account resource u ≡ true → (u.shown.number == n) ≡ true =
       λ u there named. (let a = names_are account resource u named in eq-eqb u.shown.number n (rule.names u.shown.number n u s there is.session.there a.0 a.1)) in
-      let goes = behind_goes P Q (flags_steady account resource n true available carbons) (flags_steady account resource n true (is_presence x || available) (is_carbons x || carbons)) keep owned names takes h o s
-      (begins account resource true d shows live which) x e is (λ u here p. own_altered x account resource n available carbons u p)
+      let goes = after_goes P Q (flags_steady account resource n true available carbons) (flags_steady account resource n true (is_presence x || available) (is_carbons x || carbons)) keep owned names takes h o s
+      (begins account resource true d represents live which) x e is (λ u here p. own_altered x account resource n available carbons u p)
       (λ u other p. λ named. absurd (false≢true (sym other ∙ (p named).0))) in
       let f = ends account resource true (is_presence x || available) (is_carbons x || carbons) goes.sessions t found in
       let row : is_present d.row ≡ true = ap is_present present in
       (f.0 ∙ shifted (is_present d.row) (is_presence x) d.now.available row, f.1 ∙ shifted (is_present d.row) (is_carbons x) d.now.carbons row, f.2)
 
-  pub other_flags : (account : ℕ) (resource : List ℕ) (d : Sessions) → is_named account resource s ≡ false → FlagsShow account resource h d → FlagsShow account resource (behind e s h).hall d
-  other_flags account resource d apart shows = λ live t found.
+  pub other_flags : (account : ℕ) (resource : List ℕ) (d : Sessions) → is_named account resource s ≡ false → FlagsRepresent account resource h d → FlagsRepresent account resource (following e s h).server_state d
+  other_flags account resource d apart represents = λ live t found.
       let available = is_present d.row && d.now.available in
       let carbons = is_present d.row && d.now.carbons in
       let P = HasFlags account resource n false available carbons in
@@ -140,7 +140,7 @@ module _ (keep : ℕ) (owned : List Owned) (names : List (List ℕ)) (takes : Li
             absurd (false≢true (sym apart ∙ sym (ap (is_named account resource) same) ∙ named))
         | inr other ↦ other
       ] in
-      let goes = behind_goes P P steady steady keep owned names takes h o s (begins account resource false d shows live which) x e is
+      let goes = after_goes P P steady steady keep owned names takes h o s (begins account resource false d represents live which) x e is
       (λ u here p. unnamed account resource available carbons x u here p) (λ u other p. p) in
       ends account resource false available carbons goes.sessions t found
     where

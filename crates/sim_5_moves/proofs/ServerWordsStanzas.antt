@@ -1,7 +1,7 @@
 -- A stanza of a session is counted, and handled.
 use Rattle.std.proofs.Common.{◌≡◌, ℕ, true, Some, ap, ◌∙◌, if◌then◌else◌}
 use Rattle.std.specs.Option.{option_map}
-use Rattle.srv_state.specs.State.{Hall}
+use Rattle.srv_state.specs.State.{ServerState}
 use Rattle.srv_state.specs.Steps.{acted}
 use Rattle.srv_state.specs.Streams.{standing_of}
 use Rattle.srv_state.specs.Words.{is_bad_management, is_long, is_stanza, management_word, word_of}
@@ -9,7 +9,7 @@ use Rattle.srv_state.specs.declared.word.Word.TheVariants as word
 use Rattle.sim_3_items.specs.ItemMoves.{step_of}
 use Rattle.sim_3_items.specs.ItemWorlds.{itself, read_of}
 use Rattle.sm_live.specs.Sessions.{Session, told}
-use Rattle.sim_5_moves.specs.Replied.{behind}
+use Rattle.sim_5_moves.specs.Replied.{following}
 use Rattle.srv_core.specs.Table.{at_open, at_word}
 use Rattle.sim_5_moves.specs.Coming.{IsHandled, behind_item}
 use Rattle.im_stanza.specs.Readings.{stanza_of}
@@ -22,7 +22,7 @@ stanza_word : (e : Elem) → is_stanza e ≡ true → word_of e ≡ word.Stanza 
 unfolding word_of
 stanza_word e is = ap (λ b. if b then word.Stanza (is_long e) (stanza_of e) else (if is_bad_management e then word.BadField else management_word e)) is
 
-pub handled_is : (k : ℕ) (e : Elem) (s : Session ItemOut) (h : Hall ItemOut) → IsHandled k e s h → behind_item k (Whole e) h ≡ behind e s h
+pub handled_is : (k : ℕ) (e : Elem) (s : Session ItemOut) (h : ServerState ItemOut) → IsHandled k e s h → behind_item k (Whole e) h ≡ following e s h
 handled_is k e s h is =
     let st = standing_of is.conn in
     let acts =

@@ -8,14 +8,14 @@ use Rattle.mam_archive.specs.Entries.{EntryView}
 use Rattle.mam_archive.specs.declared.archive.TheConstants.{GREATEST_NUMBER}
 use Rattle.base_lemmas.proofs.Bytes.{same-from_bytes_eq}
 use Rattle.sim_5_moves.specs.Ground.{IsGround}
-use Rattle.srv_state.specs.State.{Hall, Step}
+use Rattle.srv_state.specs.State.{ServerState, Step}
 use Rattle.srv_state.specs.Steps.{Act}
 use Rattle.sim_3_images.proofs.OwnedDevices.{one_name}
 use Rattle.sim_3_images.specs.Devices.{identity_at}
-use Rattle.sim_3_items.specs.Deeds.{awaits, gives_all}
+use Rattle.sim_3_items.specs.Labels.{awaits, gives_all}
 use Rattle.sim_3_items.specs.Identities.{Identity, Login}
 use Rattle.sim_3_items.specs.Pipes.{by_number}
-use Rattle.sim_3_items.specs.Servers.{IsRowShown}
+use Rattle.sim_3_items.specs.Servers.{IsRowRepresented}
 use Rattle.sim_3_items.specs.ItemMoves.{Up, moved, served_by, served_first, served_item}
 use Rattle.sim_3_items.specs.ItemPipes.{ItemWire}
 use Rattle.sim_3_items.specs.ItemWorlds.{ItemWorld}
@@ -24,7 +24,7 @@ use Rattle.sim_2_links.specs.Views.{Row, View}
 use Rattle.sim_2_links.specs.Words.{St, Up as UpTraffic}
 use Rattle.sm_live.specs.Rule.{IsRule}
 use Rattle.sm_live.specs.Sessions.{Session, is_named, session_named, session_of}
-use Rattle.sim_5_moves.specs.Done.{acts_on, behind}
+use Rattle.sim_5_moves.specs.Done.{acts_on, following}
 use Rattle.sim_5_moves.specs.Submits.{AreDeclared, IsSessionAt}
 use Rattle.sim_5_moves.specs.Replied.{around_of}
 use Rattle.cmd_schedule.specs.Contents.{Owned}
@@ -36,11 +36,11 @@ use Rattle.sim_1_applications.proofs.Said.{takes_few}
 use Rattle.sim_3_items.specs.Built.{IsUp}
 use Rattle.sim_1_applications.proofs.Later.{later_along}
 use Rattle.sim_1_applications.proofs.Lists.{all_front}
-use Rattle.sim_1_applications.specs.Devices.{World, first_of, last_of}
+use Rattle.sim_1_applications.specs.Devices.{AppWorld, first_of, last_of}
 use Rattle.sim_1_applications.specs.Events.{around}
 use Rattle.sim_1_applications.specs.Runs.{begins, owned_of}
 use Rattle.sim_4_links_follow.specs.Given.{IsGiven, IsOfSession, sends_to}
-use Rattle.sim_5_moves.specs.Beside.{IsBeside}
+use Rattle.sim_5_moves.specs.Recipients.{IsRecipient}
 use Rattle.sim_5_moves.proofs.Goes.{apart_of, device_of}
 use Rattle.xml_trees.specs.Trees.{Elem}
 use Rattle.sim_3_images.proofs.RuleKept.{found_is, numbered_here}
@@ -48,28 +48,28 @@ use Rattle.sim_5_moves.proofs.Stepped.{stanza_step}
 use Rattle.sim_5_moves.specs.WordsRunWords.{IsDeviceOf}
 use Rattle.cmd_world.proofs.Declares.{are_accounts}
 use Rattle.cmd_world.proofs.Traces.{may_run_all}
-use Rattle.sim_4_links_follow.specs.Steps.{IsGivenIn, IsShownBeside, takes_it, takes_nothing}
+use Rattle.sim_4_links_follow.specs.Steps.{IsGivenIn, IsOtherRepresented, takes_it, takes_nothing}
 use Rattle.sim_5_moves.specs.Going.{ArePutBuilt}
-use Rattle.sim_5_moves.specs.Running.{AreSmall, Bounds, DeviceRuns, IsOwned, WorldRuns, history_for, keep_in, names_of}
+use Rattle.sim_5_moves.specs.Running.{AreSmall, Bounds, DeviceSimulates, IsOwned, WorldSimulates, history_for, keep_in, names_of}
 use Rattle.sim_3_items.specs.Built.{IsDown}
 use Rattle.xml_writer.specs.Items.{ItemOut}
 
 -- ---- sessions, and the rows of the links
 
-pub row_session : (row : Option (Row ItemOut)) (found : Option (Session ItemOut)) (r : Row ItemOut) → row ≡ Some r → IsRowShown row found → (u : Session ItemOut) × (found ≡ Some u) × (u.shown.number ≡ r.number)
+pub row_session : (row : Option (Row ItemOut)) (found : Option (Session ItemOut)) (r : Row ItemOut) → row ≡ Some r → IsRowRepresented row found → (u : Session ItemOut) × (found ≡ Some u) × (u.shown.number ≡ r.number)
 row_session None found r is shown = absurd (none-some r is)
 row_session (Some q) None r is shown = absurd shown
 row_session (Some q) (Some u) r is shown = (u, refl, shown.number ∙ ap (λ (y : Row ItemOut). y.number) (same_Some q r is))
 
-pub session_row : (row : Option (Row ItemOut)) (found : Option (Session ItemOut)) (s : Session ItemOut) → found ≡ Some s → IsRowShown row found → (r : Row ItemOut) × (row ≡ Some r) × (s.shown.number ≡ r.number)
+pub session_row : (row : Option (Row ItemOut)) (found : Option (Session ItemOut)) (s : Session ItemOut) → found ≡ Some s → IsRowRepresented row found → (r : Row ItemOut) × (row ≡ Some r) × (s.shown.number ≡ r.number)
 session_row row None s is shown = absurd (none-some s is)
 session_row None (Some u) s is shown = absurd shown
 session_row (Some r) (Some u) s is shown = (r, refl, ap (λ (y : Session ItemOut). y.shown.number) (sym (same_Some u s is)) ∙ shown.number)
 
 -- ---- what was given
 
-pub all_given : (P : ItemOut → Type 0) (acts : List (Act ItemOut)) (given : List ItemOut) (row behind_it : Option (Row ItemOut)) → IsGiven acts given row behind_it → ((r : Row ItemOut) → row ≡ Some r → AllByRecursion P (sends_to r.number acts)) → AllByRecursion P given
-all_given P acts given None behind_it is each = subst (AllByRecursion P) (sym is.0) tt
+pub all_given : (P : ItemOut → Type 0) (acts : List (Act ItemOut)) (given : List ItemOut) (row after_it : Option (Row ItemOut)) → IsGiven acts given row after_it → ((r : Row ItemOut) → row ≡ Some r → AllByRecursion P (sends_to r.number acts)) → AllByRecursion P given
+all_given P acts given None after_it is each = subst (AllByRecursion P) (sym is.0) tt
 all_given P acts given (Some r) None is each = all_front P given (is.0 ∷ is.1) (subst (AllByRecursion P) is.2 (each r refl))
 all_given P acts given (Some r) (Some n) is each = subst (AllByRecursion P) (sym is.1) (each r refl)
 
@@ -91,23 +91,23 @@ pub record Coming : Type 0 where
   pub small : AreSmall b
   pub says : ℕ
   pub w : ItemWorld
-  pub x : World
-  pub runs : WorldRuns schedule b says w x
+  pub x : AppWorld
+  pub runs : WorldSimulates schedule b says w x
   pub ground : IsGround schedule x
   -- it is the next item on a connection of a device
-  pub place : ℕ
+  pub position : ℕ
   pub wire : ItemWire
   pub z : ItemOut
   pub items : List ItemOut
-  pub there : slice_get w.wires place ≡ Some wire
+  pub there : slice_get w.wires position ≡ Some wire
   pub pipe : wire.up.items ≡ z ∷ items
   pub o : Owned
   pub owned : IsOwned schedule wire.device o
-  pub first : IsFirst (identity_at schedule wire.device o) (runs.devices wire.device o owned).logins w.server (by_number w.wires) (runs.devices wire.device o owned).view (place + 1) (UpTraffic (St z))
+  pub first : IsFirst (identity_at schedule wire.device o) (runs.devices wire.device o owned).logins w.server (by_number w.wires) (runs.devices wire.device o owned).view (position + 1) (UpTraffic (St z))
   pub session : IsOfSession (identity_at schedule wire.device o) w.server z
   -- and so the links of devices move
-  pub here : IsGivenIn (identity_at schedule wire.device o) (identity_at schedule wire.device o) (runs.devices wire.device o owned).logins w (moved (Up place) w) (runs.devices wire.device o owned).view z session (takes_it z)
-  pub beside : (whom : Identity) (others : ℕ → Login) (u : View ItemOut) → IsShownBeside (identity_at schedule wire.device o) whom others w u → IsGivenIn (identity_at schedule wire.device o) whom others w (moved (Up place) w) u z session (takes_nothing z)
+  pub here : IsGivenIn (identity_at schedule wire.device o) (identity_at schedule wire.device o) (runs.devices wire.device o owned).logins w (moved (Up position) w) (runs.devices wire.device o owned).view z session (takes_it z)
+  pub beside : (whom : Identity) (others : ℕ → Login) (u : View ItemOut) → IsOtherRepresented (identity_at schedule wire.device o) whom others w u → IsGivenIn (identity_at schedule wire.device o) whom others w (moved (Up position) w) u z session (takes_nothing z)
 
 module _ (c : Coming) where
   abbrev pub mine : ℕ
@@ -116,11 +116,11 @@ module _ (c : Coming) where
   abbrev pub own : Identity
   own = identity_at c.schedule c.wire.device c.o
 
-  abbrev pub old : DeviceRuns c.schedule c.w c.x c.wire.device c.o
+  abbrev pub old : DeviceSimulates c.schedule c.w c.x c.wire.device c.o
   old = c.runs.devices c.wire.device c.o c.owned
 
-  abbrev pub hall : Hall ItemOut
-  hall = c.w.server
+  abbrev pub server_state : ServerState ItemOut
+  server_state = c.w.server
 
   abbrev pub speaker : Session ItemOut
   speaker = c.session.session
@@ -129,29 +129,29 @@ module _ (c : Coming) where
   elem = c.session.stanza.elem
 
   abbrev pub acts : List (Act ItemOut)
-  acts = acts_on speaker hall elem
+  acts = acts_on speaker server_state elem
 
   abbrev pub after : ItemWorld
-  after = served_item c.place c.z c.w
+  after = served_item c.position c.z c.w
 
   abbrev pub step : Step ItemOut
-  step = on_item (c.place + 1) c.z c.w.server
+  step = on_item (c.position + 1) c.z c.w.server
 
-  pub is_after : moved (Up c.place) c.w ≡ after
-  is_after = ap (λ e. served_by c.place e c.w) c.there ∙ ap (λ l. served_first c.place l c.w) c.pipe
+  pub is_after : moved (Up c.position) c.w ≡ after
+  is_after = ap (λ e. served_by c.position e c.w) c.there ∙ ap (λ l. served_first c.position l c.w) c.pipe
 
-  pub step_is : step ≡ behind speaker hall elem
-  step_is = stanza_step own old.logins hall (by_number c.w.wires) old.view (c.place + 1) c.z c.first c.session
+  pub step_is : step ≡ following speaker server_state elem
+  step_is = stanza_step own old.logins server_state (by_number c.w.wires) old.view (c.position + 1) c.z c.first c.session
 
-  pub rule : IsRule hall.sessions hall.next
+  pub rule : IsRule server_state.sessions server_state.next
   rule = c.runs.within.ordered.sessions
 
   pub built_up : IsUp c.o c.z
-  built_up = stanza_built own old.logins hall (by_number c.w.wires) old.view (c.place + 1) c.z c.first c.o (history_for c.schedule c.x.takes c.o) old.built
+  built_up = stanza_built own old.logins server_state (by_number c.w.wires) old.view (c.position + 1) c.z c.first c.o (history_for c.schedule c.x.takes c.o) old.built
 
   -- ---- devices
 
-  abbrev pub run_of : (j : ℕ) (p : Owned) → IsOwned c.schedule j p → DeviceRuns c.schedule c.w c.x j p
+  abbrev pub run_of : (j : ℕ) (p : Owned) → IsOwned c.schedule j p → DeviceSimulates c.schedule c.w c.x j p
   run_of j p is = c.runs.devices j p is
 
   pub of : (j : ℕ) (p : Owned) → IsOwned c.schedule j p → IsDeviceOf (owned_of c.schedule) (names_of c.schedule) (identity_at c.schedule j p) p
@@ -163,25 +163,25 @@ module _ (c : Coming) where
       (eqb-true u.shown.account (identity_at c.schedule j p).account both.0, same-from_bytes_eq u.shown.resource p.device both.1)
 
   abbrev pub found_of : (j : ℕ) (p : Owned) → Option (Session ItemOut)
-  found_of j p = session_named (identity_at c.schedule j p).account p.device hall.sessions
+  found_of j p = session_named (identity_at c.schedule j p).account p.device server_state.sessions
 
-  pub session_is : (j : ℕ) (p : Owned) → IsOwned c.schedule j p → (u : Session ItemOut) → found_of j p ≡ Some u → IsSessionAt (owned_of c.schedule) (names_of c.schedule) hall j p u
+  pub session_is : (j : ℕ) (p : Owned) → IsOwned c.schedule j p → (u : Session ItemOut) → found_of j p ≡ Some u → IsSessionAt (owned_of c.schedule) (names_of c.schedule) server_state j p u
   session_is j p is u found =
-      let same = named_so j p u (found_is (is_named (identity_at c.schedule j p).account p.device) hall.sessions u found) in
+      let same = named_so j p u (found_is (is_named (identity_at c.schedule j p).account p.device) server_state.sessions u found) in
       record {
         device = is;
-        lives = numbered_here (is_named (identity_at c.schedule j p).account p.device) hall.next 1 hall.sessions u rule.ascending found;
+        lives = numbered_here (is_named (identity_at c.schedule j p).account p.device) server_state.next 1 server_state.sessions u rule.ascending found;
         account = ap (slice_get (names_of c.schedule)) same.0 ∙ (of j p is).account;
         resource = same.1;
       }
 
-  pub speaker_is : IsSessionAt (owned_of c.schedule) (names_of c.schedule) hall mine c.o speaker
+  pub speaker_is : IsSessionAt (owned_of c.schedule) (names_of c.schedule) server_state mine c.o speaker
   speaker_is = session_is mine c.o c.owned speaker c.session.named
 
-  pub beside_is : (j : ℕ) (p : Owned) (is : IsOwned c.schedule j p) → IsBeside (owned_of c.schedule) (names_of c.schedule) hall j p (identity_at c.schedule j p) (run_of j p is).logins (run_of j p is).view (run_of j p is).device
+  pub beside_is : (j : ℕ) (p : Owned) (is : IsOwned c.schedule j p) → IsRecipient (owned_of c.schedule) (names_of c.schedule) server_state j p (identity_at c.schedule j p) (run_of j p is).logins (run_of j p is).view (run_of j p is).device
   beside_is j p is =
       let r = run_of j p is in
-      record { device = is; account = (of j p is).account; resource = refl; server = r.shows.server; sessions = r.sessions; of_account = r.account; flags = r.flags }
+      record { device = is; account = (of j p is).account; resource = refl; server = r.represents.server; sessions = r.sessions; of_account = r.account; flags = r.flags }
 
   -- another device's session isn't the speaker
   pub not_speaker : (j : ℕ) (p : Owned) → IsOwned c.schedule j p → j ≢ mine → speaker.shown.resource ≡ p.device → ⊥
@@ -193,9 +193,9 @@ module _ (c : Coming) where
     | inr other ↦ other
   ]
 
-  pub other_number : (j : ℕ) (p : Owned) (is : IsOwned c.schedule j p) → j ≢ mine → (u : Session ItemOut) → IsSessionAt (owned_of c.schedule) (names_of c.schedule) hall j p u → speaker.shown.number ≢ u.shown.number
+  pub other_number : (j : ℕ) (p : Owned) (is : IsOwned c.schedule j p) → j ≢ mine → (u : Session ItemOut) → IsSessionAt (owned_of c.schedule) (names_of c.schedule) server_state j p u → speaker.shown.number ≢ u.shown.number
   other_number j p is apart u at number =
-      let same : speaker ≡ u = same_Some speaker u (sym speaker_is.lives ∙ ap (λ n. session_of n hall.sessions) number ∙ at.lives) in
+      let same : speaker ≡ u = same_Some speaker u (sym speaker_is.lives ∙ ap (λ n. session_of n server_state.sessions) number ∙ at.lives) in
       not_speaker j p is apart (ap (λ (y : Session ItemOut). y.shown.resource) same ∙ at.resource)
 
   -- ---- links
@@ -208,7 +208,7 @@ module _ (c : Coming) where
       let r = run_of j p is in
       subst (λ (a : ItemWorld). IsGivenIn own (identity_at c.schedule j p) r.logins c.w a r.view c.z c.session (takes_nothing c.z)) is_after
       (c.beside (identity_at c.schedule j p) r.logins r.view
-      (record { apart = apart_of c.schedule c.right mine j c.o p c.owned is (λ same. apart (sym same)); reached = prompt_runs awaits r.view r.prompt; shows = r.shows }))
+      (record { apart = apart_of c.schedule c.right mine j c.o p c.owned is (λ same. apart (sym same)); reached = prompt_runs awaits r.view r.prompt; represents = r.represents }))
 
   -- ---- the world of the applications
 

@@ -3,43 +3,43 @@ use Rattle.std.proofs.Common.{◌≡◌, ◌≢◌, ◌⊎◌, ℕ, false, List,
 use Rattle.std.proofs.lemmas.Option.{same_Some}
 use Rattle.std.specs.List.{AllByRecursion, slice_get}
 use Rattle.mam_archive.specs.Entries.{EntryView}
-use Rattle.sim_5_moves.proofs.ClientsDrifted.{drifted_to}
+use Rattle.sim_5_moves.proofs.ClientsStepped.{stepped_to}
 use Rattle.sim_5_devices.proofs.Timely.{gives_in_time, takes_in_time}
 use Rattle.sim_5_devices.specs.Pages.{EndsFor}
 use Rattle.sim_3_images.specs.Devices.{identity_at}
-use Rattle.sim_3_items.specs.Deeds.{Takes, gives_all}
+use Rattle.sim_3_items.specs.Labels.{Takes, gives_all}
 use Rattle.sim_5_moves.proofs.Gone.{device_paged}
 use Rattle.sim_3_items.specs.Downs.{down_stanza}
 use Rattle.sim_3_items.specs.Items.{stanzas_read}
 use Rattle.sim_3_items.specs.Ups.{up_stanza}
-use Rattle.sim_3_items.specs.ItemMoves.{takes_told}
+use Rattle.sim_3_items.specs.ItemMoves.{takes_reported}
 use Rattle.sim_2_links.specs.Events.{seen}
 use Rattle.sim_2_links.specs.Paging.{many}
 use Rattle.sim_2_links.specs.Views.{Row}
 use Rattle.sim_2_events.specs.Lists.{IsDevice}
 use Rattle.sim_5_devices.specs.InTime.{is_end}
 use Rattle.sm_live.specs.Sessions.{Session, is_named}
-use Rattle.sim_5_devices.specs.Shown.{IsReadingGiven, LogShows}
+use Rattle.sim_5_devices.specs.Shown.{IsReadingGiven, LogRepresents}
 use Rattle.sim_5_moves.specs.Submits.{IsSessionAt}
-use Rattle.sim_5_moves.specs.Quiet.{AreFlagsKept}
+use Rattle.sim_5_moves.specs.Silent.{AreFlagsKept}
 use Rattle.sim_5_devices.proofs.Readings.{reading_given}
 use Rattle.cmd_schedule.specs.Contents.{Owned}
-use Rattle.sim_5_moves.proofs.Amid.{ends_for, flagged_behind, flagged_device, flagged_ups, gives_behind, takes_behind}
-use Rattle.sim_5_moves.proofs.ServersComing.{Coming, acts, after, all_given, found_of, given_built, hall, mine, old, other_given, other_number, own, own_given, row_session, run_of, session_is, session_row, speaker, step, unnamed}
+use Rattle.sim_5_moves.proofs.Interleaved.{ends_for, flagged_after, flagged_device, flagged_ups, gives_after, takes_after}
+use Rattle.sim_5_moves.proofs.ServersComing.{Coming, acts, after, all_given, found_of, given_built, mine, old, other_given, other_number, own, own_given, row_session, run_of, server_state, session_is, session_row, speaker, step, unnamed}
 use Rattle.sim_5_moves.proofs.ServersFlags.{flags_follow, priority_kept}
-use Rattle.sim_5_moves.proofs.Links.{Stands, amid, end, end_is, end_kept, stands}
+use Rattle.sim_5_moves.proofs.Links.{Stands, end, end_is, end_kept, interleaved, stands}
 use Rattle.sim_5_moves.proofs.Worlds.{HasOwner, IsHandled, IsSo, owner_of}
 use Rattle.sim_5_devices.proofs.Given.{taken_at_once}
 use Rattle.sim_5_devices.proofs.Sorted.{with_sessions}
-use Rattle.sim_5_devices.specs.Deeds.{DoesAmid, Drift, Drifts, IsDrifted, IsTakenAtOnce}
+use Rattle.sim_5_devices.specs.Labels.{DoesInterleaved, HasSessionSteps, IsTakenAtOnce, SessionStep, SessionSteps}
 use Rattle.sim_3_items.specs.Built.{IsDown}
-use Rattle.sim_3_items.specs.Served.{FlagsShow, ServerRuns}
+use Rattle.sim_3_items.specs.Served.{FlagsRepresent, ServerSimulates}
 use Rattle.sim_1_applications.specs.Devices.{Device, NoRow, Present, Reading, Sessions, Take}
 use Rattle.sim_1_applications.specs.Events.{Around, ServerHandles, around, flagged, reading_served, reply, served, taking}
 use Rattle.sim_1_applications.specs.Stanzas.{Carbons, Down, Message, Presence, Query, Up}
 use Rattle.sim_1_applications.specs.Reported.{history_at}
 use Rattle.sim_1_applications.specs.Runs.{owned_of}
-use Rattle.sim_5_moves.proofs.DeedEvents.{own_replied}
+use Rattle.sim_5_moves.proofs.LabelEvents.{own_replied}
 use Rattle.sim_5_moves.proofs.ReplyEvents.{reply_handled}
 use Rattle.sim_5_moves.specs.Handled.{IsRepliedTo, served_as}
 use Rattle.sim_4_links_follow.specs.Given.{IsGiven, sends_to}
@@ -47,7 +47,7 @@ use Rattle.sim_5_moves.proofs.GivenHere.{nothing, replied}
 use Rattle.sim_5_devices.proofs.Served.{acts_read}
 use Rattle.sim_5_moves.proofs.Kept.{kept_flags}
 use Rattle.sim_4_links_follow.specs.Steps.{IsGivenIn, takes_it, takes_nothing}
-use Rattle.sim_5_moves.specs.Running.{DeviceRuns, IsOwned, history_for, keep_in, names_of}
+use Rattle.sim_5_moves.specs.Running.{DeviceSimulates, IsOwned, history_for, keep_in, names_of}
 use Rattle.xml_writer.specs.Items.{ItemOut}
 
 -- ---- what the server does on it
@@ -56,15 +56,15 @@ pub record IsReply (c : Coming) (y : Up) : Type 0 where
   pub reads : up_stanza c.z ≡ y
   -- nothing is taken
   pub none : taking c.x.accounts c.x.clock (mine c) (old c).device.account (y ∷ []) ≡ []
-  pub server : ServerRuns (keep_in c.schedule) (owned_of c.schedule) (names_of c.schedule) c.x.takes (step c).hall
-  pub told : takes_told c.w.moment (step c).outs ≡ []
+  pub server : ServerSimulates (keep_in c.schedule) (owned_of c.schedule) (names_of c.schedule) c.x.takes (step c).server_state
+  pub told : takes_reported c.w.moment (step c).outs ≡ []
   -- the reply goes to its session alone
   pub sent : map down_stanza (sends_to (speaker c).shown.number (acts c)) ≡ reply (around c.x (old c).device) y
-  pub others : (j : ℕ) (p : Owned) (u : Session ItemOut) → IsSessionAt (owned_of c.schedule) (names_of c.schedule) (hall c) j p u → (speaker c).shown.number ≢ u.shown.number → sends_to u.shown.number (acts c) ≡ []
+  pub others : (j : ℕ) (p : Owned) (u : Session ItemOut) → IsSessionAt (owned_of c.schedule) (names_of c.schedule) (server_state c) j p u → (speaker c).shown.number ≢ u.shown.number → sends_to u.shown.number (acts c) ≡ []
   pub built : AllByRecursion (IsDown c.o (history_for c.schedule c.x.takes c.o)) (sends_to (speaker c).shown.number (acts c))
   -- flags are altered as in the applications
-  pub flags : (d : Sessions) → d.row ≡ Present → FlagsShow (own c).account c.o.device (hall c) d → FlagsShow (own c).account c.o.device (step c).hall (flagged y d)
-  pub spares : (account : ℕ) (resource : List ℕ) → is_named account resource (speaker c) ≡ false → (d : Sessions) → FlagsShow account resource (hall c) d → FlagsShow account resource (step c).hall d
+  pub flags : (d : Sessions) → d.row ≡ Present → FlagsRepresent (own c).account c.o.device (server_state c) d → FlagsRepresent (own c).account c.o.device (step c).server_state (flagged y d)
+  pub spares : (account : ℕ) (resource : List ℕ) → is_named account resource (speaker c) ≡ false → (d : Sessions) → FlagsRepresent account resource (server_state c) d → FlagsRepresent account resource (step c).server_state d
 
 same_asked : (a : Around) (y : Up) (b : Reading) → (reading_served a y b).asked ≡ b.asked
 same_asked a Carbons b = refl
@@ -84,23 +84,23 @@ module _ (c : Coming) where
   abbrev pub own_last : Sessions
   own_last = end c.schedule c.w c.x (mine c) c.o (old c) (after c) (Takes c.z ∷ gives_all given) own_gives.follows
 
-  pub own_amid : DoesAmid stanzas_read (Takes c.z ∷ gives_all given) (old c).device.sessions own_last
-  own_amid = amid c.schedule c.w c.x (mine c) c.o (old c) (after c) (Takes c.z ∷ gives_all given) own_gives.follows
+  pub own_interleaved : DoesInterleaved stanzas_read (Takes c.z ∷ gives_all given) (old c).device.sessions own_last
+  own_interleaved = interleaved c.schedule c.w c.x (mine c) c.o (old c) (after c) (Takes c.z ∷ gives_all given) own_gives.follows
 
   pub own_end : IsDevice stanzas_read (seen own_gives.follows.next) own_last
   own_end = end_is c.schedule c.w c.x (mine c) c.o (old c) (after c) (Takes c.z ∷ gives_all given) own_gives.follows
 
   pub once : IsTakenAtOnce (up_stanza c.z) (map down_stanza given) (old c).device.sessions own_last
-  once = taken_at_once stanzas_read c.z given (old c).device.sessions own_last own_amid
+  once = taken_at_once stanzas_read c.z given (old c).device.sessions own_last own_interleaved
 
   abbrev pub next_rest : List Up
   next_rest = once.taken.rest
 
   pub next_is : (old c).device.sessions.now.up_rest ≡ up_stanza c.z ∷ next_rest
-  next_is = sym (drifted_to once.before (old c).device.sessions once.there once.drifts).up_rest ∙ once.taken.first
+  next_is = sym (stepped_to once.before (old c).device.sessions once.there once.session_steps).up_rest ∙ once.taken.first
 
   pub is_here : (old c).device.sessions.row ≡ Present
-  is_here = (drifted_to once.before (old c).device.sessions once.there once.drifts).row (once.taken.may 0 [] (with_sessions once.there) refl).0
+  is_here = (stepped_to once.before (old c).device.sessions once.there once.session_steps).row (once.taken.may 0 [] (with_sessions once.there) refl).0
 
 -- ---- the devices
 
@@ -119,7 +119,7 @@ module _ (c : Coming) (y : Up) (is : IsReply c y) where
   -- ---- another one
 
   module _ (j : ℕ) (p : Owned) (at : IsOwned c.schedule j p) (apart : j ≢ mine c) where
-    abbrev r : DeviceRuns c.schedule c.w c.x j p
+    abbrev r : DeviceSimulates c.schedule c.w c.x j p
     r = run_of c j p at
 
     abbrev history : List EntryView
@@ -131,46 +131,46 @@ module _ (c : Coming) (y : Up) (is : IsReply c y) where
     abbrev last : Sessions
     last = end c.schedule c.w c.x j p r (after c) (gives_all g.given) g.follows
 
-    abbrev others_amid : DoesAmid stanzas_read (gives_all g.given) r.device.sessions last
-    others_amid = amid c.schedule c.w c.x j p r (after c) (gives_all g.given) g.follows
+    abbrev others_interleaved : DoesInterleaved stanzas_read (gives_all g.given) r.device.sessions last
+    others_interleaved = interleaved c.schedule c.w c.x j p r (after c) (gives_all g.given) g.follows
 
     nothing_sent : (row : Row ItemOut) → r.view.row ≡ Some row → sends_to row.number (acts c) ≡ []
     nothing_sent row here =
-        let u = row_session r.view.row (found_of c j p) row here r.shows.server.row in
+        let u = row_session r.view.row (found_of c j p) row here r.represents.server.row in
         let session = session_is c j p at u.0 u.1 in
         subst (λ n. sends_to n (acts c) ≡ []) u.2 (is.others j p u.0 session (other_number c j p at apart u.0 session))
 
     nothing_given : g.given ≡ []
     nothing_given = nothing (acts c) g.given r.view g.follows.next g.are_given nothing_sent
 
-    drifted : (xs : List Drift) × Drifts xs r.device.sessions last
-    drifted = subst (λ zs. DoesAmid stanzas_read (gives_all zs) r.device.sessions last) nothing_given others_amid
+    session_stepped : (xs : List SessionStep) × SessionSteps xs r.device.sessions last
+    session_stepped = subst (λ zs. DoesInterleaved stanzas_read (gives_all zs) r.device.sessions last) nothing_given others_interleaved
 
-    abbrev drifts : IsDrifted r.device
-    drifts = record { drifts = drifted.0; last = last; leads = drifted.1 }
+    abbrev session_steps : HasSessionSteps r.device
+    session_steps = record { session_steps = session_stepped.0; last = last; leads = session_stepped.1 }
 
-    flags_kept : AreFlagsKept (identity_at c.schedule j p).account p.device (hall c) (step c).hall
-    flags_kept = kept_flags (identity_at c.schedule j p).account p.device (hall c) (step c).hall (is.spares (identity_at c.schedule j p).account p.device (unnamed c j p at apart))
+    flags_kept : AreFlagsKept (identity_at c.schedule j p).account p.device (server_state c) (step c).server_state
+    flags_kept = kept_flags (identity_at c.schedule j p).account p.device (server_state c) (step c).server_state (is.spares (identity_at c.schedule j p).account p.device (unnamed c j p at apart))
 
     other_stands : Stands c.schedule (after c) takes j p (record r.device { sessions = last })
     other_stands =
-        let b = gives_behind g.given r.device.sessions last others_amid in
+        let b = gives_after g.given r.device.sessions last others_interleaved in
         stands c.schedule c.w c.x j p r (after c) (gives_all g.given) g.follows takes (gives_in_time r.device.sessions.now g.given (ap (λ zs. many is_end (map down_stanza zs)) nothing_given))
         (given_built p history g.given (subst (AllByRecursion (IsDown p history)) (sym nothing_given) tt)) r.built refl (record r.device { sessions = last }) r.account
         (end_is c.schedule c.w c.x j p r (after c) (gives_all g.given) g.follows) b.ups r.log refl
-        (flags_follow (identity_at c.schedule j p) r.logins (step c).hall g.follows.next (end_kept c.schedule c.w c.x j p r (after c) (gives_all g.given) g.follows) g.follows.shows.server last
+        (flags_follow (identity_at c.schedule j p) r.logins (step c).server_state g.follows.next (end_kept c.schedule c.w c.x j p r (after c) (gives_all g.given) g.follows) g.follows.represents.server last
         (end_is c.schedule c.w c.x j p r (after c) (gives_all g.given) g.follows) r.device.sessions (flags_kept.shown r.device.sessions r.flags) b
-        (priority_kept (identity_at c.schedule j p) r.logins (hall c) (step c).hall r.view r.device.sessions r.shows.server r.sessions flags_kept r.flags))
+        (priority_kept (identity_at c.schedule j p) r.logins (server_state c) (step c).server_state r.view r.device.sessions r.represents.server r.sessions flags_kept r.flags))
 
-  others : (j : ℕ) (e : Device) → slice_get c.x.devices j ≡ Some e → j ≢ mine c → (o : IsDrifted e) × IsSo c takes j e o.last
+  others : (j : ℕ) (e : Device) → slice_get c.x.devices j ≡ Some e → j ≢ mine c → (o : HasSessionSteps e) × IsSo c takes j e o.last
   others j e at apart =
       let h : HasOwner c j e = owner_of c j e at in
-      subst (λ (d : Device). (o : IsDrifted d) × IsSo c takes j d o.last) h.same (drifts j h.owner h.is apart, (h.owner, h.is, other_stands j h.owner h.is apart))
+      subst (λ (d : Device). (o : HasSessionSteps d) × IsSo c takes j d o.last) h.same (session_steps j h.owner h.is apart, (h.owner, h.is, other_stands j h.owner h.is apart))
 
   -- ---- the device itself
 
   has_row : (q : Row ItemOut) × ((old c).view.row ≡ Some q) × ((speaker c).shown.number ≡ q.number)
-  has_row = session_row (old c).view.row (found_of c (mine c) c.o) (speaker c) c.session.named (old c).shows.server.row
+  has_row = session_row (old c).view.row (found_of c (mine c) c.o) (speaker c) c.session.named (old c).represents.server.row
 
   whole : (map down_stanza (given c) ≡ reply a y) ⊎ ((missing : Down) × (more : List Down) × (reply a y ≡ map down_stanza (given c) ++ missing ∷ more) × ((own_last c).row ≡ NoRow))
   whole =
@@ -185,47 +185,47 @@ module _ (c : Coming) (y : Up) (is : IsReply c y) where
   ]
 
   replied_to : IsRepliedTo (reply a y) y (old c).device.sessions (own_last c)
-  replied_to = subst (λ u. IsRepliedTo (reply a y) u (old c).device.sessions (own_last c)) is.reads (own_replied stanzas_read c.z (given c) (reply a y) (old c).device.sessions (own_last c) (own_amid c) whole)
+  replied_to = subst (λ u. IsRepliedTo (reply a y) u (old c).device.sessions (own_last c)) is.reads (own_replied stanzas_read c.z (given c) (reply a y) (old c).device.sessions (own_last c) (own_interleaved c) whole)
 
-  abbrev behind : Device
-  behind = served_as a y (own_last c) (old c).device
+  abbrev following : Device
+  following = served_as a y (own_last c) (old c).device
 
-  log_so : LogShows (keep_in c.schedule) (history_for c.schedule takes c.o) (old c).shows.device.client.log behind.reading
+  log_so : LogRepresents (keep_in c.schedule) (history_for c.schedule takes c.o) (old c).represents.device.client.log following.reading
   log_so =
-      (subst (λ zs. LogShows (keep_in c.schedule) (history_for c.schedule takes c.o) (old c).shows.device.client.log (served a 0 zs (old c).device).reading × IsReadingGiven (history_for c.schedule takes c.o) (served a 0 zs (old c).device).reading)
+      (subst (λ zs. LogRepresents (keep_in c.schedule) (history_for c.schedule takes c.o) (old c).represents.device.client.log (served a 0 zs (old c).device).reading × IsReadingGiven (history_for c.schedule takes c.o) (served a 0 zs (old c).device).reading)
       (next_is c ∙ ap (λ u. u ∷ next_rest c) is.reads)
-      (acts_read (keep_in c.schedule) (history_for c.schedule takes c.o) (old c).shows.device.client.log a (ServerHandles 0 []) (old c).device tt ((old c).log, given_so (mine c) c.o c.owned))).0
+      (acts_read (keep_in c.schedule) (history_for c.schedule takes c.o) (old c).represents.device.client.log a (ServerHandles 0 []) (old c).device tt ((old c).log, given_so (mine c) c.o c.owned))).0
 
   ends_few : EndsFor c.z (given c)
   ends_few = ends_for a c.z (given c) front.0 (ap (reply a) is.reads ∙ front.1)
 
   sent_built : (row : Row ItemOut) → (old c).view.row ≡ Some row → AllByRecursion (IsDown c.o (history_for c.schedule takes c.o)) (sends_to row.number (acts c))
   sent_built row here =
-      let u = row_session (old c).view.row (found_of c (mine c) c.o) row here (old c).shows.server.row in
+      let u = row_session (old c).view.row (found_of c (mine c) c.o) row here (old c).represents.server.row in
       let same : speaker c ≡ u.0 = same_Some (speaker c) u.0 (sym c.session.named ∙ u.1) in
       subst (λ n. AllByRecursion (IsDown c.o (history_for c.schedule takes c.o)) (sends_to n (acts c))) (ap (λ (s : Session ItemOut). s.shown.number) same ∙ u.2) is.built
 
-  flags_so : FlagsShow (own c).account c.o.device (step c).hall (flagged y (own_last c))
+  flags_so : FlagsRepresent (own c).account c.o.device (step c).server_state (flagged y (own_last c))
   flags_so =
       let d = (old c).device.sessions in
-      let shows : FlagsShow (own c).account c.o.device (step c).hall (flagged y d) = is.flags d (is_here c) (old c).flags in
-      let back = flagged_behind y d (own_last c) (takes_behind c.z (given c) d (own_last c) (own_amid c)) in
-      flags_follow (own c) (old c).logins (step c).hall (own_gives c).follows.next (end_kept c.schedule c.w c.x (mine c) c.o (old c) (after c) (Takes c.z ∷ gives_all (given c)) (own_gives c).follows) (own_gives c).follows.shows.server
-      (flagged y (own_last c)) (flagged_device y (seen (own_gives c).follows.next) (own_last c) (own_end c)) (flagged y d) shows back
-      (λ s found. (shows (λ none. let bad : Present ≡ NoRow = sym (is_here c) ∙ none in let no_way : ⊥ = cc in no_way) s found).2)
+      let represents : FlagsRepresent (own c).account c.o.device (step c).server_state (flagged y d) = is.flags d (is_here c) (old c).flags in
+      let back = flagged_after y d (own_last c) (takes_after c.z (given c) d (own_last c) (own_interleaved c)) in
+      flags_follow (own c) (old c).logins (step c).server_state (own_gives c).follows.next (end_kept c.schedule c.w c.x (mine c) c.o (old c) (after c) (Takes c.z ∷ gives_all (given c)) (own_gives c).follows) (own_gives c).follows.represents.server
+      (flagged y (own_last c)) (flagged_device y (seen (own_gives c).follows.next) (own_last c) (own_end c)) (flagged y d) represents back
+      (λ s found. (represents (λ none. let bad : Present ≡ NoRow = sym (is_here c) ∙ none in let no_way : ⊥ = cc in no_way) s found).2)
 
-  own_stands : Stands c.schedule (after c) takes (mine c) c.o behind
+  own_stands : Stands c.schedule (after c) takes (mine c) c.o following
   own_stands =
-      let b = takes_behind c.z (given c) (old c).device.sessions (own_last c) (own_amid c) in
+      let b = takes_after c.z (given c) (old c).device.sessions (own_last c) (own_interleaved c) in
       let history = history_for c.schedule takes c.o in
       stands c.schedule c.w c.x (mine c) c.o (old c) (after c) (Takes c.z ∷ gives_all (given c)) (own_gives c).follows takes
       (takes_in_time (old c).device c.z (given c) (device_paged c.schedule c.b c.says c.w c.x c.runs (mine c) (old c).device (old c).there) ends_few)
-      (given_built c.o history (given c) (all_given (IsDown c.o history) (acts c) (given c) (old c).view.row (own_gives c).follows.next.row (own_gives c).are_given sent_built)) (old c).built refl behind (old c).account
+      (given_built c.o history (given c) (all_given (IsDown c.o history) (acts c) (given c) (old c).view.row (own_gives c).follows.next.row (own_gives c).are_given sent_built)) (old c).built refl following (old c).account
       (flagged_device y (seen (own_gives c).follows.next) (own_last c) (own_end c)) (flagged_ups y (old c).device.sessions (own_last c) b.ups) log_so (same_asked a y (old c).device.reading) flags_so
 
   pub reply_is_handled : IsHandled c takes
   reply_is_handled = record {
-    behind = behind;
+    following = following;
     handled = reply_handled (IsSo c takes) c.x (mine c) (old c).device y (own_last c) (old c).there is.none replied_to others;
     stands = own_stands;
     asked = same_asked a y (old c).device.reading;

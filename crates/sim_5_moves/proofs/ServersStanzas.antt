@@ -21,18 +21,18 @@ use Rattle.sim_5_moves.proofs.ServersMessages.{message_is_handled}
 use Rattle.sim_5_moves.proofs.ServersReplies.{IsReply, reply_is_handled}
 use Rattle.sim_5_moves.proofs.Sources.{is_asked, nobody_reply, served_reply}
 use Rattle.sim_5_moves.proofs.Worlds.{handled_runs}
-use Rattle.sim_1_applications.specs.Devices.{World}
+use Rattle.sim_1_applications.specs.Devices.{AppWorld}
 use Rattle.sim_1_applications.specs.Stanzas as stanzas
 use Rattle.sim_1_applications.specs.Stanzas.{Carbons, Message, Presence, Query}
 use Rattle.sim_5_moves.specs.Handled.{takes_with}
 use Rattle.sim_4_links_follow.specs.Given.{IsOfSession}
 use Rattle.sim_4_links_follow.specs.Steps.{IsOfWord, ItemGoesUp, UpDoes, takes_it, takes_nothing}
-use Rattle.sim_5_moves.specs.Running.{AreSmall, Bounds, DeviceRuns, IsOwned, MoveRuns, WorldRuns, names_of}
+use Rattle.sim_5_moves.specs.Running.{AreSmall, Bounds, DeviceSimulates, IsOwned, MoveSimulates, WorldSimulates, names_of}
 use Rattle.xml_writer.specs.Items.{ItemOut}
 
 module _ (c : Coming) where
   abbrev Runs : Type 0
-  Runs = MoveRuns c.schedule c.b c.says (Up c.place) c.w c.x
+  Runs = MoveSimulates c.schedule c.b c.says (Up c.position) c.w c.x
 
   replied : (y : stanzas.Up) → IsReply c y → Runs
   replied y is = handled_runs c c.x.takes (reply_is_handled c y is)
@@ -51,17 +51,17 @@ module _ (c : Coming) where
 
 -- ---- the word of an item that goes up
 
-module _ (schedule : WireView) (right : IsWireSchedule schedule) (b : Bounds) (small : AreSmall b) (says : ℕ) (w : ItemWorld) (x : World) (runs : WorldRuns schedule b says w x) (ground : IsGround schedule x) (place : ℕ) (wire : ItemWire) (i : ItemOut) (items : List ItemOut)
-    (there : slice_get w.wires place ≡ Some wire) (pipe : wire.up.items ≡ i ∷ items) (o : Owned) (owned : IsOwned schedule wire.device o)
-    (g : ItemGoesUp (identity_at schedule wire.device o) (runs.devices wire.device o owned).logins w (runs.devices wire.device o owned).view place wire i) (z : ItemOut) (word : g.has.word ≡ UpTraffic (St z)) where
+module _ (schedule : WireView) (right : IsWireSchedule schedule) (b : Bounds) (small : AreSmall b) (says : ℕ) (w : ItemWorld) (x : AppWorld) (runs : WorldSimulates schedule b says w x) (ground : IsGround schedule x) (position : ℕ) (wire : ItemWire) (i : ItemOut) (items : List ItemOut)
+    (there : slice_get w.wires position ≡ Some wire) (pipe : wire.up.items ≡ i ∷ items) (o : Owned) (owned : IsOwned schedule wire.device o)
+    (g : ItemGoesUp (identity_at schedule wire.device o) (runs.devices wire.device o owned).logins w (runs.devices wire.device o owned).view position wire i) (z : ItemOut) (word : g.has.word ≡ UpTraffic (St z)) where
   abbrev who : Identity
   who = identity_at schedule wire.device o
 
-  abbrev old : DeviceRuns schedule w x wire.device o
+  abbrev old : DeviceSimulates schedule w x wire.device o
   old = runs.devices wire.device o owned
 
   same : z ≡ i
-  same = ap (up_item who (old.logins (place + 1))) (sym word) ∙ g.has.is
+  same = ap (up_item who (old.logins (position + 1))) (sym word) ∙ g.has.is
 
   session : IsOfSession who w.server z
   session = subst (IsOfWord who w.server) word g.session
@@ -77,7 +77,7 @@ module _ (schedule : WireView) (right : IsWireSchedule schedule) (b : Bounds) (s
     x = x;
     runs = runs;
     ground = ground;
-    place = place;
+    position = position;
     wire = wire;
     z = z;
     items = items;
@@ -85,12 +85,12 @@ module _ (schedule : WireView) (right : IsWireSchedule schedule) (b : Bounds) (s
     pipe = pipe ∙ ap (λ y. y ∷ items) (sym same);
     o = o;
     owned = owned;
-    first = subst (IsFirst who old.logins w.server (by_number w.wires) old.view (place + 1)) word g.has.first;
+    first = subst (IsFirst who old.logins w.server (by_number w.wires) old.view (position + 1)) word g.has.first;
     session = session;
-    here = subst (UpDoes who who old.logins w (moved (Up place) w) old.view takes_it) word g.does session;
-    beside = λ whom others u is. subst (UpDoes who whom others w (moved (Up place) w) u takes_nothing) word (g.beside whom others u is) session;
+    here = subst (UpDoes who who old.logins w (moved (Up position) w) old.view takes_it) word g.does session;
+    beside = λ whom others u is. subst (UpDoes who whom others w (moved (Up position) w) u takes_nothing) word (g.beside whom others u is) session;
   }
 
-  pub stanza_goes_up : MoveRuns schedule b says (Up place) w x
+  pub stanza_goes_up : MoveSimulates schedule b says (Up position) w x
   unfolding coming
   stanza_goes_up = stanza_runs coming

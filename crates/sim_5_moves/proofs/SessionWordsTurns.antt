@@ -8,7 +8,7 @@ use Rattle.sim_4_links_follow.proofs.Counted.{not_too_high}
 use Rattle.sim_4_links_follow.proofs.Turning.{on_element, own_session}
 use Rattle.sim_4_links_follow.proofs.Working.{kept_here, phase_here}
 use Rattle.cl_handlers.specs.AckRows.{acknowledges, counts_too_high}
-use Rattle.cl_handlers.specs.Clients.{Turn}
+use Rattle.cl_handlers.specs.Clients.{ClientStep}
 use Rattle.cl_handlers.specs.LoginSteps.{other_element}
 use Rattle.cl_handlers.specs.SessionRows.{asks, attaches, begins, begins_epoch, enabling_with, failed_row, is_empty, resumed_in, resuming_with}
 use Rattle.cl_handlers.specs.Speech.{in_items}
@@ -16,20 +16,20 @@ use Rattle.cl_handlers.specs.declared.phase.Phase.TheVariants as phase
 use Rattle.sm_resumption.specs.declared.answers.TheConstants.{RESUMABLE_SECONDS}
 use Rattle.sim_3_items.specs.Clients.{IsOwn, client_phase}
 use Rattle.sim_3_items.specs.Identities.{Identity, Login, full_of}
-use Rattle.sim_3_items.specs.Reading.{IsNextDown, turn_on}
-use Rattle.sim_3_items.specs.WordItems.{down_item, is_behind_login, told_count}
+use Rattle.sim_3_items.specs.Reading.{IsNextDown, client_step_on}
+use Rattle.sim_3_items.specs.WordItems.{down_item, is_after_login, told_count}
 use Rattle.im_extensions.specs.Bind.{bind_result_elem}
 use Rattle.im_extensions.specs.StreamManagement.{ack_elem, enabled_elem, resumed_elem, sm_failed_elem}
 use Rattle.im_extensions.specs.declared.stream_management.Ack.{Ack as AckWord}
 use Rattle.im_extensions.specs.declared.stream_management.Enabled.{Enabled as EnabledWord}
 use Rattle.im_extensions.specs.declared.stream_management.Resumed.{Resumed as ResumedWord}
 use Rattle.sim_3_items.specs.ItemPipes.{ItemWire}
-use Rattle.sim_3_items.specs.ItemWorlds.{ItemDevice, silent_turn}
+use Rattle.sim_3_items.specs.ItemWorlds.{ItemDevice, silent_client_step}
 use Rattle.sim_2_links.proofs.Numbers.{reached_rises}
 use Rattle.sim_2_links.proofs.Promised.{down_count_within, resumed_within}
 use Rattle.sim_2_links.proofs.Reached.{link_kept}
 use Rattle.sim_2_links.proofs.Seen.{move_seen}
-use Rattle.sim_2_links.specs.Events.{Event, IsSeenAs, May, Named, Seen, seen}
+use Rattle.sim_2_links.specs.Events.{IsSeenAs, LinkEvent, May, Named, Seen, seen}
 use Rattle.sim_2_links.specs.Machine.{LinkMoves, ReadsBound}
 use Rattle.sim_2_links.specs.Views.{Own, Table, View, alter, has, with_at}
 use Rattle.sim_2_links.specs.Wires.{left_down, send_up}
@@ -50,7 +50,7 @@ some_digits : (text : List ℕ) → length text ≡ 16 → is_empty text ≡ fal
 some_digits [] size = absurd (let no_way : ⊥ = cc in no_way)
 some_digits (b ∷ bs) size = refl
 
-may_of : (e : Event ItemOut) (s next : Seen ItemOut) (told : Option (Event ItemOut)) → told ≡ Some e → IsSeenAs told s next → May e s
+may_of : (e : LinkEvent ItemOut) (s next : Seen ItemOut) (told : Option (LinkEvent ItemOut)) → told ≡ Some e → IsSeenAs told s next → May e s
 may_of e s next told is so = (let at = subst (λ e. IsSeenAs e s next) is so in at.0)
 
 -- the client's session, and that of the links
@@ -62,12 +62,12 @@ pub record HasSession (d : ItemDevice) (v : View ItemOut) : Type 0 where
   pub shown : IsOwn own session
 
 module _ (who : Identity) (logins : ℕ → Login) (d : ItemDevice) (wires : Table ItemWire) (v : View ItemOut) (k : ℕ) where
-  abbrev now : Turn ItemOut ItemOut
-  now = silent_turn d.client
+  abbrev now : ClientStep ItemOut ItemOut
+  now = silent_client_step d.client
 
   -- its item
   abbrev pub item_of : (word : DownWord ItemOut) → IsNextDown who logins d wires v k word → ItemOut
-  item_of word p = down_item who (logins k) k (is_behind_login p.conn.client) word
+  item_of word p = down_item who (logins k) k (is_after_login p.conn.client) word
 
   -- ---- the session is no more
 
@@ -75,8 +75,8 @@ module _ (who : Identity) (logins : ℕ → Login) (d : ItemDevice) (wires : Tab
     abbrev refused : Elem
     refused = sm_failed_elem (record { condition = ItemNotFound })
 
-    pub failed_turn : turn_on (item_of Failed p) d ≡ failed_row in_items now
-    failed_turn =
+    pub failed_client_step : client_step_on (item_of Failed p) d ≡ failed_row in_items now
+    failed_client_step =
         let e = expected who logins d wires v k Failed p in
         on_element d refused (client_phase who (logins k) (InResume e.0.number)) (phase_here who logins d wires v k Failed p (InResume e.0.number) e.2)
 
@@ -89,11 +89,11 @@ module _ (who : Identity) (logins : ℕ → Login) (d : ItemDevice) (wires : Tab
     abbrev bound : Elem
     bound = iq_elem (record { from = None; to = None; id = codes "bind"; kind = Result; payload = child (bind_result_elem (record { jid = full_of who })) no_nodes })
 
-    abbrev pub names : Turn ItemOut ItemOut
+    abbrev pub names : ClientStep ItemOut ItemOut
     names = asks in_items (begins_epoch in_items now) enable_item phase.Enabling
 
-    pub bound_turn : turn_on (item_of (Bound m) p) d ≡ names
-    bound_turn =
+    pub bound_client_step : client_step_on (item_of (Bound m) p) d ≡ names
+    bound_client_step =
         on_element d bound (client_phase who (logins k) InBind) (phase_here who logins d wires v k (Bound m) p InBind in_bind)
         ∙ ap (λ r. if is_ok r then names else other_element now bound) (result_written (record { jid = full_of who }) p.shown.normal.full)
 
@@ -121,11 +121,11 @@ module _ (who : Identity) (logins : ℕ → Login) (d : ItemDevice) (wires : Tab
     abbrev word : EnabledWord
     word = record { id = previd_of m; resume = true; max = Some RESUMABLE_SECONDS }
 
-    abbrev starts : Turn ItemOut ItemOut
+    abbrev starts : ClientStep ItemOut ItemOut
     starts = begins in_items now (previd_of m)
 
-    pub enabled_turn : turn_on (item_of (Enabled m) p) d ≡ begins in_items now (previd_of m)
-    enabled_turn =
+    pub enabled_client_step : client_step_on (item_of (Enabled m) p) d ≡ begins in_items now (previd_of m)
+    enabled_client_step =
         on_element d (enabled_elem word) (client_phase who (logins k) InEnable) (phase_here who logins d wires v k (Enabled m) p InEnable in_enable)
         ∙ ap (enabling_with in_items now (enabled_elem word)) (enabled_written word (omega arith))
         ∙ ap (λ b. if not b then starts else other_element now (enabled_elem word)) (some_digits (previd_of m) (length-hex16_of m))
@@ -148,11 +148,11 @@ module _ (who : Identity) (logins : ℕ → Login) (d : ItemDevice) (wires : Tab
     abbrev resumed : ResumedWord
     resumed = record { previd = previd_of q; h = told_count h }
 
-    abbrev attached : Turn ItemOut ItemOut
+    abbrev attached : ClientStep ItemOut ItemOut
     attached = attaches in_items (acknowledges in_items now s (told_count h))
 
-    pub resumed_turn : turn_on (item_of (Resumed q h) p) d ≡ attaches in_items (acknowledges in_items now s (told_count h))
-    resumed_turn =
+    pub resumed_client_step : client_step_on (item_of (Resumed q h) p) d ≡ attaches in_items (acknowledges in_items now s (told_count h))
+    resumed_client_step =
         on_element d (resumed_elem resumed) (client_phase who (logins k) (InResume q)) (phase_here who logins d wires v k (Resumed q h) p (InResume q) in_resume)
         ∙ ap (resuming_with in_items now (resumed_elem resumed)) (resumed_written resumed (mod-lt h (omega arith)))
         ∙ ap (λ n. resumed_in in_items now n (told_count h)) resumed_session.has
@@ -181,11 +181,11 @@ module _ (who : Identity) (logins : ℕ → Login) (d : ItemDevice) (wires : Tab
     abbrev count : AckWord
     count = record { h = told_count h }
 
-    abbrev acknowledged : Turn ItemOut ItemOut
+    abbrev acknowledged : ClientStep ItemOut ItemOut
     acknowledged = acknowledges in_items now its (told_count h)
 
-    pub count_turn : turn_on (item_of (Down (Ack h)) p) d ≡ acknowledges in_items now its (told_count h)
-    count_turn =
+    pub count_client_step : client_step_on (item_of (Down (Ack h)) p) d ≡ acknowledges in_items now its (told_count h)
+    count_client_step =
         on_element d (ack_elem count) (client_phase who (logins k) (InOnline online)) (phase_here who logins d wires v k (Down (Ack h)) p (InOnline online) in_online)
         ∙ ap (λ n. online_in in_items now n (ack_elem count)) counted_session.has
         ∙ ap (told_row in_items now its) (ack_written count (mod-lt h (omega arith)))

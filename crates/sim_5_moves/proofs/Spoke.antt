@@ -1,16 +1,16 @@
 -- A call of a device's user by which its client puts one stanza.
 use Rattle.std.proofs.Common.{◌≡◌, ℕ, List, [], ◌∷◌, Some, slice_get, refl, sym, ap, subst, ◌∙◌}
 use Rattle.std.proofs.lemmas.Option.{same_Some}
-use Rattle.cl_handlers.specs.Clients.{Turn}
+use Rattle.cl_handlers.specs.Clients.{ClientStep}
 use Rattle.sim_4_links_follow.proofs.Stays.{reached_along}
 use Rattle.sim_4_links_follow.specs.Following.{WorldFollows}
 use Rattle.sim_3_images.proofs.UserMoves.{get_set_same, length_where}
 use Rattle.sim_3_images.specs.Devices.{identity_at}
-use Rattle.sim_3_items.specs.Deeds.{Says, awaits, deeds_of}
+use Rattle.sim_3_items.specs.Labels.{Says, awaits, labels_of}
 use Rattle.sim_3_items.specs.Identities.{Identity}
-use Rattle.sim_3_items.specs.Servers.{ServerShows}
-use Rattle.sim_5_moves.proofs.FlagsKeptDrifted.{same_ups, still_acked}
-use Rattle.sim_5_moves.proofs.FlagsKeptFlags.{flags_drift}
+use Rattle.sim_3_items.specs.Servers.{ServerRepresents}
+use Rattle.sim_5_moves.proofs.FlagsKeptStepped.{same_ups, still_acked}
+use Rattle.sim_5_moves.proofs.FlagsKeptFlags.{flags_session_step}
 use Rattle.sim_3_items.specs.Items.{stanzas_read}
 use Rattle.sim_3_items.specs.Ups.{up_stanza}
 use Rattle.sim_3_items.specs.ItemMoves.{ItemMove, moved, spoke}
@@ -26,22 +26,22 @@ use Rattle.sim_5_devices.specs.InTime.{AreInTime}
 use Rattle.sim_5_moves.specs.Moves.{IsOneDevice}
 use Rattle.cmd_schedule.specs.Contents.{Owned}
 use Rattle.cmd_schedule.specs.Schedules.{WireView}
-use Rattle.sim_5_devices.proofs.Sorted.{drifts_first}
-use Rattle.sim_5_devices.proofs.SessionDeedsSteps.{moves_done}
-use Rattle.sim_5_devices.specs.Deeds.{DoesAll, DoesAmid, Drift, Drifts}
+use Rattle.sim_5_devices.proofs.Sorted.{session_steps_first}
+use Rattle.sim_5_devices.proofs.SessionLabelsSteps.{moves_done}
+use Rattle.sim_5_devices.specs.Labels.{DoesAll, DoesInterleaved, SessionStep, SessionSteps}
 use Rattle.sim_3_items.specs.Built.{IsUpAs}
-use Rattle.sim_3_items.specs.Served.{FlagsShow}
-use Rattle.sim_3_items.specs.Submitted.{SubmissionsShow}
-use Rattle.sim_1_applications.specs.Devices.{Sessions, World}
+use Rattle.sim_3_items.specs.Served.{FlagsRepresent}
+use Rattle.sim_3_items.specs.Submitted.{SubmissionsRepresent}
+use Rattle.sim_1_applications.specs.Devices.{AppWorld, Sessions}
 use Rattle.sim_1_applications.specs.Events as events
 use Rattle.sim_1_applications.specs.Stanzas.{Up}
 use Rattle.sim_5_devices.proofs.Served.{same_told}
 use Rattle.sim_5_devices.specs.Told.{IsAcked, SameUps}
 use Rattle.sim_5_moves.proofs.Called.{one_called, where_same}
-use Rattle.cmd_network.specs.Places.{changed_where}
+use Rattle.cmd_network.specs.Positions.{changed_where}
 use Rattle.sim_5_moves.proofs.BuiltAlong.{built_along}
 use Rattle.sim_5_moves.specs.Going.{ArePutBuilt, DeviceGoes}
-use Rattle.sim_5_moves.specs.Running.{Bounds, DeviceRuns, IsOwned, WorldRuns, history_for}
+use Rattle.sim_5_moves.specs.Running.{Bounds, DeviceSimulates, IsOwned, WorldSimulates, history_for}
 use Rattle.xml_writer.specs.Items.{ItemOut}
 
 -- what is seen of the links tells nothing of the number of the last message
@@ -58,33 +58,33 @@ numbered v d n is = record {
   online = is.online;
 }
 
-module _ (schedule : WireView) (b : Bounds) (says : ℕ) (w : ItemWorld) (x : World) (runs : WorldRuns schedule b says w x) (i : ℕ) (o : Owned) (owned : IsOwned schedule i o) where
-  abbrev r : DeviceRuns schedule w x i o
+module _ (schedule : WireView) (b : Bounds) (says : ℕ) (w : ItemWorld) (x : AppWorld) (runs : WorldSimulates schedule b says w x) (i : ℕ) (o : Owned) (owned : IsOwned schedule i o) where
+  abbrev r : DeviceSimulates schedule w x i o
   r = runs.devices i o owned
 
   abbrev who : Identity
   who = identity_at schedule i o
 
   abbrev c : ItemDevice
-  c = r.shows.device
+  c = r.represents.device
 
-  module _ (m : ItemMove) (t : Turn ItemOut ItemOut) (z : ItemOut) (y : Up) (is : moved m w ≡ spoke i c t w) (read : up_stanza z ≡ y) (built : IsUpAs o y z) (timely : AreInTime (Says z ∷ []) r.device.sessions.now)
+  module _ (m : ItemMove) (t : ClientStep ItemOut ItemOut) (z : ItemOut) (y : Up) (is : moved m w ≡ spoke i c t w) (read : up_stanza z ≡ y) (built : IsUpAs o y z) (timely : AreInTime (Says z ∷ []) r.device.sessions.now)
       (follows : WorldFollows who r.logins (moved m w) r.view (Says z ∷ [])) where
-    abbrev behind : ItemDevice
-    behind = record c { client = t.client }
+    abbrev following : ItemDevice
+    following = record c { client = t.client }
 
     pub one_device : IsOneDevice i w (moved m w)
     one_device =
         subst (IsOneDevice i w) (sym is)
-        (one_called i w behind (changed_where c.here (put_up t.out.put) w.wires) (length_where c.here (put_up t.out.put) w.wires) (where_same (put_up t.out.put) (λ v. refl) c.here w.wires))
+        (one_called i w following (changed_where c.here (put_up t.out.put) w.wires) (length_where c.here (put_up t.out.put) w.wires) (where_same (put_up t.out.put) (λ v. refl) c.here w.wires))
 
-    there : slice_get (moved m w).devices i ≡ Some behind
-    there = ap (λ (n : ItemWorld). slice_get n.devices i) is ∙ get_set_same w.devices i c behind r.shows.there
+    there : slice_get (moved m w).devices i ≡ Some following
+    there = ap (λ (n : ItemWorld). slice_get n.devices i) is ∙ get_set_same w.devices i c following r.represents.there
 
     pub reached : LinkReached r.view
     reached = prompt_runs awaits r.view r.prompt
 
-    pub done : (end : Sessions) × DoesAmid stanzas_read (deeds_of follows.moves) r.device.sessions end × IsDevice stanzas_read (seen follows.next) end
+    pub done : (end : Sessions) × DoesInterleaved stanzas_read (labels_of follows.moves) r.device.sessions end × IsDevice stanzas_read (seen follows.next) end
     done = moves_done stanzas_read follows.moves r.view follows.next r.device.sessions reached follows.leads r.sessions
 
     pub put_built : ArePutBuilt o (history_for schedule x.takes o) (Says z ∷ [])
@@ -97,39 +97,39 @@ module _ (schedule : WireView) (b : Bounds) (says : ℕ) (w : ItemWorld) (x : Wo
       reached = reached_along follows.moves r.view follows.next reached follows.leads;
       in_time = paging_stays follows.moves r.view follows.next r.device.sessions r.in_time follows.leads follows.prompt r.sessions (subst (λ ds. AreInTime ds r.device.sessions.now) (sym follows.does) timely);
       prompt = prompt_stays follows.moves r.view follows.next r.prompt follows.leads follows.prompt;
-      shows = follows.shows;
+      represents = follows.represents;
       end = done.0;
-      amid = subst (λ ds. DoesAmid stanzas_read ds r.device.sessions done.0) follows.does done.1;
+      interleaved = subst (λ ds. DoesInterleaved stanzas_read ds r.device.sessions done.0) follows.does done.1;
       sessions = done.2;
       built = built_along o (history_for schedule x.takes o) follows.moves r.view follows.next reached follows.leads (subst (ArePutBuilt o (history_for schedule x.takes o)) (sym follows.does) put_built) r.built;
     }
 
-    pub drifted : (xs : List Drift) × (s : Sessions) × Drifts xs r.device.sessions s × DoesAll stanzas_read (Says z ∷ []) s g.end
-    drifted = drifts_first stanzas_read (Says z ∷ []) r.device.sessions g.end (tt, tt) g.amid
+    pub session_stepped : (xs : List SessionStep) × (s : Sessions) × SessionSteps xs r.device.sessions s × DoesAll stanzas_read (Says z ∷ []) s g.end
+    session_stepped = session_steps_first stanzas_read (Says z ∷ []) r.device.sessions g.end (tt, tt) g.interleaved
 
     abbrev pub at : Sessions
-    at = drifted.1
+    at = session_stepped.1
 
     pub same_at : SameUps r.device.sessions at
-    same_at = same_ups drifted.0 r.device.sessions at drifted.2
+    same_at = same_ups session_stepped.0 r.device.sessions at session_stepped.2
 
     pub end_is : g.end ≡ events.put_up y at
-    end_is = drifted.3.2 ∙ drifted.3.1.1 ∙ ap (λ u. events.put_up u at) read
+    end_is = session_stepped.3.2 ∙ session_stepped.3.1.1 ∙ ap (λ u. events.put_up u at) read
 
     pub ends_with : (n : ℕ) → IsDevice stanzas_read (seen g.view) (record (events.put_up y at) { n = n })
     ends_with n = numbered (seen g.view) (events.put_up y at) n (subst (IsDevice stanzas_read (seen g.view)) end_is g.sessions)
 
-    pub client_is : g.shows.device ≡ behind
-    client_is = same_Some g.shows.device behind (sym g.shows.there ∙ there)
+    pub client_is : g.represents.device ≡ following
+    client_is = same_Some g.represents.device following (sym g.represents.there ∙ there)
 
-    pub shows_at : SubmissionsShow c.client at
-    shows_at = same_told c.client r.device.sessions at same_at r.submissions
+    pub represents_at : SubmissionsRepresent c.client at
+    represents_at = same_told c.client r.device.sessions at same_at r.submissions
 
     pub acked_at : IsAcked r.device.sessions → IsAcked at
-    acked_at acked = still_acked drifted.0 r.device.sessions at drifted.2 acked
+    acked_at acked = still_acked session_stepped.0 r.device.sessions at session_stepped.2 acked
 
-    pub flags_at : FlagsShow who.account o.device w.server at
+    pub flags_at : FlagsRepresent who.account o.device w.server at
     flags_at =
-        flags_drift who r.logins w.server r.view g.view r.device.sessions at g.end drifted.0 r.shows.server
-        (subst (λ h. ServerShows who r.logins h g.view) one_device.server g.shows.server)
-        (link_kept g.view g.reached) r.sessions g.sessions drifted.2 (ap (λ (s : Sessions). s.row) end_is) r.flags
+        flags_session_step who r.logins w.server r.view g.view r.device.sessions at g.end session_stepped.0 r.represents.server
+        (subst (λ h. ServerRepresents who r.logins h g.view) one_device.server g.represents.server)
+        (link_kept g.view g.reached) r.sessions g.sessions session_stepped.2 (ap (λ (s : Sessions). s.row) end_is) r.flags

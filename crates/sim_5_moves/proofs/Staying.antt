@@ -5,14 +5,14 @@ use Rattle.std.specs.List.{AllByRecursion, filter}
 use Rattle.sm_acks.specs.declared.end.TheConstants.{MOST_UNACKNOWLEDGED}
 use Rattle.mam_archive.specs.Entries.{EntryView}
 use Rattle.srv_state.specs.Handling.{counting}
-use Rattle.srv_state.specs.State.{Hall, Kept, Step, archive_at}
+use Rattle.srv_state.specs.State.{Kept, ServerState, Step, archive_at}
 use Rattle.srv_state.specs.Steps as steps
-use Rattle.srv_state.specs.Steps.{Act, Archive, Handle, Send, Tell, act, acted, archived_in, ask_where, in_hall, in_sessions, is_due, overflow, part_where, put, put_where, queue, send_told, shut}
+use Rattle.srv_state.specs.Steps.{Act, Archive, Handle, Send, Tell, act, acted, archived_in, ask_where, in_server_state, in_sessions, is_due, overflow, part_where, put, put_where, queue, send_by_info, shut}
 use Rattle.sim_5_moves.proofs.AnswersMessages.{archs, as_sent, route}
 use Rattle.sim_5_moves.specs.Sent.{as_it_is}
 use Rattle.sim_3_items.specs.ItemWorlds.{itself}
-use Rattle.sm_live.specs.Sessions.{Session, asks, handles, is_at, told_of, waits, with_session, without}
-use Rattle.sm_live.specs.declared.told.Told.{Told}
+use Rattle.sm_live.specs.Sessions.{Session, asks, handles, info_of, is_at, waits, with_session, without}
+use Rattle.sm_live.specs.declared.told.SessionInfo.{SessionInfo}
 use Rattle.srv_handlers.specs.Messages.{archiving, carrying, copying, copying_to, delivering, delivering_to, telling}
 use Rattle.im_messages.specs.Entries.{entry_of}
 use Rattle.im_replies.specs.Streams.{error_item}
@@ -35,7 +35,7 @@ IsPassing _ = ⊥
 abbrev pub ArePassing : List (Act ItemOut) → Type 0
 ArePassing acts = AllByRecursion IsPassing acts
 
-pub counting_passes : (t : Told) (acts : List (Act ItemOut)) → ArePassing acts → ArePassing (counting t acts)
+pub counting_passes : (t : SessionInfo) (acts : List (Act ItemOut)) → ArePassing acts → ArePassing (counting t acts)
 counting_passes t acts all = go t.counted
   where
     go : (b : Bool) → ArePassing (cond b (Handle t.number ∷ acts) acts)
@@ -50,24 +50,24 @@ telling_passes : (m : MessageView) (accounts : List ℕ) (more : List (Act ItemO
 telling_passes m [] more all = all
 telling_passes m (account ∷ accounts) more all = (tt, all)
 
-module _ (m : MessageView) (accounts : List ℕ) (h : Hall ItemOut) where
-  delivery_passes : (n : ℕ) (o : Option Told) (more : List (Act ItemOut)) → ArePassing more → ArePassing (delivering_to as_it_is m accounts n o h more)
+module _ (m : MessageView) (accounts : List ℕ) (h : ServerState ItemOut) where
+  delivery_passes : (n : ℕ) (o : Option SessionInfo) (more : List (Act ItemOut)) → ArePassing more → ArePassing (delivering_to as_it_is m accounts n o h more)
   delivery_passes n None more all = all
   delivery_passes n (Some t) more all = (tt, all)
 
   delivering_passes : (numbers : List ℕ) (more : List (Act ItemOut)) → ArePassing more → ArePassing (delivering as_it_is m accounts numbers h more)
   delivering_passes [] more all = all
-  delivering_passes (n ∷ numbers) more all = delivery_passes n (told_of n h.sessions) (delivering as_it_is m accounts numbers h more) (delivering_passes numbers more all)
+  delivering_passes (n ∷ numbers) more all = delivery_passes n (info_of n h.sessions) (delivering as_it_is m accounts numbers h more) (delivering_passes numbers more all)
 
-  copy_passes : (sent : Bool) (n : ℕ) (o : Option Told) (more : List (Act ItemOut)) → ArePassing more → ArePassing (copying_to as_it_is sent m accounts n o h more)
+  copy_passes : (sent : Bool) (n : ℕ) (o : Option SessionInfo) (more : List (Act ItemOut)) → ArePassing more → ArePassing (copying_to as_it_is sent m accounts n o h more)
   copy_passes sent n None more all = all
   copy_passes sent n (Some t) more all = (tt, all)
 
   copying_passes : (sent : Bool) (numbers : List ℕ) (more : List (Act ItemOut)) → ArePassing more → ArePassing (copying as_it_is sent m accounts numbers h more)
   copying_passes sent [] more all = all
-  copying_passes sent (n ∷ numbers) more all = copy_passes sent n (told_of n h.sessions) (copying as_it_is sent m accounts numbers h more) (copying_passes sent numbers more all)
+  copying_passes sent (n ∷ numbers) more all = copy_passes sent n (info_of n h.sessions) (copying as_it_is sent m accounts numbers h more) (copying_passes sent numbers more all)
 
-pub carrying_passes : (resource : List ℕ) (m : Submission) (t : Told) (h : Hall ItemOut) (account : ℕ) →
+pub carrying_passes : (resource : List ℕ) (m : Submission) (t : SessionInfo) (h : ServerState ItemOut) (account : ℕ) →
     ArePassing (carrying as_it_is (as_sent resource m t h account) (archs resource m t h account) (route resource m t h account) h)
 carrying_passes resource m t h account =
     let full = as_sent resource m t h account in
@@ -88,7 +88,7 @@ module _ (P : Session ItemOut → Type 0) (handled : (s : Session ItemOut) → P
   Are ss = AllByRecursion P ss
 
   abbrev Stay : Step ItemOut → Type 0
-  Stay s = AllByRecursion P s.hall.sessions
+  Stay s = AllByRecursion P s.server_state.sessions
 
   some_stay : (p : Session ItemOut → Bool) (ss : List (Session ItemOut)) → Are ss → Are (filter p ss)
   some_stay p [] are = tt
@@ -107,7 +107,7 @@ module _ (P : Session ItemOut → Type 0) (handled : (s : Session ItemOut) → P
   changed_stay n f keeps (s ∷ ss) are = (either_is (s.shown.number == n) (f s) s (keeps s are.0) are.0, changed_stay n f keeps ss are.1)
 
   shut_stays : (k : ℕ) (s : Step ItemOut) → Stay s → Stay (shut k s)
-  shut_stays k s stay = some_stay (λ t. not (is_at k t)) s.hall.sessions stay
+  shut_stays k s stay = some_stay (λ t. not (is_at k t)) s.server_state.sessions stay
 
   put_stays : (o : Option ℕ) (z : ItemOut) (s : Step ItemOut) → Stay s → Stay (put_where o z s)
   put_stays None z s stay = stay
@@ -120,35 +120,35 @@ module _ (P : Session ItemOut → Type 0) (handled : (s : Session ItemOut) → P
   ask_stays : (n : ℕ) (o : Option ℕ) (due : Bool) (s : Step ItemOut) → Stay s → Stay (ask_where itself n o due s)
   ask_stays n o false s stay = stay
   ask_stays n None true s stay = stay
-  ask_stays n (Some k) true s stay = changed_stay n (asks true) (asked true) s.hall.sessions stay
+  ask_stays n (Some k) true s stay = changed_stay n (asks true) (asked true) s.server_state.sessions stay
 
-  queue_stays : (n : ℕ) (z : ItemOut) (t : Told) (s : Step ItemOut) → Stay s → Stay (queue itself n z t s)
+  queue_stays : (n : ℕ) (z : ItemOut) (t : SessionInfo) (s : Step ItemOut) → Stay s → Stay (queue itself n z t s)
   queue_stays n z t s stay =
       let u = in_sessions (with_session n (waits z)) s in
-      ask_stays n t.conn (is_due t) (put_where t.conn z u) (put_stays t.conn z u (changed_stay n (waits z) (waiting z) s.hall.sessions stay))
+      ask_stays n t.conn (is_due t) (put_where t.conn z u) (put_stays t.conn z u (changed_stay n (waits z) (waiting z) s.server_state.sessions stay))
 
-  overflow_stays : (n : ℕ) (t : Told) (s : Step ItemOut) → Stay s → Stay (overflow itself n t s)
+  overflow_stays : (n : ℕ) (t : SessionInfo) (s : Step ItemOut) → Stay s → Stay (overflow itself n t s)
   overflow_stays n t s stay =
-      part_stays t.conn (itself (error_item ResourceConstraint)) (in_sessions (without n) s) (some_stay (λ x. not (x.shown.number == n)) s.hall.sessions stay)
+      part_stays t.conn (itself (error_item ResourceConstraint)) (in_sessions (without n) s) (some_stay (λ x. not (x.shown.number == n)) s.server_state.sessions stay)
 
   either_stays : (b : Bool) (s t : Step ItemOut) → Stay s → Stay t → Stay (cond b s t)
   either_stays true s t a b = a
   either_stays false s t a b = b
 
-  sent_stays : (n : ℕ) (z : ItemOut) (o : Option Told) (s : Step ItemOut) → Stay s → Stay (send_told itself n z o s)
+  sent_stays : (n : ℕ) (z : ItemOut) (o : Option SessionInfo) (s : Step ItemOut) → Stay s → Stay (send_by_info itself n z o s)
   sent_stays n z None s stay = stay
   sent_stays n z (Some t) s stay =
       either_stays (not t.counted) _ _ (put_stays t.conn z s stay)
       (either_stays (t.waiting == MOST_UNACKNOWLEDGED) _ _ (overflow_stays n t s stay) (queue_stays n z t s stay))
 
-  archived_stays : (e : EntryView) (account : ℕ) (o : Option Kept) (s : Step ItemOut) → Stay s → Stay (in_hall (archived_in e account o) s)
+  archived_stays : (e : EntryView) (account : ℕ) (o : Option Kept) (s : Step ItemOut) → Stay s → Stay (in_server_state (archived_in e account o) s)
   archived_stays e account None s stay = stay
   archived_stays e account (Some kept) s stay = stay
 
   act_stays : (a : Act ItemOut) (s : Step ItemOut) → IsPassing a → Stay s → Stay (act itself a s)
-  act_stays (Handle n) s is stay = changed_stay n handles handled s.hall.sessions stay
-  act_stays (Send n z) s is stay = sent_stays n z (told_of n s.hall.sessions) s stay
-  act_stays (Archive account e) s is stay = archived_stays e account (archive_at account s.hall) s stay
+  act_stays (Handle n) s is stay = changed_stay n handles handled s.server_state.sessions stay
+  act_stays (Send n z) s is stay = sent_stays n z (info_of n s.server_state.sessions) s stay
+  act_stays (Archive account e) s is stay = archived_stays e account (archive_at account s.server_state) s stay
   act_stays (Tell from to origin) s is stay = stay
   act_stays (steps.Say k z) s is stay = absurd is
   act_stays (steps.Close k) s is stay = absurd is
@@ -162,7 +162,7 @@ module _ (P : Session ItemOut → Type 0) (handled : (s : Session ItemOut) → P
   act_stays (steps.Present n available priority) s is stay = absurd is
   act_stays (steps.Copy n on) s is stay = absurd is
 
-  pub acted_stays : (acts : List (Act ItemOut)) (s : Step ItemOut) → ArePassing acts → AllByRecursion P s.hall.sessions → AllByRecursion P (acted itself acts s).hall.sessions
+  pub acted_stays : (acts : List (Act ItemOut)) (s : Step ItemOut) → ArePassing acts → AllByRecursion P s.server_state.sessions → AllByRecursion P (acted itself acts s).server_state.sessions
   acted_stays [] s all stay = stay
   acted_stays (a ∷ acts) s all stay = acted_stays acts (act itself a s) all.1 (act_stays a s all.0 stay)
 
@@ -170,13 +170,13 @@ module _ (P : Session ItemOut → Type 0) (handled : (s : Session ItemOut) → P
 
 module _ (owned : List Owned) (names : List (List ℕ)) where
   device_handled : (s : Session ItemOut) → IsOfDevice owned names s → IsOfDevice owned names (handles s)
-  device_handled s is = record { place = is.place; device = is.device; there = is.there; account = is.account; resource = is.resource }
+  device_handled s is = record { position = is.position; device = is.device; there = is.there; account = is.account; resource = is.resource }
 
   device_waiting : (z : ItemOut) (s : Session ItemOut) → IsOfDevice owned names s → IsOfDevice owned names (waits z s)
-  device_waiting z s is = record { place = is.place; device = is.device; there = is.there; account = is.account; resource = is.resource }
+  device_waiting z s is = record { position = is.position; device = is.device; there = is.there; account = is.account; resource = is.resource }
 
   device_asked : (on : Bool) (s : Session ItemOut) → IsOfDevice owned names s → IsOfDevice owned names (asks on s)
-  device_asked on s is = record { place = is.place; device = is.device; there = is.there; account = is.account; resource = is.resource }
+  device_asked on s is = record { position = is.position; device = is.device; there = is.there; account = is.account; resource = is.resource }
 
-  pub devices_stay : (acts : List (Act ItemOut)) (s : Step ItemOut) → ArePassing acts → AllByRecursion (IsOfDevice owned names) s.hall.sessions → AllByRecursion (IsOfDevice owned names) (acted itself acts s).hall.sessions
+  pub devices_stay : (acts : List (Act ItemOut)) (s : Step ItemOut) → ArePassing acts → AllByRecursion (IsOfDevice owned names) s.server_state.sessions → AllByRecursion (IsOfDevice owned names) (acted itself acts s).server_state.sessions
   devices_stay acts s all stay = acted_stays (IsOfDevice owned names) device_handled device_waiting device_asked acts s all stay

@@ -1,20 +1,20 @@
--- A move that changes nothing leaves the worlds beside one another.
+-- A move that changes nothing leaves the worlds related.
 use Rattle.std.proofs.Common.{◌≡◌, ℕ, ◌+◌, ◌≤◌, ◌==◌, Bool, true, false, List, [], Some, Err, length, refl, sym, ap, ◌∙◌, subst, if◌then◌else◌, arith, inl}
 use Rattle.std.proofs.lemmas.Option.{same_Some}
 use Rattle.std.specs.List.{slice_get}
-use Rattle.cl_core.specs.UserCalls.{catch_up_answer, catches_up, say_answer, says as says_turn}
+use Rattle.cl_core.specs.UserCalls.{catch_up_answer, catches_up, say_answer, says as says_client_step}
 use Rattle.cl_core.specs.declared.faults.CatchUpStart.{CatchUpStart}
 use Rattle.cl_core.specs.declared.faults.SayFault.{SayFault}
 use Rattle.cl_handlers.specs.Speech.{in_items}
 use Rattle.sim_4_links_follow.proofs.Nobody.{not_over, nothing_down, nothing_up, of_nobody}
 use Rattle.sim_4_links_follow.specs.Following.{IsOfNobody, IsOnNone}
-use Rattle.sim_3_items.specs.Told.{name_told}
+use Rattle.sim_3_items.specs.Told.{local_part_of}
 use Rattle.sim_3_items.specs.ItemMoves.{CatchUp, Close, Cut, Dial, Down, DownEnd, Forget, ItemMove, Say, Tick, Up, UpEnd, caught_up_by, moved, said_by, said_in}
 use Rattle.sim_3_items.specs.ItemPipes.{ItemWire, is_end_due}
-use Rattle.sim_3_items.specs.ItemWorlds.{ItemDevice, ItemWorld, silent_turn}
+use Rattle.sim_3_items.specs.ItemWorlds.{ItemDevice, ItemWorld, silent_client_step}
 use Rattle.cmd_schedule.specs.Schedules.{WireView}
-use Rattle.sim_1_applications.specs.Devices.{Device, World}
-use Rattle.sim_5_moves.specs.Running.{Bounds, IsAskedBy, MoveRuns, WorldRuns, said_at, spoken_by_move, spoken_where}
+use Rattle.sim_1_applications.specs.Devices.{AppWorld, Device}
+use Rattle.sim_5_moves.specs.Running.{Bounds, IsAskedBy, MoveSimulates, WorldSimulates, said_at, spoken_by_move, spoken_where}
 
 more_or_none : (b : Bool) (n : ℕ) → n ≤ n + (if b then 1 else 0)
 more_or_none true n = omega arith
@@ -28,14 +28,14 @@ asked_same (Close device) w i d = refl
 asked_same (Say device to text private) w i d = refl
 asked_same (CatchUp device most) w i d = more_or_none (i == device) d.reading.asked
 asked_same (Tick milliseconds) w i d = refl
-asked_same (Up place) w i d = refl
-asked_same (Down place) w i d = ((λ un. (refl, un), inl refl), λ wire there other. (refl, λ un. un))
-asked_same (UpEnd place) w i d = refl
-asked_same (DownEnd place) w i d = refl
-asked_same (Cut place up down) w i d = refl
+asked_same (Up position) w i d = refl
+asked_same (Down position) w i d = ((λ un. (refl, un), inl refl), λ wire there other. (refl, λ un. un))
+asked_same (UpEnd position) w i d = refl
+asked_same (DownEnd position) w i d = refl
+asked_same (Cut position up down) w i d = refl
 
-module _ (schedule : WireView) (b : Bounds) (says : ℕ) (w : ItemWorld) (x : World) (runs : WorldRuns schedule b says w x) where
-  pub still_runs : (m : ItemMove) → moved m w ≡ w → spoken_by_move m w ≡ [] → MoveRuns schedule b says m w x
+module _ (schedule : WireView) (b : Bounds) (says : ℕ) (w : ItemWorld) (x : AppWorld) (runs : WorldSimulates schedule b says w x) where
+  pub still_runs : (m : ItemMove) → moved m w ≡ w → spoken_by_move m w ≡ [] → MoveSimulates schedule b says m w x
   still_runs m same silent = record {
     events = [];
     next = x;
@@ -43,8 +43,8 @@ module _ (schedule : WireView) (b : Bounds) (says : ℕ) (w : ItemWorld) (x : Wo
     spoken = sym silent;
     asked = λ i d e there here. subst (IsAskedBy m w i d) (same_Some d e (sym there ∙ here)) (asked_same m w i d);
     runs =
-        subst (λ n. WorldRuns schedule b n (moved m w) x) (let none = ap length silent in let e : says ≡ says + length (spoken_by_move m w) = omega arith in e)
-        (subst (λ v. WorldRuns schedule b says v x) (sym same) runs);
+        subst (λ n. WorldSimulates schedule b n (moved m w) x) (let none = ap length silent in let e : says ≡ says + length (spoken_by_move m w) = omega arith in e)
+        (subst (λ v. WorldSimulates schedule b says v x) (sym same) runs);
   }
 
   -- ---- of nobody
@@ -56,35 +56,35 @@ module _ (schedule : WireView) (b : Bounds) (says : ℕ) (w : ItemWorld) (x : Wo
   nobody_speaks (Say device to text private) none = ap (said_at device to text private) none
   nobody_speaks (CatchUp device most) none = refl
   nobody_speaks (Tick milliseconds) none = absurd none
-  nobody_speaks (Up place) none = refl
-  nobody_speaks (Down place) none = refl
-  nobody_speaks (UpEnd place) none = refl
-  nobody_speaks (DownEnd place) none = refl
-  nobody_speaks (Cut place up down) none = refl
+  nobody_speaks (Up position) none = refl
+  nobody_speaks (Down position) none = refl
+  nobody_speaks (UpEnd position) none = refl
+  nobody_speaks (DownEnd position) none = refl
+  nobody_speaks (Cut position up down) none = refl
 
-  pub nobody_runs : (m : ItemMove) → IsOfNobody m w → MoveRuns schedule b says m w x
+  pub nobody_runs : (m : ItemMove) → IsOfNobody m w → MoveSimulates schedule b says m w x
   nobody_runs m none = still_runs m (of_nobody m w none) (nobody_speaks m none)
 
   -- ---- nothing to hand over
 
-  pub up_runs : (place : ℕ) (wire : ItemWire) → slice_get w.wires place ≡ Some wire → wire.up.items ≡ [] → MoveRuns schedule b says (Up place) w x
-  up_runs place wire there none = still_runs (Up place) (nothing_up w place wire there none) refl
+  pub up_runs : (position : ℕ) (wire : ItemWire) → slice_get w.wires position ≡ Some wire → wire.up.items ≡ [] → MoveSimulates schedule b says (Up position) w x
+  up_runs position wire there none = still_runs (Up position) (nothing_up w position wire there none) refl
 
-  pub told_runs : (place : ℕ) (wire : ItemWire) → slice_get w.wires place ≡ Some wire → is_end_due wire.up ≡ false → MoveRuns schedule b says (UpEnd place) w x
-  told_runs place wire there due = still_runs (UpEnd place) (not_over w place wire there due) refl
+  pub told_runs : (position : ℕ) (wire : ItemWire) → slice_get w.wires position ≡ Some wire → is_end_due wire.up ≡ false → MoveSimulates schedule b says (UpEnd position) w x
+  told_runs position wire there due = still_runs (UpEnd position) (not_over w position wire there due) refl
 
-  pub down_runs : (place : ℕ) (wire : ItemWire) → slice_get w.wires place ≡ Some wire → IsOnNone place wire w → MoveRuns schedule b says (Down place) w x
-  down_runs place wire there none = still_runs (Down place) (nothing_down w place wire there none) refl
+  pub down_runs : (position : ℕ) (wire : ItemWire) → slice_get w.wires position ≡ Some wire → IsOnNone position wire w → MoveSimulates schedule b says (Down position) w x
+  down_runs position wire there none = still_runs (Down position) (nothing_down w position wire there none) refl
 
   -- ---- refused
 
-  pub says_refused : (place : ℕ) (to text : List ℕ) (private : Bool) (d : ItemDevice) (fault : SayFault) → slice_get w.devices place ≡ Some d → say_answer d.client text ≡ Err fault → MoveRuns schedule b says (Say place to text private) w x
-  says_refused place to text private d fault there answer =
-      still_runs (Say place to text private)
-      (ap (λ o. said_by place to text private o w) there ∙ ap (λ r. said_in r place d (says_turn in_items (silent_turn d.client) to text private) w) answer)
-      (ap (said_at place to text private) there ∙ ap (λ r. spoken_where r (record { device = place; to = name_told to; text = text; private = private })) answer)
+  pub says_refused : (position : ℕ) (to text : List ℕ) (private : Bool) (d : ItemDevice) (fault : SayFault) → slice_get w.devices position ≡ Some d → say_answer d.client text ≡ Err fault → MoveSimulates schedule b says (Say position to text private) w x
+  says_refused position to text private d fault there answer =
+      still_runs (Say position to text private)
+      (ap (λ o. said_by position to text private o w) there ∙ ap (λ r. said_in r position d (says_client_step in_items (silent_client_step d.client) to text private) w) answer)
+      (ap (said_at position to text private) there ∙ ap (λ r. spoken_where r (record { device = position; to = local_part_of to; text = text; private = private })) answer)
 
-  pub asks_refused : (place most : ℕ) (d : ItemDevice) (fault : CatchUpStart) → slice_get w.devices place ≡ Some d → catch_up_answer d.client ≡ Err fault → MoveRuns schedule b says (CatchUp place most) w x
-  asks_refused place most d fault there answer =
-      still_runs (CatchUp place most)
-      (ap (λ o. caught_up_by place most o w) there ∙ ap (λ r. said_in r place d (catches_up in_items (silent_turn d.client) most) w) answer) refl
+  pub asks_refused : (position most : ℕ) (d : ItemDevice) (fault : CatchUpStart) → slice_get w.devices position ≡ Some d → catch_up_answer d.client ≡ Err fault → MoveSimulates schedule b says (CatchUp position most) w x
+  asks_refused position most d fault there answer =
+      still_runs (CatchUp position most)
+      (ap (λ o. caught_up_by position most o w) there ∙ ap (λ r. said_in r position d (catches_up in_items (silent_client_step d.client) most) w) answer) refl

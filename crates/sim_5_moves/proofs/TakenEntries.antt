@@ -2,13 +2,13 @@
 use Rattle.std.proofs.Common.{◌≡◌, ℕ, Bool, true, false, List, [], ◌∷◌, ◌++◌, unwrap_or, refl, sym, ap, ◌∙◌}
 use Rattle.mam_archive.specs.Entries.{EntryView}
 use Rattle.mam_archive.specs.declared.entry.Body.{Body}
-use Rattle.srv_state.specs.State.{Hall, session_address}
+use Rattle.srv_state.specs.State.{ServerState, session_address}
 use Rattle.im_extensions.specs.Given.{origin_of as origin_given}
 use Rattle.sim_5_moves.proofs.AnswersMessages.{as_sent}
 use Rattle.sm_live.specs.Sessions.{Session, told}
 use Rattle.im_messages.specs.Bodies.{bodies_of}
 use Rattle.im_messages.specs.Entries.{entry_of}
-use Rattle.sim_5_moves.proofs.Places.{full_is}
+use Rattle.sim_5_moves.proofs.Positions.{full_is}
 use Rattle.sim_5_moves.specs.Submits.{Submits}
 use Rattle.cmd_report.specs.Addresses.{domain, full_address, origin_of}
 use Rattle.cmd_report.specs.Takes as report
@@ -37,13 +37,13 @@ body_there id text false = ap (λ (t : List ℕ). let b : List Body = record { l
 
 -- ---- the take
 
-abbrev pub take_now : Hall ItemOut → ℕ → Owned → Submission → Take
+abbrev pub take_now : ServerState ItemOut → ℕ → Owned → Submission → Take
 take_now h i o m = record { device = i; account = o.account; said = m; moment = h.moment }
 
-abbrev pub entry_now : Hall ItemOut → Owned → Session ItemOut → Submission → ℕ → EntryView
+abbrev pub entry_now : ServerState ItemOut → Owned → Session ItemOut → Submission → ℕ → EntryView
 entry_now h o s m account = entry_of 0 h.moment (as_sent o.device m (told s) h account)
 
-module _ {keep : ℕ} {owned : List Owned} {names : List (List ℕ)} {takes : List Take} {h : Hall ItemOut} {i : ℕ} {o : Owned} {s : Session ItemOut} {m : Submission} {e : Elem} (x : Submits keep owned names takes h i o s m e) where
+module _ {keep : ℕ} {owned : List Owned} {names : List (List ℕ)} {takes : List Take} {h : ServerState ItemOut} {i : ℕ} {o : Owned} {s : Session ItemOut} {m : Submission} {e : Elem} (x : Submits keep owned names takes h i o s m e) where
   pub name_here : name_at owned i ≡ o.device
   name_here = name_is owned i o x.session.device
 

@@ -1,30 +1,30 @@
 -- Time passes.
 use Rattle.std.proofs.Common.{◌≡◌, ℕ, ◌+◌, max, length, refl, inl, arith}
-use Rattle.sim_3_images.specs.Mild.{ClientFits, DownFits, HallFits, UpFits}
+use Rattle.sim_3_images.specs.Relayable.{ClientFits, DownFits, ServerFits, UpFits}
 use Rattle.sim_3_images.specs.Devices.{identity_at}
-use Rattle.sim_3_images.proofs.FittingImages.{keep_here, takes_any}
+use Rattle.sim_3_images.proofs.FittingEncodings.{keep_here, takes_any}
 use Rattle.sim_3_images.proofs.MoveSteps.{move_fits}
 use Rattle.sim_3_items.specs.ItemMoves.{Tick, moved}
 use Rattle.sim_3_items.specs.ItemWorlds.{ItemWorld}
 use Rattle.cmd_schedule.specs.Schedules.{WireView}
 use Rattle.sim_3_images.proofs.Within.{moment_within}
 use Rattle.sim_5_moves.proofs.Events.{moment_flags, moment_runs}
-use Rattle.sim_1_applications.specs.Devices.{World}
+use Rattle.sim_1_applications.specs.Devices.{AppWorld}
 use Rattle.sim_1_applications.specs.Runs.{owned_of}
 use Rattle.sim_5_moves.proofs.Kept.{kept_flags}
 use Rattle.sim_5_moves.proofs.Quietly.{quiet_device, quiet_move}
 use Rattle.sim_4_links_follow.proofs.StandMoves.{move_stands}
 use Rattle.sim_4_links_follow.proofs.UpEnds.{tick_in}
-use Rattle.sim_5_moves.specs.Running.{Bounds, MoveRuns, WorldRuns, keep_in, names_of}
+use Rattle.sim_5_moves.specs.Running.{Bounds, MoveSimulates, WorldSimulates, keep_in, names_of}
 
-pub tick_runs : (schedule : WireView) (b : Bounds) (says milliseconds : ℕ) (w : ItemWorld) (x : World) → WorldRuns schedule b says w x → MoveRuns schedule b says (Tick milliseconds) w x
+pub tick_runs : (schedule : WireView) (b : Bounds) (says milliseconds : ℕ) (w : ItemWorld) (x : AppWorld) → WorldSimulates schedule b says w x → MoveSimulates schedule b says (Tick milliseconds) w x
 tick_runs schedule b says milliseconds w x runs =
     let later = w.moment + milliseconds in
     let after : ItemWorld = moved (Tick milliseconds) w in
     quiet_move schedule b says w x runs (Tick milliseconds) milliseconds refl (λ i d e same. same) (record {
       devices = λ i o is old.
-          quiet_device schedule w x after i o old refl (tick_in (identity_at schedule i o) old.logins w old.view milliseconds old.shows)
-          (inl (kept_flags (identity_at schedule i o).account o.device w.server after.server (λ d shows. moment_flags w.server (identity_at schedule i o).account o.device d runs.within.ordered.sessions shows later)));
+          quiet_device schedule w x after i o old refl (tick_in (identity_at schedule i o) old.logins w old.view milliseconds old.represents)
+          (inl (kept_flags (identity_at schedule i o).account o.device w.server after.server (λ d represents. moment_flags w.server (identity_at schedule i o).account o.device d runs.within.ordered.sessions represents later)));
       many = refl;
       dialled = runs.dialled;
       wires = runs.wires;
@@ -32,7 +32,7 @@ tick_runs schedule b says milliseconds w x runs =
       takes = refl;
       moment = refl;
       now = let shown = runs.now in let same : max w.server.moment (w.moment + milliseconds) ≡ w.moment + milliseconds = omega (arith, shown) in same;
-      fits = move_fits UpFits DownFits HallFits ClientFits keep_here takes_any (Tick milliseconds) w runs.fits tt;
+      fits = move_fits UpFits DownFits ServerFits ClientFits keep_here takes_any (Tick milliseconds) w runs.fits tt;
       stands = move_stands (Tick milliseconds) w tt runs.stands;
       within = moment_within later (length w.wires) w.server runs.within;
     })

@@ -4,66 +4,66 @@ use Rattle.std.proofs.lemmas.Option.{same_Some}
 use Rattle.sim_4_links_follow.proofs.Numbered.{set_elsewhere}
 use Rattle.sim_3_images.proofs.UserMoves.{get_set_same}
 use Rattle.sim_3_images.specs.Devices.{identity_at}
-use Rattle.sim_3_items.specs.Deeds.{Deed}
-use Rattle.sim_3_items.specs.Shows.{Shows}
+use Rattle.sim_3_items.specs.Labels.{Label}
+use Rattle.sim_3_items.specs.Represents.{Represents}
 use Rattle.sim_3_images.specs.Fitting.{FitsHere}
 use Rattle.sim_3_items.specs.Items.{stanzas_read}
 use Rattle.sim_3_items.specs.ItemMoves.{ItemMove, moved}
 use Rattle.sim_3_items.specs.ItemWorlds.{ItemWorld}
 use Rattle.sim_2_links.specs.Events.{seen}
 use Rattle.sim_2_events.specs.Lists.{IsDevice}
-use Rattle.sim_5_devices.specs.Shown.{LogShows}
+use Rattle.sim_5_devices.specs.Shown.{LogRepresents}
 use Rattle.sim_5_moves.proofs.Acting.{act_reaches, act_spoken, acted_on, either}
 use Rattle.sim_5_moves.specs.Moves.{ActsAlone, IsOneDevice}
 use Rattle.cmd_schedule.specs.Contents.{Owned}
 use Rattle.cmd_schedule.specs.Schedules.{WireView}
-use Rattle.sim_5_devices.specs.Deeds.{Drift, Drifts, drift_events, with_device}
-use Rattle.sim_3_items.specs.Served.{FlagsShow}
-use Rattle.sim_3_items.specs.Submitted.{SubmissionsShow}
-use Rattle.sim_1_applications.specs.Devices.{Device, Sessions, World}
-use Rattle.sim_1_applications.specs.Events.{Act, At, Event, May, around, own, taken_by}
+use Rattle.sim_5_devices.specs.Labels.{SessionStep, SessionSteps, session_step_events, with_device}
+use Rattle.sim_3_items.specs.Served.{FlagsRepresent}
+use Rattle.sim_3_items.specs.Submitted.{SubmissionsRepresent}
+use Rattle.sim_1_applications.specs.Devices.{AppWorld, Device, Sessions}
+use Rattle.sim_1_applications.specs.Events.{Act, AppEvent, At, May, around, own, taken_by}
 use Rattle.sim_1_applications.specs.Histories.{Spoken, spoken_in}
 use Rattle.xml_writer.specs.Items.{ItemOut}
 use Rattle.sim_5_moves.specs.Going.{DeviceGoes}
-use Rattle.sim_5_moves.specs.Running.{Bounds, DeviceRuns, IsAskedBy, IsOwned, MoveRuns, WorldRuns, history_for, keep_in, spoken_by_move}
+use Rattle.sim_5_moves.specs.Running.{Bounds, DeviceSimulates, IsAskedBy, IsOwned, MoveSimulates, WorldSimulates, history_for, keep_in, spoken_by_move}
 
-module _ (schedule : WireView) (b : Bounds) (says : ℕ) (m : ItemMove) (w : ItemWorld) (x : World) (runs : WorldRuns schedule b says w x) (i : ℕ) (o : Owned) (owned : IsOwned schedule i o) where
-  abbrev pub device_at : DeviceRuns schedule w x i o
+module _ (schedule : WireView) (b : Bounds) (says : ℕ) (m : ItemMove) (w : ItemWorld) (x : AppWorld) (runs : WorldSimulates schedule b says w x) (i : ℕ) (o : Owned) (owned : IsOwned schedule i o) where
+  abbrev pub device_at : DeviceSimulates schedule w x i o
   device_at = runs.devices i o owned
 
   abbrev pub old : Device
   old = device_at.device
 
   -- the act of a device that drifted to these sessions
-  abbrev pub drifted_to : Sessions → Device
-  drifted_to s = record old { sessions = s }
+  abbrev pub stepped_to : Sessions → Device
+  stepped_to s = record old { sessions = s }
 
   abbrev pub acted_by : Act → Sessions → Device
-  acted_by act s = own (around x old) act (drifted_to s)
+  acted_by act s = own (around x old) act (stepped_to s)
 
   -- What a turn of the client has to be, for the act and the sessions before it.
-  pub record IsTurn (done : List (Deed ItemOut)) (g : DeviceGoes schedule (moved m w) i o (history_for schedule x.takes o) done old.sessions) (act : Act) (there : Sessions) : Type 0 where
-    pub may : May act (drifted_to there)
-    pub alone : taken_by x.accounts x.clock i (drifted_to there) act ≡ []
+  pub record IsClientStep (done : List (Label ItemOut)) (g : DeviceGoes schedule (moved m w) i o (history_for schedule x.takes o) done old.sessions) (act : Act) (there : Sessions) : Type 0 where
+    pub may : May act (stepped_to there)
+    pub alone : taken_by x.accounts x.clock i (stepped_to there) act ≡ []
     pub account : (acted_by act there).account ≡ old.account
     pub sessions : IsDevice stanzas_read (seen g.view) (acted_by act there).sessions
-    pub submissions : SubmissionsShow g.shows.device.client (acted_by act there).sessions
-    pub log : LogShows (keep_in schedule) (history_for schedule x.takes o) g.shows.device.client.log (acted_by act there).reading
-    pub pages : g.shows.device.client.pages ≡ (acted_by act there).reading.asked
-    pub flags : FlagsShow (identity_at schedule i o).account o.device w.server (acted_by act there).sessions
+    pub submissions : SubmissionsRepresent g.represents.device.client (acted_by act there).sessions
+    pub log : LogRepresents (keep_in schedule) (history_for schedule x.takes o) g.represents.device.client.log (acted_by act there).reading
+    pub pages : g.represents.device.client.pages ≡ (acted_by act there).reading.asked
+    pub flags : FlagsRepresent (identity_at schedule i o).account o.device w.server (acted_by act there).sessions
     pub spoken : spoken_in (At i act ∷ []) ≡ spoken_by_move m w
     pub said : says + length (spoken_by_move m w) ≤ b.says
     pub within : (acted_by act there).reading.asked ≤ b.pages + 1
     pub asked : IsAskedBy m w i old (acted_by act there)
     pub others_asked : (j : ℕ) (d : Device) → j ≢ i → IsAskedBy m w j d d
 
-  module _ (alone : IsOneDevice i w (moved m w)) (fits : FitsHere (moved m w)) (others : (j : ℕ) (p : Owned) (is : IsOwned schedule j p) → j ≢ i → Shows (identity_at schedule j p) (runs.devices j p is).logins (moved m w) (runs.devices j p is).view)
-      (done : List (Deed ItemOut)) (g : DeviceGoes schedule (moved m w) i o (history_for schedule x.takes o) done old.sessions) (xs : List Drift) (there : Sessions) (drifts : Drifts xs old.sessions there) (act : Act) (t : IsTurn done g act there) where
+  module _ (alone : IsOneDevice i w (moved m w)) (fits : FitsHere (moved m w)) (others : (j : ℕ) (p : Owned) (is : IsOwned schedule j p) → j ≢ i → Represents (identity_at schedule j p) (runs.devices j p is).logins (moved m w) (runs.devices j p is).view)
+      (done : List (Label ItemOut)) (g : DeviceGoes schedule (moved m w) i o (history_for schedule x.takes o) done old.sessions) (xs : List SessionStep) (there : Sessions) (session_steps : SessionSteps xs old.sessions there) (act : Act) (t : IsClientStep done g act there) where
     abbrev new : Device
     new = acted_by act there
 
-    abbrev events : List Event
-    events = drift_events i xs ++ At i act ∷ []
+    abbrev events : List AppEvent
+    events = session_step_events i xs ++ At i act ∷ []
 
     all_spoken : spoken_in events ≡ spoken_by_move m w
     all_spoken = act_spoken i xs act ∙ t.spoken
@@ -76,7 +76,7 @@ module _ (schedule : WireView) (b : Bounds) (says : ℕ) (m : ItemMove) (w : Ite
       alone = alone;
       fits = fits;
       events = events;
-      reaches = act_reaches x i old device_at.there xs there drifts act t.may t.alone;
+      reaches = act_reaches x i old device_at.there xs there session_steps act t.may t.alone;
       said = subst (λ (l : List Spoken). says + length l ≤ b.says) (sym all_spoken) t.said;
       asked = t.within;
       device = record {
@@ -84,7 +84,7 @@ module _ (schedule : WireView) (b : Bounds) (says : ℕ) (m : ItemMove) (w : Ite
         view = g.view;
         in_time = g.in_time;
         prompt = g.prompt;
-        shows = g.shows;
+        represents = g.represents;
         device = new;
         there = get_set_same x.devices i old new device_at.there;
         account = t.account ∙ device_at.account;
@@ -93,12 +93,12 @@ module _ (schedule : WireView) (b : Bounds) (says : ℕ) (m : ItemMove) (w : Ite
         submissions = t.submissions;
         log = t.log;
         pages = t.pages;
-        flags = subst (λ h. FlagsShow (identity_at schedule i o).account o.device h new.sessions) (sym alone.server) t.flags;
+        flags = subst (λ h. FlagsRepresent (identity_at schedule i o).account o.device h new.sessions) (sym alone.server) t.flags;
       };
       others = others;
     }
 
-    pub move_runs : MoveRuns schedule b says m w x
+    pub move_runs : MoveSimulates schedule b says m w x
     move_runs = record {
       events = events;
       next = with_device i new x;
@@ -110,5 +110,5 @@ module _ (schedule : WireView) (b : Bounds) (says : ℕ) (m : ItemMove) (w : Ite
           subst (λ (y : Device). IsAskedBy m w i y e) (same_Some old d (sym device_at.there ∙ is))
           (subst (IsAskedBy m w i old) (same_Some new e (sym (get_set_same x.devices i old new device_at.there) ∙ at)) t.asked))
           (λ j other d e is at. subst (IsAskedBy m w j d) (same_Some d e (sym is ∙ sym (set_elsewhere x.devices i j new other) ∙ at)) (t.others_asked j d other));
-      runs = subst (λ (l : List Spoken). WorldRuns schedule b (says + length l) (moved m w) (with_device i new x)) all_spoken (acted_on schedule b says w x runs i o (moved m w) new acts);
+      runs = subst (λ (l : List Spoken). WorldSimulates schedule b (says + length l) (moved m w) (with_device i new x)) all_spoken (acted_on schedule b says w x runs i o (moved m w) new acts);
     }

@@ -1,13 +1,14 @@
--- Small steps that change sessions alone: the rest of the hall stays, nothing is told of, and each session stays what it is.
+-- Small steps that change sessions alone: the rest of the server's state stays, nothing is told of, and each session
+-- stays what it is.
 use Rattle.std.proofs.Common.{◌≡◌, ℕ, ◌==◌, not, Bool, true, false, List, [], ◌∷◌, ◌++◌, Option, Some, None, refl, ap, ◌∙◌, if◌then◌else◌}
 use Rattle.std.specs.List.{AllByRecursion, filter}
 use Rattle.sm_acks.specs.declared.end.TheConstants.{MOST_UNACKNOWLEDGED}
 use Rattle.srv_state.specs.State.{Out, Put, Shut, Step, Took}
-use Rattle.srv_state.specs.Steps.{Act, Handle, Send, act, acted, ask_where, in_sessions, is_due, overflow, part_where, put, put_where, queue, send_told, shut}
-use Rattle.sim_3_items.specs.ItemMoves.{takes_told}
+use Rattle.srv_state.specs.Steps.{Act, Handle, Send, act, acted, ask_where, in_sessions, is_due, overflow, part_where, put, put_where, queue, send_by_info, shut}
+use Rattle.sim_3_items.specs.ItemMoves.{takes_reported}
 use Rattle.sim_3_items.specs.ItemWorlds.{itself}
-use Rattle.sm_live.specs.Sessions.{Session, asks, handles, is_at, told_of, waits, with_session}
-use Rattle.sm_live.specs.declared.told.Told.{Told}
+use Rattle.sm_live.specs.Sessions.{Session, asks, handles, info_of, is_at, waits, with_session}
+use Rattle.sm_live.specs.declared.told.SessionInfo.{SessionInfo}
 use Rattle.im_replies.specs.Streams.{error_item}
 use Rattle.im_replies.specs.declared.conditions.StreamCondition.TheVariants.{ResourceConstraint}
 use Rattle.xml_writer.specs.Items.{ItemOut}
@@ -39,7 +40,7 @@ all_left P q (s ∷ ss) all = one_left P (q s) s (filter q ss) all.0 (all_left P
 
 -- ---- what is told
 
-nothing_more : (moment : ℕ) (outs more : List (Out ItemOut)) → takes_told moment more ≡ [] → takes_told moment (outs ++ more) ≡ takes_told moment outs
+nothing_more : (moment : ℕ) (outs more : List (Out ItemOut)) → takes_reported moment more ≡ [] → takes_reported moment (outs ++ more) ≡ takes_reported moment outs
 nothing_more moment [] more none = none
 nothing_more moment (Put k z ∷ outs) more none = nothing_more moment outs more none
 nothing_more moment (Shut k ∷ outs) more none = nothing_more moment outs more none
@@ -48,18 +49,18 @@ nothing_more moment (Took from to origin ∷ outs) more none = ap (λ ts. record
 -- ---- steps
 
 pub record Goes (Q : Session ItemOut → Type 0) (s next : Step ItemOut) : Type 0 where
-  pub domain : next.hall.domain ≡ s.hall.domain
-  pub accounts : next.hall.accounts ≡ s.hall.accounts
-  pub archives : next.hall.archives ≡ s.hall.archives
-  pub sessions : AllByRecursion Q next.hall.sessions
-  pub told : (moment : ℕ) → takes_told moment next.outs ≡ takes_told moment s.outs
+  pub domain : next.server_state.domain ≡ s.server_state.domain
+  pub accounts : next.server_state.accounts ≡ s.server_state.accounts
+  pub archives : next.server_state.archives ≡ s.server_state.archives
+  pub sessions : AllByRecursion Q next.server_state.sessions
+  pub told : (moment : ℕ) → takes_reported moment next.outs ≡ takes_reported moment s.outs
 
-pub stands : (Q : Session ItemOut → Type 0) (s : Step ItemOut) → AllByRecursion Q s.hall.sessions → Goes Q s s
+pub stands : (Q : Session ItemOut → Type 0) (s : Step ItemOut) → AllByRecursion Q s.server_state.sessions → Goes Q s s
 stands Q s all = record { domain = refl; accounts = refl; archives = refl; sessions = all; told = λ moment. refl }
 
 -- and then sessions change
 pub then_sessions : (P Q : Session ItemOut → Type 0) (f : List (Session ItemOut) → List (Session ItemOut)) → ((ss : List (Session ItemOut)) → AllByRecursion P ss → AllByRecursion Q (f ss)) → (s next : Step ItemOut) → Goes P s next → Goes Q s (in_sessions f next)
-then_sessions P Q f keeps s next goes = record { domain = goes.domain; accounts = goes.accounts; archives = goes.archives; sessions = keeps next.hall.sessions goes.sessions; told = goes.told }
+then_sessions P Q f keeps s next goes = record { domain = goes.domain; accounts = goes.accounts; archives = goes.archives; sessions = keeps next.server_state.sessions goes.sessions; told = goes.told }
 
 -- what a queue and a count change of a session
 pub record IsSteady (P : Session ItemOut → Type 0) : Type 0 where
@@ -86,7 +87,7 @@ module _ (P : Session ItemOut → Type 0) (steady : IsSteady P) where
     domain = goes.domain;
     accounts = goes.accounts;
     archives = goes.archives;
-    sessions = all_left P (λ t. not (is_at k t)) next.hall.sessions goes.sessions;
+    sessions = all_left P (λ t. not (is_at k t)) next.server_state.sessions goes.sessions;
     told = λ moment. nothing_more moment next.outs (Shut k ∷ []) refl ∙ goes.told moment;
   }
 
@@ -102,7 +103,7 @@ module _ (P : Session ItemOut → Type 0) (steady : IsSteady P) where
   then_ask n None true s next goes = goes
   then_ask n (Some k) true s next goes = then_put k _ s (in_sessions (with_session n (asks true)) next) (then_changed n (asks true) (steady.asked true) s next goes)
 
-  then_queue : (n : ℕ) (z : ItemOut) (t : Told) (s next : Step ItemOut) → Goes P s next → Goes P s (queue itself n z t next)
+  then_queue : (n : ℕ) (z : ItemOut) (t : SessionInfo) (s next : Step ItemOut) → Goes P s next → Goes P s (queue itself n z t next)
   then_queue n z t s next goes =
       let waits_more = then_changed n (waits z) (steady.waiting z) s next goes in
       then_ask n t.conn (is_due t) s (put_where t.conn z (in_sessions (with_session n (waits z)) next)) (then_put_where t.conn z s (in_sessions (with_session n (waits z)) next) waits_more)
@@ -111,7 +112,7 @@ module _ (P : Session ItemOut → Type 0) (steady : IsSteady P) where
   then_part None error s next goes = goes
   then_part (Some k) error s next goes = then_shut k s _ (then_put k _ s (put k error next) (then_put k error s next goes))
 
-  then_overflow : (n : ℕ) (t : Told) (s next : Step ItemOut) → Goes P s next → Goes P s (overflow itself n t next)
+  then_overflow : (n : ℕ) (t : SessionInfo) (s next : Step ItemOut) → Goes P s next → Goes P s (overflow itself n t next)
   then_overflow n t s next goes =
       then_part t.conn (error_item ResourceConstraint) s _
       (then_sessions P P (λ ss. filter (λ (u : Session ItemOut). not (u.shown.number == n)) ss) (all_left P (λ u. not (u.shown.number == n))) s next goes)
@@ -120,14 +121,14 @@ module _ (P : Session ItemOut → Type 0) (steady : IsSteady P) where
   either true s x y first second = first
   either false s x y first second = second
 
-  then_told : (n : ℕ) (z : ItemOut) (o : Option Told) (s next : Step ItemOut) → Goes P s next → Goes P s (send_told itself n z o next)
+  then_told : (n : ℕ) (z : ItemOut) (o : Option SessionInfo) (s next : Step ItemOut) → Goes P s next → Goes P s (send_by_info itself n z o next)
   then_told n z None s next goes = goes
   then_told n z (Some t) s next goes =
       either (not t.counted) s _ _ (then_put_where t.conn z s next goes)
       (either (t.waiting == MOST_UNACKNOWLEDGED) s _ _ (then_overflow n t s next goes) (then_queue n z t s next goes))
 
   pub then_send : (a : Act ItemOut) → IsSend a → (s next : Step ItemOut) → Goes P s next → Goes P s (act itself a next)
-  then_send (Send n z) is s next goes = then_told n z (told_of n next.hall.sessions) s next goes
+  then_send (Send n z) is s next goes = then_told n z (info_of n next.server_state.sessions) s next goes
   then_send _ is s next goes = absurd is
 
   pub then_sends : (acts : List (Act ItemOut)) → AllByRecursion IsSend acts → (s next : Step ItemOut) → Goes P s next → Goes P s (acted itself acts next)
@@ -135,7 +136,7 @@ module _ (P : Session ItemOut → Type 0) (steady : IsSteady P) where
   then_sends (a ∷ acts) all s next goes = then_sends acts all.1 s (act itself a next) (then_send a all.0 s next goes)
 
   -- a stanza counts first, where the session's are counted
-  pub then_counted : (b : Bool) (n : ℕ) (s : Step ItemOut) → AllByRecursion P s.hall.sessions → Goes P s (if b then act itself (Handle n) s else s)
+  pub then_counted : (b : Bool) (n : ℕ) (s : Step ItemOut) → AllByRecursion P s.server_state.sessions → Goes P s (if b then act itself (Handle n) s else s)
   then_counted true n s all = then_changed n handles steady.handled s s (stands P s all)
   then_counted false n s all = stands P s all
 

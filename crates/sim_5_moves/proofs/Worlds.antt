@@ -1,18 +1,18 @@
--- Where a stanza is handled, and each device is as it should be, the worlds are beside one another.
+-- Where a stanza is handled, and each device is as it should be, the worlds are related.
 use Rattle.std.proofs.Common.{◌≡◌, ℕ, ◌+◌, ◌≤◌, List, ◌++◌, Some, length, map, refl, sym, ap, subst, ◌∙◌, append-nil, arith, inl, inr}
 use Rattle.std.proofs.lemmas.Bool.{cases_eq}
 use Rattle.std.proofs.lemmas.Option.{same_Some, slice_get_within}
 use Rattle.std.specs.List.{slice_get}
-use Rattle.mam_archive.proofs.NumberedEntries.{at_place}
+use Rattle.mam_archive.proofs.NumberedEntries.{at_position}
 use Rattle.sim_3_images.proofs.UpMoves.{length_items_emitted}
 use Rattle.sim_3_images.proofs.UserMoves.{length_where}
-use Rattle.sim_3_images.specs.Mild.{ClientFits, DownFits, HallFits, UpFits}
-use Rattle.sim_3_items.specs.Deeds.{awaits}
-use Rattle.sim_3_images.specs.Stands.{HallStands}
-use Rattle.sim_3_images.proofs.FittingImages.{keep_here, takes_any}
+use Rattle.sim_3_images.specs.Relayable.{ClientFits, DownFits, ServerFits, UpFits}
+use Rattle.sim_3_items.specs.Labels.{awaits}
+use Rattle.sim_3_images.specs.Stands.{ServerStateStands}
+use Rattle.sim_3_images.proofs.FittingEncodings.{keep_here, takes_any}
 use Rattle.sim_3_images.proofs.MoveSteps.{move_fits}
 use Rattle.sim_3_images.specs.Fitting.{FitsHere}
-use Rattle.sim_3_items.specs.ItemMoves.{Up, moved, step_of, takes_told}
+use Rattle.sim_3_items.specs.ItemMoves.{Up, moved, step_of, takes_reported}
 use Rattle.sim_3_items.specs.ItemPipes.{ItemWire, handed_up}
 use Rattle.sim_3_items.specs.ItemWorlds.{ItemWorld, itself, read_of}
 use Rattle.sim_2_links.proofs.WithPremises.{prompt_runs}
@@ -21,18 +21,18 @@ use Rattle.sim_3_images.proofs.Within.{item_within}
 use Rattle.sim_3_images.specs.Unbound.{IsWithin}
 use Rattle.sim_5_moves.proofs.ServersComing.{Coming, after, is_after, mine, old, own, step}
 use Rattle.sim_5_moves.proofs.Links.{Stands, stands_run}
-use Rattle.sim_5_devices.proofs.AllDrifts.{reaches_both, spoken_both}
-use Rattle.sim_3_items.specs.Served.{ServerRuns, take_told}
-use Rattle.sim_1_applications.specs.Devices.{Device, Sessions, Take, World}
+use Rattle.sim_5_devices.proofs.AllSessionSteps.{reaches_both, spoken_both}
+use Rattle.sim_3_items.specs.Served.{ServerSimulates, take_reported}
+use Rattle.sim_1_applications.specs.Devices.{AppWorld, Device, Sessions, Take}
 use Rattle.sim_1_applications.specs.Histories.{spoken_in}
 use Rattle.sim_1_applications.specs.Runs.{begins, owned_of}
 use Rattle.sim_5_moves.specs.Handled.{AreHandled}
 use Rattle.law_server.proofs.PieceTakes.{item_takes}
 use Rattle.sim_5_moves.proofs.Wires.{at_same, emitted_same, same_twice}
-use Rattle.cmd_network.specs.Places.{changed_at}
+use Rattle.cmd_network.specs.Positions.{changed_at}
 use Rattle.sim_4_links_follow.proofs.Headers.{item_may_go_up}
 use Rattle.sim_4_links_follow.proofs.StandMoves.{move_stands}
-use Rattle.sim_5_moves.specs.Running.{DeviceRuns, IsOwned, MoveRuns, WorldRuns, keep_in, names_of}
+use Rattle.sim_5_moves.specs.Running.{DeviceSimulates, IsOwned, MoveSimulates, WorldSimulates, keep_in, names_of}
 
 -- another device, with these sessions
 abbrev pub IsSo : Coming → List Take → ℕ → Device → Sessions → Type 0
@@ -40,12 +40,12 @@ IsSo c takes j e last = (p : Owned) × IsOwned c.schedule j p × Stands c.schedu
 
 -- the device whose stanza it is, the others, and the server
 pub record IsHandled (c : Coming) (takes : List Take) : Type 0 where
-  pub behind : Device
-  pub handled : AreHandled (IsSo c takes) c.x (mine c) behind takes
-  pub stands : Stands c.schedule (after c) takes (mine c) c.o behind
-  pub asked : behind.reading.asked ≡ (old c).device.reading.asked
-  pub server : ServerRuns (keep_in c.schedule) (owned_of c.schedule) (names_of c.schedule) takes (step c).hall
-  pub told : c.w.takes ++ takes_told c.w.moment (step c).outs ≡ map (take_told (owned_of c.schedule)) takes
+  pub following : Device
+  pub handled : AreHandled (IsSo c takes) c.x (mine c) following takes
+  pub stands : Stands c.schedule (after c) takes (mine c) c.o following
+  pub asked : following.reading.asked ≡ (old c).device.reading.asked
+  pub server : ServerSimulates (keep_in c.schedule) (owned_of c.schedule) (names_of c.schedule) takes (step c).server_state
+  pub told : c.w.takes ++ takes_reported c.w.moment (step c).outs ≡ map (take_reported (owned_of c.schedule)) takes
 
 -- each device of the world of the applications is one of the schedule's
 pub record HasOwner (c : Coming) (j : ℕ) (e : Device) : Type 0 where
@@ -57,43 +57,43 @@ pub owner_of : (c : Coming) (j : ℕ) (e : Device) → slice_get c.x.devices j �
 owner_of c j e at =
     let within = slice_get_within c.x.devices j e at in
     let many = c.runs.many_there in
-    let owner = at_place j (owned_of c.schedule) (omega (arith, within, many)) in
+    let owner = at_position j (owned_of c.schedule) (omega (arith, within, many)) in
     let r = c.runs.devices j owner.0 owner.1 in
     record { owner = owner.0; is = owner.1; same = same_Some r.device e (sym r.there ∙ at) }
 
 module _ (c : Coming) (takes : List Take) (n : IsHandled c takes) where
-  abbrev next : World
+  abbrev next : AppWorld
   next = record c.x { takes = takes; devices = n.handled.devices }
 
   -- ---- devices
 
-  device_runs : (j : ℕ) (p : Owned) → IsOwned c.schedule j p → DeviceRuns c.schedule (after c) next j p
+  device_runs : (j : ℕ) (p : Owned) → IsOwned c.schedule j p → DeviceSimulates c.schedule (after c) next j p
   device_runs j p is = elim (cases_eq (mine c) j) [
     | inl same ↦
-        subst (λ k. (q : Owned) → IsOwned c.schedule k q → DeviceRuns c.schedule (after c) next k q) same
-        (λ q at. subst (DeviceRuns c.schedule (after c) next (mine c)) (same_Some c.o q (sym c.owned ∙ at)) (stands_run c.schedule (after c) next (mine c) c.o n.behind n.stands n.handled.here)) p is
+        subst (λ k. (q : Owned) → IsOwned c.schedule k q → DeviceSimulates c.schedule (after c) next k q) same
+        (λ q at. subst (DeviceSimulates c.schedule (after c) next (mine c)) (same_Some c.o q (sym c.owned ∙ at)) (stands_run c.schedule (after c) next (mine c) c.o n.following n.stands n.handled.here)) p is
     | inr apart ↦
         let r = c.runs.devices j p is in
         let it = n.handled.each j r.device r.there (λ same. apart (sym same)) in
-        subst (DeviceRuns c.schedule (after c) next j) (same_Some it.1.0 p (sym it.1.1 ∙ is)) (stands_run c.schedule (after c) next j it.1.0 (record r.device { sessions = it.0 }) it.1.2 it.2)
+        subst (DeviceSimulates c.schedule (after c) next j) (same_Some it.1.0 p (sym it.1.1 ∙ is)) (stands_run c.schedule (after c) next j it.1.0 (record r.device { sessions = it.0 }) it.1.2 it.2)
   ]
 
-  behind_it : (j : ℕ) (e : Device) → slice_get c.x.devices j ≡ Some e → (f : Device) × (slice_get next.devices j ≡ Some f) × (f.reading.asked ≡ e.reading.asked)
-  behind_it j e at = elim (cases_eq (mine c) j) [
+  after_it : (j : ℕ) (e : Device) → slice_get c.x.devices j ≡ Some e → (f : Device) × (slice_get next.devices j ≡ Some f) × (f.reading.asked ≡ e.reading.asked)
+  after_it j e at = elim (cases_eq (mine c) j) [
     | inl same ↦
         let one : (old c).device ≡ e = same_Some (old c).device e (sym (old c).there ∙ ap (slice_get c.x.devices) same ∙ at) in
-        (n.behind, ap (slice_get n.handled.devices) (sym same) ∙ n.handled.here, n.asked ∙ ap (λ (y : Device). y.reading.asked) one)
+        (n.following, ap (slice_get n.handled.devices) (sym same) ∙ n.handled.here, n.asked ∙ ap (λ (y : Device). y.reading.asked) one)
     | inr apart ↦ let it = n.handled.each j e at (λ same. apart (sym same)) in (record e { sessions = it.0 }, it.2, refl)
   ]
 
   asked_same : (j : ℕ) (d e : Device) → slice_get c.x.devices j ≡ Some d → slice_get next.devices j ≡ Some e → e.reading.asked ≡ d.reading.asked
-  asked_same j d e at here = let y = behind_it j d at in ap (λ (f : Device). f.reading.asked) (same_Some e y.0 (sym here ∙ y.1)) ∙ y.2
+  asked_same j d e at here = let y = after_it j d at in ap (λ (f : Device). f.reading.asked) (same_Some e y.0 (sym here ∙ y.1)) ∙ y.2
 
   asked_few : (j : ℕ) (e : Device) → slice_get next.devices j ≡ Some e → e.reading.asked ≤ c.b.pages + 1
   asked_few j e here =
       let within = slice_get_within next.devices j e here in
       let many = n.handled.many in
-      let d = at_place j c.x.devices (omega (arith, within, many)) in
+      let d = at_position j c.x.devices (omega (arith, within, many)) in
       let same = asked_same j d.0 e d.1 here in
       let few = c.runs.asked j d.0 d.1 in
       omega (arith, same, few)
@@ -101,33 +101,33 @@ module _ (c : Coming) (takes : List Take) (n : IsHandled c takes) where
   -- ---- the server
 
   many_wires : length (after c).wires ≡ length c.w.wires
-  many_wires = length_items_emitted (step c).outs (changed_at c.place handed_up c.w.wires) ∙ length_where (Some c.place) handed_up c.w.wires
+  many_wires = length_items_emitted (step c).outs (changed_at c.position handed_up c.w.wires) ∙ length_where (Some c.position) handed_up c.w.wires
 
   wires_are : (q : ℕ) (other : ItemWire) → slice_get (after c).wires q ≡ Some other → (p : Owned) × IsOwned c.schedule other.device p
   wires_are q other at =
-      let was = same_twice c.w.wires (changed_at c.place handed_up c.w.wires) (after c).wires (at_same handed_up (λ u. refl) c.place c.w.wires) (emitted_same (step c).outs (changed_at c.place handed_up c.w.wires)) q other at in
+      let was = same_twice c.w.wires (changed_at c.position handed_up c.w.wires) (after c).wires (at_same handed_up (λ u. refl) c.position c.w.wires) (emitted_same (step c).outs (changed_at c.position handed_up c.w.wires)) q other at in
       let owner = c.runs.wires q was.0 was.1 in
       (owner.0, subst (λ d. IsOwned c.schedule d owner.0) (sym was.2) owner.1)
 
-  stands_still : HallStands (length (after c).wires) (after c).server
+  stands_still : ServerStateStands (length (after c).wires) (after c).server
   stands_still =
-      subst (λ (a : ItemWorld). HallStands (length a.wires) a.server) (is_after c)
-      (move_stands (Up c.place) c.w
-      (item_may_go_up (own c) (old c).logins c.w (old c).view c.place (old c).shows (prompt_runs awaits (old c).view (old c).prompt) (λ other at. ap (λ (u : ItemWire). u.device) (same_Some other c.wire (sym at ∙ c.there))))
+      subst (λ (a : ItemWorld). ServerStateStands (length a.wires) a.server) (is_after c)
+      (move_stands (Up c.position) c.w
+      (item_may_go_up (own c) (old c).logins c.w (old c).view c.position (old c).represents (prompt_runs awaits (old c).view (old c).prompt) (λ other at. ap (λ (u : ItemWire). u.device) (same_Some other c.wire (sym at ∙ c.there))))
       c.runs.stands)
 
-  step_within : IsWithin (length c.w.wires) (step c).hall
+  step_within : IsWithin (length c.w.wires) (step c).server_state
   step_within =
       let dialled = c.runs.dialled in
       let most = c.small.dials in
-      item_within itself (c.place + 1) (read_of c.z) (length c.w.wires) (step_of c.w.server) (omega (arith, dialled, most)) c.runs.within
+      item_within itself (c.position + 1) (read_of c.z) (length c.w.wires) (step_of c.w.server) (omega (arith, dialled, most)) c.runs.within
 
-  now_still : (step c).hall.moment ≡ c.w.moment
-  now_still = (item_takes itself (c.place + 1) (read_of c.z) (step_of c.w.server)).1.moment ∙ c.runs.now
+  now_still : (step c).server_state.moment ≡ c.w.moment
+  now_still = (item_takes itself (c.position + 1) (read_of c.z) (step_of c.w.server)).1.moment ∙ c.runs.now
 
   -- ---- the worlds
 
-  world_runs : WorldRuns c.schedule c.b c.says (after c) next
+  world_runs : WorldSimulates c.schedule c.b c.says (after c) next
   world_runs = record {
     led = record {
       events = c.runs.led.events ++ n.handled.events;
@@ -145,12 +145,12 @@ module _ (c : Coming) (takes : List Take) (n : IsHandled c takes) where
     takes = n.told;
     clock = c.runs.clock;
     now = now_still;
-    fits = subst FitsHere (is_after c) (move_fits UpFits DownFits HallFits ClientFits keep_here takes_any (Up c.place) c.w c.runs.fits tt);
+    fits = subst FitsHere (is_after c) (move_fits UpFits DownFits ServerFits ClientFits keep_here takes_any (Up c.position) c.w c.runs.fits tt);
     stands = stands_still;
-    within = subst (λ k. IsWithin k (step c).hall) (sym many_wires) step_within;
+    within = subst (λ k. IsWithin k (step c).server_state) (sym many_wires) step_within;
   }
 
-  pub handled_runs : MoveRuns c.schedule c.b c.says (Up c.place) c.w c.x
+  pub handled_runs : MoveSimulates c.schedule c.b c.says (Up c.position) c.w c.x
   handled_runs = record {
     events = n.handled.events;
     next = next;
@@ -158,6 +158,6 @@ module _ (c : Coming) (takes : List Take) (n : IsHandled c takes) where
     spoken = n.handled.silent;
     asked = asked_same;
     runs =
-        subst (λ k. WorldRuns c.schedule c.b k (moved (Up c.place) c.w) next) (let same : c.says ≡ c.says + 0 = omega arith in same)
-        (subst (λ (a : ItemWorld). WorldRuns c.schedule c.b c.says a next) (sym (is_after c)) world_runs);
+        subst (λ k. WorldSimulates c.schedule c.b k (moved (Up c.position) c.w) next) (let same : c.says ≡ c.says + 0 = omega arith in same)
+        (subst (λ (a : ItemWorld). WorldSimulates c.schedule c.b c.says a next) (sym (is_after c)) world_runs);
   }

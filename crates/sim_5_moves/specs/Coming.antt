@@ -1,6 +1,6 @@
 -- What comes to a server but stanzas of its sessions.
 use Rattle.std.specs.Prelude.{◌≡◌, ◌≢◌, ℕ, true, false, List, [], None, Ok, Some, slice_get}
-use Rattle.srv_state.specs.State.{Hall, Step, conn_at}
+use Rattle.srv_state.specs.State.{ServerState, Step, conn_at}
 use Rattle.srv_state.specs.Streams.{stage_of}
 use Rattle.srv_state.specs.Words.{is_long, is_stanza}
 use Rattle.srv_state.specs.declared.connection.Connection.{Connection}
@@ -17,19 +17,19 @@ use Rattle.xml_trees.specs.Trees.{Elem}
 use Rattle.xml_writer.specs.Items.{Closing, ItemOut, Opening, Whole}
 
 -- a header, an element that is no stanza, or a footer
-abbrev pub IsMute : ItemOut → Type 0
-IsMute (Opening h) = Unit {0}
-IsMute (Whole e) = is_stanza e ≡ false
-IsMute Closing = Unit {0}
+abbrev pub IsNonStanza : ItemOut → Type 0
+IsNonStanza (Opening h) = Unit {0}
+IsNonStanza (Whole e) = is_stanza e ≡ false
+IsNonStanza Closing = Unit {0}
 
 -- an item of a connection is handled
-abbrev pub behind_item : ℕ → ItemOut → Hall ItemOut → Step ItemOut
+abbrev pub behind_item : ℕ → ItemOut → ServerState ItemOut → Step ItemOut
 behind_item k z h = after_item itself k (read_of z) (step_of h)
 
 -- A device may bind on a connection: its login is over, and it has no session there.
-pub record MayBind (owned : List Owned) (names : List (List ℕ)) (k account : ℕ) (o : Owned) (h : Hall ItemOut) : Type 0 where
-  pub place : ℕ
-  pub there : slice_get owned place ≡ Some o
+pub record MayBind (owned : List Owned) (names : List (List ℕ)) (k account : ℕ) (o : Owned) (h : ServerState ItemOut) : Type 0 where
+  pub position : ℕ
+  pub there : slice_get owned position ≡ Some o
   pub named : slice_get names account ≡ Some o.account
   pub some : o.device ≢ []
   pub normal : resource_form o.device ≡ Ok o.device
@@ -40,7 +40,7 @@ pub record MayBind (owned : List Owned) (names : List (List ℕ)) (k account : �
 
 -- An element of a session is a stanza that is handled: the session is on the connection, the stanza isn't too long, and no
 -- condition ends the stream for it.
-pub record IsHandled (k : ℕ) (e : Elem) (s : Session ItemOut) (h : Hall ItemOut) : Type 0 where
+pub record IsHandled (k : ℕ) (e : Elem) (s : Session ItemOut) (h : ServerState ItemOut) : Type 0 where
   pub conn : Connection
   pub account : ℕ
   pub open_one : conn_at k h ≡ Some conn

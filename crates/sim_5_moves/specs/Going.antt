@@ -2,9 +2,9 @@
 use Rattle.std.specs.Prelude.{◌≡◌, ℕ, List, [], ◌∷◌, Some}
 use Rattle.mam_archive.specs.Entries.{EntryView}
 use Rattle.sim_3_images.specs.Devices.{identity_at}
-use Rattle.sim_3_items.specs.Deeds.{Deed, Gives, Says, awaits}
+use Rattle.sim_3_items.specs.Labels.{Gives, Label, Says, awaits}
 use Rattle.sim_3_items.specs.Identities.{Login}
-use Rattle.sim_3_items.specs.Shows.{Shows}
+use Rattle.sim_3_items.specs.Represents.{Represents}
 use Rattle.sim_3_items.specs.Items.{stanzas_read}
 use Rattle.sim_3_items.specs.ItemWorlds.{ItemWorld}
 use Rattle.sim_2_links.specs.Covers.{PromptReached}
@@ -16,14 +16,14 @@ use Rattle.sim_2_events.specs.Lists.{IsDevice}
 use Rattle.sim_5_devices.specs.InTime.{paging_here}
 use Rattle.cmd_schedule.specs.Contents.{Owned}
 use Rattle.cmd_schedule.specs.Schedules.{WireView}
-use Rattle.sim_5_devices.specs.Deeds.{DoesAmid}
+use Rattle.sim_5_devices.specs.Labels.{DoesInterleaved}
 use Rattle.sim_3_items.specs.Built.{IsDown, IsUp}
 use Rattle.sim_1_applications.specs.Devices.{Sessions}
 use Rattle.sim_5_moves.specs.Running.{AreBuilt}
 use Rattle.xml_writer.specs.Items.{ItemOut}
 
--- the stanzas that are put by these deeds are built as they are read
-abbrev pub ArePutBuilt : Owned → List EntryView → List (Deed ItemOut) → Type 0
+-- the stanzas that are put by these labels are built as they are read
+abbrev pub ArePutBuilt : Owned → List EntryView → List (Label ItemOut) → Type 0
 ArePutBuilt o history [] = Unit {0}
 ArePutBuilt o history (Says z ∷ ds) = IsUp o z × ArePutBuilt o history ds
 ArePutBuilt o history (Gives z ∷ ds) = IsDown o history z × ArePutBuilt o history ds
@@ -33,15 +33,15 @@ ArePutBuilt o history (x ∷ ds) = ArePutBuilt o history ds
 abbrev pub AllBuilt : Owned → List EntryView → Seen ItemOut → Type 0
 AllBuilt o history s = (q : ℕ) (t : SeenSession ItemOut) → s.sessions q ≡ Some t → AreBuilt o history t
 
--- behind a move, by which the device had these deeds and the sessions it had were these
-pub record DeviceGoes (schedule : WireView) (w : ItemWorld) (i : ℕ) (o : Owned) (history : List EntryView) (done : List (Deed ItemOut)) (was : Sessions) : Type 0 where
+-- behind a move, by which the device had these labels and the sessions it had were these
+pub record DeviceGoes (schedule : WireView) (w : ItemWorld) (i : ℕ) (o : Owned) (history : List EntryView) (done : List (Label ItemOut)) (was : Sessions) : Type 0 where
   pub logins : ℕ → Login
   pub view : View ItemOut
   pub reached : LinkReached view
   pub in_time : PagingReached paging_here view
   pub prompt : PromptReached awaits view
-  pub shows : Shows (identity_at schedule i o) logins w view
+  pub represents : Represents (identity_at schedule i o) logins w view
   pub end : Sessions
-  pub amid : DoesAmid stanzas_read done was end
+  pub interleaved : DoesInterleaved stanzas_read done was end
   pub sessions : IsDevice stanzas_read (seen view) end
   pub built : AllBuilt o history (seen view)

@@ -2,12 +2,12 @@
 use Rattle.std.specs.Prelude.{◌≡◌, ℕ, ◌<◌, ◌^◌, length}
 use Rattle.sim_5_devices.specs.Named.{AreNamed}
 use Rattle.cmd_schedule.specs.Schedules.{WireView}
-use Rattle.sim_1_applications.specs.Devices.{World}
+use Rattle.sim_1_applications.specs.Devices.{AppWorld}
 use Rattle.sim_1_applications.specs.Kept.{Read, Taken}
 use Rattle.sim_1_applications.specs.Runs.{owned_of}
 use Rattle.sim_5_moves.specs.Running.{keep_in}
 
-pub record IsGround (schedule : WireView) (x : World) : Type 0 where
+pub record IsGround (schedule : WireView) (x : AppWorld) : Type 0 where
   pub taken : Taken x
   pub read : Read x
   pub keeps : x.keep ≡ keep_in schedule

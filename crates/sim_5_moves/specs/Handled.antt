@@ -1,10 +1,10 @@
 -- A stanza of a device is handled by the server of the applications, and sessions drift before and behind: what becomes of
 -- each device.
 use Rattle.std.specs.Prelude.{◌≡◌, ◌≢◌, ◌⊎◌, ℕ, Bool, true, false, List, [], ◌∷◌, ◌++◌, Some, length, slice_get}
-use Rattle.sim_5_devices.specs.Deeds.{Drift, Drifts, IsTaken, IsTakenAtOnce}
-use Rattle.sim_1_applications.specs.Devices.{Device, Sessions, Take, World, epoch_of}
+use Rattle.sim_5_devices.specs.Labels.{IsTaken, IsTakenAtOnce, SessionStep, SessionSteps}
+use Rattle.sim_1_applications.specs.Devices.{AppWorld, Device, Sessions, Take, epoch_of}
 use Rattle.sim_1_applications.specs.Devices.Row.{NoRow}
-use Rattle.sim_1_applications.specs.Events.{Around, Event, Reaches, flagged, hears_of, made_served, reading_served, told}
+use Rattle.sim_1_applications.specs.Events.{AppEvent, Around, Reaches, flagged, hears_of, made_served, reading_served, told}
 use Rattle.sim_1_applications.specs.Histories.{spoken_in}
 use Rattle.sim_1_applications.specs.Stanzas.{Down, Submission, Up}
 use Rattle.sim_1_applications.specs.Stanzas.Down.{Live}
@@ -13,35 +13,35 @@ use Rattle.sim_1_applications.specs.Stanzas.Up.{Message}
 -- ---- a message to an account that exists
 
 -- the take, and the takes with it
-abbrev pub take_at : World → ℕ → Device → Submission → Take
+abbrev pub take_at : AppWorld → ℕ → Device → Submission → Take
 take_at x i d m = record { device = i; account = d.account; said = m; moment = x.clock }
 
-abbrev pub takes_with : World → ℕ → Device → Submission → List Take
+abbrev pub takes_with : AppWorld → ℕ → Device → Submission → List Take
 takes_with x i d m = x.takes ++ take_at x i d m ∷ []
 
 -- a device beside: it hears of the take, or doesn't, and its queue may be full
 pub record IsToldOf (t : Take) (number j : ℕ) (e : Device) (last : Sessions) : Type 0 where
-  pub before : List Drift
+  pub before : List SessionStep
   pub there : Sessions
   pub heard : Bool
   pub full : Bool
-  pub behind : List Drift
-  pub drifts : Drifts before e.sessions there
+  pub following : List SessionStep
+  pub session_steps : SessionSteps before e.sessions there
   pub hears : hears_of t j (record e { sessions = there }) ≡ heard
-  pub rests : Drifts behind (told heard full number there) last
+  pub rests : SessionSteps following (told heard full number there) last
 
 -- the device itself, whose message is handled before
 pub record IsTakenOf (t : Take) (number i : ℕ) (d : Device) (last : Sessions) : Type 0 where
-  pub before : List Drift
+  pub before : List SessionStep
   pub there : Sessions
   pub next : Sessions
   pub heard : Bool
   pub full : Bool
-  pub behind : List Drift
-  pub drifts : Drifts before d.sessions there
+  pub following : List SessionStep
+  pub session_steps : SessionSteps before d.sessions there
   pub taken : IsTaken (Message t.said) there next
   pub hears : hears_of t i (record d { sessions = next }) ≡ heard
-  pub rests : Drifts behind (told heard full number next) last
+  pub rests : SessionSteps following (told heard full number next) last
 
 -- what is given to one that hears, or doesn't: its number; or nothing, since its queue is full, and its session ends
 abbrev pub IsHeardOf : Bool → ℕ → List Down → Sessions → Type 0
@@ -57,9 +57,9 @@ pub record IsRepliedTo (reply : List Down) (z : Up) (d last : Sessions) : Type 0
   pub once : IsTakenAtOnce z given d last
   pub whole : (given ≡ reply) ⊎ ((missing : Down) × (more : List Down) × (reply ≡ given ++ missing ∷ more) × (last.row ≡ NoRow))
 
--- a device beside only drifts
-abbrev pub IsDriftedTo : Sessions → Sessions → Type 0
-IsDriftedTo d last = (xs : List Drift) × Drifts xs d last
+-- a device beside only takes session steps
+abbrev pub IsSteppedTo : Sessions → Sessions → Type 0
+IsSteppedTo d last = (xs : List SessionStep) × SessionSteps xs d last
 
 -- the device itself, with its flags, and what is known of answers
 abbrev pub served_as : Around → Up → Sessions → Device → Device
@@ -73,8 +73,8 @@ served_as a z last d = record d {
 
 -- Events lead to these takes and devices: the device at the place is this one, and of each other one's sessions is so as is
 -- said of it, and all else of it stays. In the events nobody says anything.
-pub record AreHandled (Is : ℕ → Device → Sessions → Type 0) (x : World) (i : ℕ) (own : Device) (takes : List Take) : Type 0 where
-  pub events : List Event
+pub record AreHandled (Is : ℕ → Device → Sessions → Type 0) (x : AppWorld) (i : ℕ) (own : Device) (takes : List Take) : Type 0 where
+  pub events : List AppEvent
   pub devices : List Device
   pub reaches : Reaches events x (record x { takes = takes; devices = devices })
   pub silent : spoken_in events ≡ []

@@ -1,7 +1,7 @@
 -- What the sessions of a server hear of a submission, in the words of the applications.
 use Rattle.std.specs.Prelude.{ℕ, ◌==◌, int_le, pos, Bool, not, ◌&&◌, ◌||◌, if◌then◌else◌, List, [], ◌∷◌}
 use Rattle.std.specs.Str.{bytes_eq}
-use Rattle.srv_state.specs.State.{Hall}
+use Rattle.srv_state.specs.State.{ServerState}
 use Rattle.sm_live.specs.Sessions.{Session}
 use Rattle.cmd_schedule.specs.Contents.{Owned}
 use Rattle.sim_1_applications.specs.Devices.{Take, concerns, last_of}
@@ -12,7 +12,7 @@ use Rattle.sim_1_applications.specs.Stanzas.Up.{Message}
 use Rattle.xml_writer.specs.Items.{ItemOut}
 
 -- what is taken now: the message, where an account has the name that it is to
-abbrev pub taken_now : List (List ℕ) → Hall ItemOut → ℕ → Owned → Submission → List Take
+abbrev pub taken_now : List (List ℕ) → ServerState ItemOut → ℕ → Owned → Submission → List Take
 taken_now names h i o m = taking names h.moment i o.account (Message m ∷ [])
 
 -- the session of the device at a place hears of a take: as one of the recipient's that gets messages, or by a carbon

@@ -1,5 +1,5 @@
 pub use Rattle.base_io.specs.Listed
--- law: what a hall is to the applications, and which stanzas are said
+-- law: what a server's state is to the applications, and which stanzas are said
 pub mod Around
 pub mod Heard
 -- machine: what the server does on a stanza, and how that is read
@@ -23,14 +23,14 @@ pub mod Handled
 -- law: a move that is one client's alone
 pub mod Moves
 -- law: moves by which no device does anything with stanzas
-pub mod Quiet
+pub mod Silent
 -- law: what is known of the world of the applications
 pub mod Ground
 -- law: which words
 pub mod SessionWordsWords
--- law: which words a client reads without a deed
+-- law: which words a client reads without a label
 pub mod DownMovesWords
 -- law: the device to which something is given
-pub mod Beside
+pub mod Recipients
 -- law: requests that are under way to the server
 pub mod Placed

@@ -2,17 +2,17 @@
 -- still that of its device.
 use Rattle.std.specs.Prelude.{◌≡◌, ◌≢◌, ◌≤◌, ◌+◌, ℕ, List, Some, length, slice_get}
 use Rattle.sim_3_images.specs.Devices.{identity_at}
-use Rattle.sim_3_items.specs.Shows.{Shows}
+use Rattle.sim_3_items.specs.Represents.{Represents}
 use Rattle.sim_3_images.specs.Fitting.{FitsHere}
 use Rattle.sim_3_items.specs.ItemPipes.{ItemWire}
 use Rattle.sim_3_items.specs.ItemWorlds.{ItemWorld}
 use Rattle.cmd_schedule.specs.Contents.{Owned}
 use Rattle.cmd_schedule.specs.Schedules.{WireView}
-use Rattle.sim_5_devices.specs.Deeds.{Drift, Drifts, drift_events, with_device}
-use Rattle.sim_1_applications.specs.Devices.{Device, Sessions, World}
-use Rattle.sim_1_applications.specs.Events.{Act, Event, May, Reaches, around, own, taken_by}
+use Rattle.sim_5_devices.specs.Labels.{SessionStep, SessionSteps, session_step_events, with_device}
+use Rattle.sim_1_applications.specs.Devices.{AppWorld, Device, Sessions}
+use Rattle.sim_1_applications.specs.Events.{Act, AppEvent, May, Reaches, around, own, taken_by}
 use Rattle.sim_1_applications.specs.Histories.{spoken_in}
-use Rattle.sim_5_moves.specs.Running.{Bounds, DeviceRuns, IsOwned, WorldRuns}
+use Rattle.sim_5_moves.specs.Running.{Bounds, DeviceSimulates, IsOwned, WorldSimulates}
 
 pub record IsOneDevice (i : ℕ) (w next : ItemWorld) : Type 0 where
   pub server : next.server ≡ w.server
@@ -21,18 +21,18 @@ pub record IsOneDevice (i : ℕ) (w next : ItemWorld) : Type 0 where
   pub devices : length next.devices ≡ length w.devices
   pub beside : (j : ℕ) → j ≢ i → slice_get next.devices j ≡ slice_get w.devices j
   pub many : length next.wires ≡ length w.wires
-  pub wires : (place : ℕ) (wire : ItemWire) → slice_get next.wires place ≡ Some wire → (old : ItemWire) × (slice_get w.wires place ≡ Some old) × (wire.device ≡ old.device)
+  pub wires : (position : ℕ) (wire : ItemWire) → slice_get next.wires position ≡ Some wire → (old : ItemWire) × (slice_get w.wires position ≡ Some old) × (wire.device ≡ old.device)
 
 -- One of its devices acts, and comes to this by events; each other one is shown as it was.
-pub record ActsAlone (schedule : WireView) (b : Bounds) (says : ℕ) (w : ItemWorld) (x : World) (runs : WorldRuns schedule b says w x) (i : ℕ) (o : Owned) (next : ItemWorld) (d : Device) : Type 0 where
+pub record ActsAlone (schedule : WireView) (b : Bounds) (says : ℕ) (w : ItemWorld) (x : AppWorld) (runs : WorldSimulates schedule b says w x) (i : ℕ) (o : Owned) (next : ItemWorld) (d : Device) : Type 0 where
   pub owned : IsOwned schedule i o
   pub old : Device
   pub there : slice_get x.devices i ≡ Some old
   pub alone : IsOneDevice i w next
   pub fits : FitsHere next
-  pub events : List Event
+  pub events : List AppEvent
   pub reaches : Reaches events x (with_device i d x)
   pub said : says + length (spoken_in events) ≤ b.says
   pub asked : d.reading.asked ≤ b.pages + 1
-  pub device : DeviceRuns schedule next (with_device i d x) i o
-  pub others : (j : ℕ) (p : Owned) (is : IsOwned schedule j p) → j ≢ i → Shows (identity_at schedule j p) (runs.devices j p is).logins next (runs.devices j p is).view
+  pub device : DeviceSimulates schedule next (with_device i d x) i o
+  pub others : (j : ℕ) (p : Owned) (is : IsOwned schedule j p) → j ≢ i → Represents (identity_at schedule j p) (runs.devices j p is).logins next (runs.devices j p is).view

@@ -3,14 +3,14 @@
 use Rattle.std.specs.Prelude.{◌≡◌, ◌≢◌, ◌⊎◌, ℕ, ◌+◌, ◌*◌, ◌≤◌, ◌<◌, ◌^◌, ◌==◌, All, Bool, List, [], ◌∷◌, Option, None, Some, Result, Ok, Err, if◌then◌else◌, length, map, slice_get}
 use Rattle.mam_archive.specs.Entries.{EntryView}
 use Rattle.sim_3_images.specs.Devices.{identity_at}
-use Rattle.sim_3_items.specs.Deeds.{awaits}
+use Rattle.sim_3_items.specs.Labels.{awaits}
 use Rattle.sim_3_items.specs.Identities.{Login}
-use Rattle.sim_3_items.specs.Shows.{Shows}
-use Rattle.sim_3_images.specs.Stands.{HallStands}
+use Rattle.sim_3_items.specs.Represents.{Represents}
+use Rattle.sim_3_images.specs.Stands.{ServerStateStands}
 use Rattle.sim_3_images.specs.Fitting.{FitsHere}
 use Rattle.sim_3_items.specs.Items.{stanzas_read}
 use Rattle.sim_3_items.specs.ItemPipes.{ItemWire}
-use Rattle.sim_3_items.specs.Told.{name_told}
+use Rattle.sim_3_items.specs.Told.{local_part_of}
 use Rattle.sim_3_items.specs.ItemMoves.{CatchUp, Dial, Down, ItemMove, Say, moved}
 use Rattle.sim_3_items.specs.ItemWorlds.{ItemDevice, ItemWorld}
 use Rattle.cl_core.specs.UserCalls.{say_answer}
@@ -21,16 +21,16 @@ use Rattle.sim_2_links.specs.Paging.{PagingReached}
 use Rattle.sim_2_links.specs.Views.{View}
 use Rattle.sim_2_events.specs.Lists.{IsDevice}
 use Rattle.sim_5_devices.specs.InTime.{paging_here}
-use Rattle.sim_5_devices.specs.Shown.{LogShows}
+use Rattle.sim_5_devices.specs.Shown.{LogRepresents}
 use Rattle.law_payloads.specs.AsRead.{last_moment}
 use Rattle.cmd_schedule.specs.Contents.{Owned, accounts_of}
 use Rattle.cmd_schedule.specs.Schedules.{WireView, keep_of}
 use Rattle.sim_3_images.specs.Unbound.{IsWithin}
 use Rattle.sim_3_items.specs.Built.{IsDown, IsUp}
-use Rattle.sim_3_items.specs.Served.{FlagsShow, ServerRuns, take_told}
-use Rattle.sim_3_items.specs.Submitted.{SubmissionsShow}
-use Rattle.sim_1_applications.specs.Devices.{Device, Take, World}
-use Rattle.sim_1_applications.specs.Events.{Event, Reaches}
+use Rattle.sim_3_items.specs.Served.{FlagsRepresent, ServerSimulates, take_reported}
+use Rattle.sim_3_items.specs.Submitted.{SubmissionsRepresent}
+use Rattle.sim_1_applications.specs.Devices.{AppWorld, Device, Take}
+use Rattle.sim_1_applications.specs.Events.{AppEvent, Reaches}
 use Rattle.sim_1_applications.specs.Histories.{Spoken, spoken_in}
 use Rattle.sim_1_applications.specs.Reported.{history_at}
 use Rattle.sim_1_applications.specs.Runs.{begins, owned_of, steps_in}
@@ -72,13 +72,13 @@ pub record AreBuilt (o : Owned) (history : List EntryView) (t : SeenSession Item
   pub up : All (IsUp o) t.up_put
   pub down : All (IsDown o history) t.down_put
 
-pub record DeviceRuns (schedule : WireView) (w : ItemWorld) (x : World) (i : ℕ) (o : Owned) : Type 0 where
+pub record DeviceSimulates (schedule : WireView) (w : ItemWorld) (x : AppWorld) (i : ℕ) (o : Owned) : Type 0 where
   -- the links, of which moves that are prompt and in time have made what is shown
   pub logins : ℕ → Login
   pub view : View ItemOut
   pub in_time : PagingReached paging_here view
   pub prompt : PromptReached awaits view
-  pub shows : Shows (identity_at schedule i o) logins w view
+  pub represents : Represents (identity_at schedule i o) logins w view
   -- its sessions
   pub device : Device
   pub there : slice_get x.devices i ≡ Some device
@@ -86,38 +86,38 @@ pub record DeviceRuns (schedule : WireView) (w : ItemWorld) (x : World) (i : ℕ
   pub sessions : IsDevice stanzas_read (seen view) device.sessions
   pub built : (q : ℕ) (t : SeenSession ItemOut) → (seen view).sessions q ≡ Some t → AreBuilt o (history_for schedule x.takes o) t
   -- what its client has
-  pub submissions : SubmissionsShow shows.device.client device.sessions
-  pub log : LogShows (keep_in schedule) (history_for schedule x.takes o) shows.device.client.log device.reading
-  pub pages : shows.device.client.pages ≡ device.reading.asked
+  pub submissions : SubmissionsRepresent represents.device.client device.sessions
+  pub log : LogRepresents (keep_in schedule) (history_for schedule x.takes o) represents.device.client.log device.reading
+  pub pages : represents.device.client.pages ≡ device.reading.asked
   -- what the server has of its session
-  pub flags : FlagsShow (identity_at schedule i o).account o.device w.server device.sessions
+  pub flags : FlagsRepresent (identity_at schedule i o).account o.device w.server device.sessions
 
 -- ---- worlds
 
 -- Events led here from the beginning, and in them users said so many messages.
-pub record IsLed (schedule : WireView) (says : ℕ) (x : World) : Type 0 where
-  pub events : List Event
+pub record IsLed (schedule : WireView) (says : ℕ) (x : AppWorld) : Type 0 where
+  pub events : List AppEvent
   pub reaches : Reaches events (begins schedule) x
   pub spoken : length (spoken_in events) ≡ says
 
-pub record WorldRuns (schedule : WireView) (b : Bounds) (says : ℕ) (w : ItemWorld) (x : World) : Type 0 where
+pub record WorldSimulates (schedule : WireView) (b : Bounds) (says : ℕ) (w : ItemWorld) (x : AppWorld) : Type 0 where
   pub led : IsLed schedule says x
   pub said : says ≤ b.says
   pub asked : (i : ℕ) (d : Device) → slice_get x.devices i ≡ Some d → d.reading.asked ≤ b.pages + 1
   pub dialled : length w.wires ≤ b.dials
   -- devices, and no others
-  pub devices : (i : ℕ) (o : Owned) → IsOwned schedule i o → DeviceRuns schedule w x i o
+  pub devices : (i : ℕ) (o : Owned) → IsOwned schedule i o → DeviceSimulates schedule w x i o
   pub many : length w.devices ≡ length (owned_of schedule)
   pub many_there : length x.devices ≡ length (owned_of schedule)
-  pub wires : (place : ℕ) (wire : ItemWire) → slice_get w.wires place ≡ Some wire → (o : Owned) × IsOwned schedule wire.device o
+  pub wires : (position : ℕ) (wire : ItemWire) → slice_get w.wires position ≡ Some wire → (o : Owned) × IsOwned schedule wire.device o
   -- the server
-  pub server : ServerRuns (keep_in schedule) (owned_of schedule) (names_of schedule) x.takes w.server
-  pub takes : w.takes ≡ map (take_told (owned_of schedule)) x.takes
+  pub server : ServerSimulates (keep_in schedule) (owned_of schedule) (names_of schedule) x.takes w.server
+  pub takes : w.takes ≡ map (take_reported (owned_of schedule)) x.takes
   pub clock : x.clock ≡ w.moment
   -- it has looked at the clock since this last moved on
   pub now : w.server.moment ≡ w.moment
   pub fits : FitsHere w
-  pub stands : HallStands (length w.wires) w.server
+  pub stands : ServerStateStands (length w.wires) w.server
   pub within : IsWithin (length w.wires) w.server
 
 -- ---- a move
@@ -128,11 +128,11 @@ spoken_where (Ok done) s = s ∷ []
 spoken_where (Err fault) s = []
 
 abbrev pub said_at : ℕ → List ℕ → List ℕ → Bool → Option ItemDevice → List Spoken
-said_at place to text private None = []
-said_at place to text private (Some d) = spoken_where (say_answer d.client text) (record { device = place; to = name_told to; text = text; private = private })
+said_at position to text private None = []
+said_at position to text private (Some d) = spoken_where (say_answer d.client text) (record { device = position; to = local_part_of to; text = text; private = private })
 
 abbrev pub spoken_by_move : ItemMove → ItemWorld → List Spoken
-spoken_by_move (Say place to text private) w = said_at place to text private (slice_get w.devices place)
+spoken_by_move (Say position to text private) w = said_at position to text private (slice_get w.devices position)
 spoken_by_move m w = []
 
 -- The device at a place asks for a page at most where its user does, and where it is handed an item: then for one at most,
@@ -141,25 +141,25 @@ abbrev pub IsAskedOnce : Device → Device → Type 0
 IsAskedOnce d e = (IsUnanswered d → (e.reading.asked ≡ d.reading.asked) × IsUnanswered e) × ((e.reading.asked ≡ d.reading.asked) ⊎ ((e.reading.asked ≡ d.reading.asked + 1) × IsUnanswered e))
 
 abbrev pub IsAskedBy : ItemMove → ItemWorld → ℕ → Device → Device → Type 0
-IsAskedBy (CatchUp place most) w i d e = e.reading.asked ≤ d.reading.asked + (if i == place then 1 else 0)
-IsAskedBy (Down place) w i d e = IsAskedOnce d e × ((wire : ItemWire) → slice_get w.wires place ≡ Some wire → wire.device ≢ i → (e.reading.asked ≡ d.reading.asked) × (IsUnanswered d → IsUnanswered e))
+IsAskedBy (CatchUp position most) w i d e = e.reading.asked ≤ d.reading.asked + (if i == position then 1 else 0)
+IsAskedBy (Down position) w i d e = IsAskedOnce d e × ((wire : ItemWire) → slice_get w.wires position ≡ Some wire → wire.device ≢ i → (e.reading.asked ≡ d.reading.asked) × (IsUnanswered d → IsUnanswered e))
 IsAskedBy m w i d e = e.reading.asked ≡ d.reading.asked
 
 -- What is asked of a move beside that it may be: no more is said, asked for and dialled than is bounded, and what comes to
 -- a client comes before the last moment that has a stamp.
-abbrev pub IsInBounds : Bounds → ℕ → ItemMove → ItemWorld → World → Type 0
-IsInBounds b says (Say place to text private) w x = says + 1 ≤ b.says
-IsInBounds b says (CatchUp place most) w x = (d : Device) → slice_get x.devices place ≡ Some d → d.reading.asked ≤ b.pages
-IsInBounds b says (Down place) w x =
-    ((wire : ItemWire) (d : Device) → slice_get w.wires place ≡ Some wire → slice_get x.devices wire.device ≡ Some d → (d.reading.asked ≤ b.pages) ⊎ IsUnanswered d) × (w.moment ≤ last_moment)
-IsInBounds b says (Dial place mine yours) w x = length w.wires + 1 ≤ b.dials
+abbrev pub IsInBounds : Bounds → ℕ → ItemMove → ItemWorld → AppWorld → Type 0
+IsInBounds b says (Say position to text private) w x = says + 1 ≤ b.says
+IsInBounds b says (CatchUp position most) w x = (d : Device) → slice_get x.devices position ≡ Some d → d.reading.asked ≤ b.pages
+IsInBounds b says (Down position) w x =
+    ((wire : ItemWire) (d : Device) → slice_get w.wires position ≡ Some wire → slice_get x.devices wire.device ≡ Some d → (d.reading.asked ≤ b.pages) ⊎ IsUnanswered d) × (w.moment ≤ last_moment)
+IsInBounds b says (Dial position mine yours) w x = length w.wires + 1 ≤ b.dials
 IsInBounds b says m w x = Unit {0}
 
--- Behind the move the worlds are beside one another still, by these events.
-pub record MoveRuns (schedule : WireView) (b : Bounds) (says : ℕ) (m : ItemMove) (w : ItemWorld) (x : World) : Type 0 where
-  pub events : List Event
-  pub next : World
+-- Behind the move the worlds are related still, by these events.
+pub record MoveSimulates (schedule : WireView) (b : Bounds) (says : ℕ) (m : ItemMove) (w : ItemWorld) (x : AppWorld) : Type 0 where
+  pub events : List AppEvent
+  pub next : AppWorld
   pub reaches : Reaches events x next
   pub spoken : spoken_in events ≡ spoken_by_move m w
   pub asked : (i : ℕ) (d e : Device) → slice_get x.devices i ≡ Some d → slice_get next.devices i ≡ Some e → IsAskedBy m w i d e
-  pub runs : WorldRuns schedule b (says + length (spoken_by_move m w)) (moved m w) next
+  pub runs : WorldSimulates schedule b (says + length (spoken_by_move m w)) (moved m w) next

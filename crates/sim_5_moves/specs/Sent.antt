@@ -1,9 +1,9 @@
 -- What the server does on an element of a session, and how the clients of sessions read what that sends.
 use Rattle.std.specs.Prelude.{ℕ, nat_eq, if◌then◌else◌, List, [], ◌∷◌, ◌++◌, map}
-use Rattle.srv_state.specs.State.{Hall}
+use Rattle.srv_state.specs.State.{ServerState}
 use Rattle.srv_state.specs.Steps.{Act, Send}
 use Rattle.sim_3_items.specs.Items.{stanzas_read}
-use Rattle.sm_live.specs.declared.told.Told.{Told}
+use Rattle.sm_live.specs.declared.told.SessionInfo.{SessionInfo}
 use Rattle.sim_1_applications.specs.Stanzas.{Down}
 use Rattle.im_stanza.specs.Readings.{stanza_of}
 use Rattle.srv_core.specs.Stanzas.{handling}
@@ -15,7 +15,7 @@ abbrev pub as_it_is : ItemOut → ItemOut
 as_it_is z = z
 
 -- what is done behind counting the stanza
-abbrev pub does_on : Elem → Told → Hall ItemOut → List (Act ItemOut)
+abbrev pub does_on : Elem → SessionInfo → ServerState ItemOut → List (Act ItemOut)
 does_on e t h = handling as_it_is (stanza_of e) t h
 
 -- what goes to the session with a number

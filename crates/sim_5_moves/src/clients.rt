@@ -11,15 +11,15 @@ ghost use Rattle.sim_3_items.specs.ItemWorlds.{ItemWorld};
 ghost use Rattle.sim_2_links.specs.Words.{Down as DownTraffic, St};
 ghost use Rattle.cmd_schedule.specs.Contents.{Owned};
 ghost use Rattle.cmd_schedule.specs.Schedules.{WireView};
-ghost use Rattle.sim_1_applications.specs.Devices.{World};
-ghost use Rattle.sim_5_moves.specs.Running.{AreSmall, Bounds, IsInBounds, IsOwned, MoveRuns, WorldRuns};
+ghost use Rattle.sim_1_applications.specs.Devices.{AppWorld};
+ghost use Rattle.sim_5_moves.specs.Running.{AreSmall, Bounds, IsInBounds, IsOwned, MoveSimulates, WorldSimulates};
 ghost use Rattle.xml_writer.specs.Items.{ItemOut};
 
 /// A law: a stanza is the next item that comes to a device, on the connection that it has. Behind that move the worlds are
-/// beside one another still: in that of the applications the device drifts, and its client handles the stanza.
+/// related still: in that of the applications the device drifts, and its client handles the stanza.
 pub fn stanzas_come_down()
-    ensures { (schedule : WireView) (b : Bounds) → AreSmall b → (says : ℕ) (w : ItemWorld) (x : World) (runs : WorldRuns schedule b says w x) → IsGround schedule x → (place : ℕ) (wire : ItemWire) (o : Owned)
-        → (owned : IsOwned schedule wire.device o) → (z : ItemOut) → IsNextItem place wire.device w (runs.devices wire.device o owned).shows.device wire z
-        → IsNextDown (identity_at schedule wire.device o) (runs.devices wire.device o owned).logins (runs.devices wire.device o owned).shows.device (by_number w.wires) (runs.devices wire.device o owned).view (place + 1) (DownTraffic (St z))
-        → IsInBounds b says (Down place) w x → MoveRuns schedule b says (Down place) w x }
+    ensures { (schedule : WireView) (b : Bounds) → AreSmall b → (says : ℕ) (w : ItemWorld) (x : AppWorld) (runs : WorldSimulates schedule b says w x) → IsGround schedule x → (position : ℕ) (wire : ItemWire) (o : Owned)
+        → (owned : IsOwned schedule wire.device o) → (z : ItemOut) → IsNextItem position wire.device w (runs.devices wire.device o owned).represents.device wire z
+        → IsNextDown (identity_at schedule wire.device o) (runs.devices wire.device o owned).logins (runs.devices wire.device o owned).represents.device (by_number w.wires) (runs.devices wire.device o owned).view (position + 1) (DownTraffic (St z))
+        → IsInBounds b says (Down position) w x → MoveSimulates schedule b says (Down position) w x }
 {}

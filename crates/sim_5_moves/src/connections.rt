@@ -8,27 +8,27 @@ ghost use Rattle.sim_3_items.specs.ItemMoves.{CatchUp, Down, ItemMove, Say, Up, 
 ghost use Rattle.sim_3_items.specs.ItemPipes.{ItemWire, is_end_due};
 ghost use Rattle.sim_3_items.specs.ItemWorlds.{ItemDevice, ItemWorld};
 ghost use Rattle.cmd_schedule.specs.Schedules.{WireView};
-ghost use Rattle.sim_1_applications.specs.Devices.{World};
-ghost use Rattle.sim_5_moves.specs.Running.{Bounds, MoveRuns, WorldRuns, spoken_by_move};
+ghost use Rattle.sim_1_applications.specs.Devices.{AppWorld};
+ghost use Rattle.sim_5_moves.specs.Running.{Bounds, MoveSimulates, WorldSimulates, spoken_by_move};
 
-/// A law: where a move changes nothing, and nobody says anything by it, the worlds are beside one another as they were
+/// A law: where a move changes nothing, and nobody says anything by it, the worlds are related as they were
 /// (`still`). So it is of a move of a device, or on a connection, that isn't there (`nobody`), and where nothing is to be
 /// handed over or told (`up`, `told`, `down`).
 pub fn moves_that_do_nothing_run()
-    ensures still { (schedule : WireView) (b : Bounds) (says : ℕ) (m : ItemMove) (w : ItemWorld) (x : World) → WorldRuns schedule b says w x → moved m w ≡ w → spoken_by_move m w ≡ [] → MoveRuns schedule b says m w x }
-    ensures nobody { (schedule : WireView) (b : Bounds) (says : ℕ) (m : ItemMove) (w : ItemWorld) (x : World) → WorldRuns schedule b says w x → IsOfNobody m w → MoveRuns schedule b says m w x }
-    ensures up { (schedule : WireView) (b : Bounds) (says place : ℕ) (w : ItemWorld) (x : World) (wire : ItemWire) → WorldRuns schedule b says w x → slice_get w.wires place ≡ Some wire → wire.up.items ≡ []
-        → MoveRuns schedule b says (Up place) w x }
-    ensures told { (schedule : WireView) (b : Bounds) (says place : ℕ) (w : ItemWorld) (x : World) (wire : ItemWire) → WorldRuns schedule b says w x → slice_get w.wires place ≡ Some wire → is_end_due wire.up ≡ false
-        → MoveRuns schedule b says (UpEnd place) w x }
-    ensures down { (schedule : WireView) (b : Bounds) (says place : ℕ) (w : ItemWorld) (x : World) (wire : ItemWire) → WorldRuns schedule b says w x → slice_get w.wires place ≡ Some wire → IsOnNone place wire w
-        → MoveRuns schedule b says (Down place) w x }
+    ensures still { (schedule : WireView) (b : Bounds) (says : ℕ) (m : ItemMove) (w : ItemWorld) (x : AppWorld) → WorldSimulates schedule b says w x → moved m w ≡ w → spoken_by_move m w ≡ [] → MoveSimulates schedule b says m w x }
+    ensures nobody { (schedule : WireView) (b : Bounds) (says : ℕ) (m : ItemMove) (w : ItemWorld) (x : AppWorld) → WorldSimulates schedule b says w x → IsOfNobody m w → MoveSimulates schedule b says m w x }
+    ensures up { (schedule : WireView) (b : Bounds) (says position : ℕ) (w : ItemWorld) (x : AppWorld) (wire : ItemWire) → WorldSimulates schedule b says w x → slice_get w.wires position ≡ Some wire → wire.up.items ≡ []
+        → MoveSimulates schedule b says (Up position) w x }
+    ensures told { (schedule : WireView) (b : Bounds) (says position : ℕ) (w : ItemWorld) (x : AppWorld) (wire : ItemWire) → WorldSimulates schedule b says w x → slice_get w.wires position ≡ Some wire → is_end_due wire.up ≡ false
+        → MoveSimulates schedule b says (UpEnd position) w x }
+    ensures down { (schedule : WireView) (b : Bounds) (says position : ℕ) (w : ItemWorld) (x : AppWorld) (wire : ItemWire) → WorldSimulates schedule b says w x → slice_get w.wires position ≡ Some wire → IsOnNone position wire w
+        → MoveSimulates schedule b says (Down position) w x }
 {}
 
 /// A law: so it is of what a user submits, or asks for, that the client refuses.
 pub fn refused_calls_run()
-    ensures says { (schedule : WireView) (b : Bounds) (says place : ℕ) (to text : List ℕ) (private : Bool) (w : ItemWorld) (x : World) (d : ItemDevice) (fault : SayFault) → WorldRuns schedule b says w x → slice_get w.devices place ≡ Some d
-        → say_answer d.client text ≡ Err fault → MoveRuns schedule b says (Say place to text private) w x }
-    ensures asks { (schedule : WireView) (b : Bounds) (says place most : ℕ) (w : ItemWorld) (x : World) (d : ItemDevice) (fault : CatchUpStart) → WorldRuns schedule b says w x → slice_get w.devices place ≡ Some d
-        → catch_up_answer d.client ≡ Err fault → MoveRuns schedule b says (CatchUp place most) w x }
+    ensures says { (schedule : WireView) (b : Bounds) (says position : ℕ) (to text : List ℕ) (private : Bool) (w : ItemWorld) (x : AppWorld) (d : ItemDevice) (fault : SayFault) → WorldSimulates schedule b says w x → slice_get w.devices position ≡ Some d
+        → say_answer d.client text ≡ Err fault → MoveSimulates schedule b says (Say position to text private) w x }
+    ensures asks { (schedule : WireView) (b : Bounds) (says position most : ℕ) (w : ItemWorld) (x : AppWorld) (d : ItemDevice) (fault : CatchUpStart) → WorldSimulates schedule b says w x → slice_get w.devices position ≡ Some d
+        → catch_up_answer d.client ≡ Err fault → MoveSimulates schedule b says (CatchUp position most) w x }
 {}

@@ -4,23 +4,23 @@ ghost use Rattle.sim_3_items.specs.ItemWorlds.{ItemWorld};
 ghost use Rattle.sim_5_moves.specs.Moves.{ActsAlone};
 ghost use Rattle.cmd_schedule.specs.Contents.{Owned};
 ghost use Rattle.cmd_schedule.specs.Schedules.{WireView};
-ghost use Rattle.sim_5_devices.specs.Deeds.{Drift, Drifts, drift_events, with_device};
-ghost use Rattle.sim_1_applications.specs.Devices.{Device, Sessions, World};
+ghost use Rattle.sim_5_devices.specs.Labels.{SessionStep, SessionSteps, session_step_events, with_device};
+ghost use Rattle.sim_1_applications.specs.Devices.{AppWorld, Device, Sessions};
 ghost use Rattle.sim_1_applications.specs.Events.{Act, At, May, Reaches, around, own, taken_by};
 ghost use Rattle.sim_1_applications.specs.Histories.{spoken_in};
-ghost use Rattle.sim_5_moves.specs.Running.{Bounds, WorldRuns};
+ghost use Rattle.sim_5_moves.specs.Running.{Bounds, WorldSimulates};
 
 /// A law: one device of a world of items acts alone: the server, what it took and the moment stay, and the others are shown
-/// as they were. Where the device comes beside what events of it lead to, the worlds are beside one another.
+/// as they were. Where the device comes beside what events of it lead to, the worlds are related.
 pub fn one_device_acts()
-    ensures { (schedule : WireView) (b : Bounds) (says : ℕ) (w : ItemWorld) (x : World) (runs : WorldRuns schedule b says w x) (i : ℕ) (o : Owned) (next : ItemWorld) (d : Device) (a : ActsAlone schedule b says w x runs i o next d)
-        → WorldRuns schedule b (says + length (spoken_in a.events)) next (with_device i d x) }
+    ensures { (schedule : WireView) (b : Bounds) (says : ℕ) (w : ItemWorld) (x : AppWorld) (runs : WorldSimulates schedule b says w x) (i : ℕ) (o : Owned) (next : ItemWorld) (d : Device) (a : ActsAlone schedule b says w x runs i o next d)
+        → WorldSimulates schedule b (says + length (spoken_in a.events)) next (with_device i d x) }
 {}
 
-/// A law: a device drifts, and then acts so that no message is taken: these are events of the world of the applications,
-/// and in them is said what the act says.
-pub fn acts_come_behind_drifts()
-    ensures reaches { (x : World) (i : ℕ) (d : Device) → slice_get x.devices i ≡ Some d → (xs : List Drift) (s : Sessions) → Drifts xs d.sessions s → (act : Act) → May act (record d { sessions = s })
-        → taken_by x.accounts x.clock i (record d { sessions = s }) act ≡ [] → Reaches (drift_events i xs ++ At i act ∷ []) x (with_device i (own (around x d) act (record d { sessions = s })) x) }
-    ensures spoken { (i : ℕ) (xs : List Drift) (act : Act) → spoken_in (drift_events i xs ++ At i act ∷ []) ≡ spoken_in (At i act ∷ []) }
+/// A law: a device takes session steps, and then acts so that no message is taken: these are events of the world of the
+/// applications, and in them is said what the act says.
+pub fn acts_come_after_session_steps()
+    ensures reaches { (x : AppWorld) (i : ℕ) (d : Device) → slice_get x.devices i ≡ Some d → (xs : List SessionStep) (s : Sessions) → SessionSteps xs d.sessions s → (act : Act) → May act (record d { sessions = s })
+        → taken_by x.accounts x.clock i (record d { sessions = s }) act ≡ [] → Reaches (session_step_events i xs ++ At i act ∷ []) x (with_device i (own (around x d) act (record d { sessions = s })) x) }
+    ensures spoken { (i : ℕ) (xs : List SessionStep) (act : Act) → spoken_in (session_step_events i xs ++ At i act ∷ []) ≡ spoken_in (At i act ∷ []) }
 {}

@@ -1,6 +1,6 @@
 //! What was given to a device, as the stanzas of the applications.
 ghost use Rattle.std.specs.Prelude.{◌≡◌, ◌⊎◌, ℕ, true, List, [], ◌∷◌, ◌++◌, Some, map};
-ghost use Rattle.srv_state.specs.State.{Hall};
+ghost use Rattle.srv_state.specs.State.{ServerState};
 ghost use Rattle.srv_state.specs.Steps.{Act};
 ghost use Rattle.sim_3_items.specs.Identities.{Identity, Login};
 ghost use Rattle.base_io.specs.Names.{is_among};
@@ -19,15 +19,15 @@ ghost use Rattle.sim_1_applications.specs.Events.{hears_of};
 ghost use Rattle.sim_1_applications.specs.Stanzas.{Down, Submission};
 ghost use Rattle.sim_5_moves.specs.Handled.{IsHeardOf};
 ghost use Rattle.sim_4_links_follow.specs.Given.{IsGiven, sends_to};
-ghost use Rattle.sim_5_moves.specs.Beside.{IsBeside};
+ghost use Rattle.sim_5_moves.specs.Recipients.{IsRecipient};
 ghost use Rattle.xml_trees.specs.Trees.{Elem};
 ghost use Rattle.xml_writer.specs.Items.{ItemOut};
 
 /// A law: of a message that is taken each device is given, by what the links say was given, what it hears of the take in the
 /// applications: the number in its account's archive, where it hears; or nothing, where its queue is full and its session ended.
 pub fn messages_are_given()
-    ensures { (keep : ℕ) (owned : List Owned) (names : List (List ℕ)) (takes : List Take) (h : Hall ItemOut) (i : ℕ) (o : Owned) (s : Session ItemOut) (m : Submission) (e : Elem) (j : ℕ) (p : Owned) (who : Identity) (logins : ℕ → Login) (v next : View ItemOut) (d : Device) (given : List ItemOut) (last : Sessions) (t : Take) → Submits keep owned names takes h i o s m e → is_among m.to names ≡ true
-        → t ≡ record { device = i; account = o.account; said = m; moment = h.moment } → IsBeside owned names h j p who logins v d → IsGiven (acts_on s h e) given v.row next.row → IsDevice stanzas_read (seen next) last
+    ensures { (keep : ℕ) (owned : List Owned) (names : List (List ℕ)) (takes : List Take) (h : ServerState ItemOut) (i : ℕ) (o : Owned) (s : Session ItemOut) (m : Submission) (e : Elem) (j : ℕ) (p : Owned) (who : Identity) (logins : ℕ → Login) (v next : View ItemOut) (d : Device) (given : List ItemOut) (last : Sessions) (t : Take) → Submits keep owned names takes h i o s m e → is_among m.to names ≡ true
+        → t ≡ record { device = i; account = o.account; said = m; moment = h.moment } → IsRecipient owned names h j p who logins v d → IsGiven (acts_on s h e) given v.row next.row → IsDevice stanzas_read (seen next) last
         → IsHeardOf (hears_of t j d) (last_of (takes ++ t ∷ []) p.account) (map down_stanza given) last }
 {}
 

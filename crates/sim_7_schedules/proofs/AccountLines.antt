@@ -15,15 +15,15 @@ archive_of_name keep history name = record { owner = bare_address name; keep = k
 one_more : (p i : ℕ) → p + 1 + i ≡ p + suc i
 one_more p i = omega arith
 
-lines_from : (keep : ℕ) (history : List ℕ → List EntryView) (archives : List Kept) (place : ℕ) (names : List (List ℕ))
-    → ((i : ℕ) (name : List ℕ) → slice_get names i ≡ Some name → slice_get archives (place + i) ≡ Some (archive_of_name keep history name))
-    → account_lines place names archives ≡ map (λ name. reported.account_line keep (history name) name) names
-lines_from keep history archives place [] are = refl
-lines_from keep history archives place (name ∷ names) are =
-    let same : place ≡ place + 0 = omega arith in
-    let here : slice_get archives place ≡ Some (archive_of_name keep history name) = ap (slice_get archives) same ∙ are 0 name refl in
+lines_from : (keep : ℕ) (history : List ℕ → List EntryView) (archives : List Kept) (position : ℕ) (names : List (List ℕ))
+    → ((i : ℕ) (name : List ℕ) → slice_get names i ≡ Some name → slice_get archives (position + i) ≡ Some (archive_of_name keep history name))
+    → account_lines position names archives ≡ map (λ name. reported.account_line keep (history name) name) names
+lines_from keep history archives position [] are = refl
+lines_from keep history archives position (name ∷ names) are =
+    let same : position ≡ position + 0 = omega arith in
+    let here : slice_get archives position ≡ Some (archive_of_name keep history name) = ap (slice_get archives) same ∙ are 0 name refl in
     ap₂ (λ o (lines : List AccountView). account_where name o ++ lines) here
-    (lines_from keep history archives (place + 1) names (λ i other at. ap (slice_get archives) (one_more place i) ∙ are (suc i) other at))
+    (lines_from keep history archives (position + 1) names (λ i other at. ap (slice_get archives) (one_more position i) ∙ are (suc i) other at))
 
 pub lines_are : (keep : ℕ) (history : List ℕ → List EntryView) (archives : List Kept) (names : List (List ℕ))
     → ((i : ℕ) (name : List ℕ) → slice_get names i ≡ Some name → slice_get archives i ≡ Some (archive_of_name keep history name))

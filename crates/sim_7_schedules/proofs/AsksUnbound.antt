@@ -4,7 +4,7 @@ use Rattle.std.proofs.lemmas.Bool.{false≢true}
 use Rattle.std.specs.List.{slice_get}
 use Rattle.std.specs.Option.{option_map}
 use Rattle.std.specs.Str.{bytes_eq}
-use Rattle.srv_state.specs.State.{Hall}
+use Rattle.srv_state.specs.State.{ServerState}
 use Rattle.srv_state.specs.Words.{is_stanza}
 use Rattle.sim_3_items.specs.Identities.{Identity}
 use Rattle.sim_3_items.specs.Pipes.{by_number}
@@ -24,18 +24,18 @@ use Rattle.sim_4_links_follow.specs.Taking.{IsFirst}
 use Rattle.sm_live.specs.Sessions.{session_at}
 use Rattle.sim_5_moves.proofs.Goes.{goes_up}
 use Rattle.sim_5_moves.proofs.UpBuilt.{stanza_built}
-use Rattle.sim_5_moves.specs.Running.{DeviceRuns, IsOwned, WorldRuns, history_for}
+use Rattle.sim_5_moves.specs.Running.{DeviceSimulates, IsOwned, WorldSimulates, history_for}
 use Rattle.im_payload.specs.Shapes.{attr_or_empty}
 use Rattle.im_requests.specs.Sessions.{bind_item, carbons_item}
 use Rattle.cmd_schedule.specs.Contents.{Owned}
 use Rattle.cmd_schedule.specs.Schedules.{WireView}
-use Rattle.law_server.proofs.SessionsTurned.{at_turned}
-use Rattle.law_server.specs.Turned.{session_turned}
+use Rattle.law_server.proofs.SessionsRendered.{at_rendered}
+use Rattle.law_server.specs.Rendered.{session_rendered}
 use Rattle.sim_3_items.specs.Built.{IsUp}
-use Rattle.sim_1_applications.specs.Devices.{World}
+use Rattle.sim_1_applications.specs.Devices.{AppWorld}
 use Rattle.xml_trees.specs.Trees.{name_of}
 use Rattle.sim_7_schedules.proofs.Moves.{small}
-use Rattle.sim_7_schedules.specs.Besides.{AreBeside, bounds}
+use Rattle.sim_7_schedules.specs.Simulation.{Simulates, bounds}
 use Rattle.sim_7_schedules.specs.LateWords.{AsksAreUnbound, IsAsk}
 use Rattle.cmd_world.specs.Worlds as bytes
 use Rattle.xml_writer.specs.Items.{Closing, ItemOut, Opening, Whole, written_item}
@@ -70,26 +70,26 @@ no_carbons resource same = false≢true (sym (ap (λ i. bytes_eq (id_in i) (code
 
 -- ---- words
 
-module _ (s : WireView) (says : ℕ) (w : ItemWorld) (x : World) (runs : WorldRuns s bounds says w x) (place : ℕ) (wire : ItemWire) (i : ItemOut) (rest : List ItemOut) (there : slice_get w.wires place ≡ Some wire) (pipe : wire.up.items ≡ i ∷ rest) (o : Owned) (owned : IsOwned s wire.device o)
+module _ (s : WireView) (says : ℕ) (w : ItemWorld) (x : AppWorld) (runs : WorldSimulates s bounds says w x) (position : ℕ) (wire : ItemWire) (i : ItemOut) (rest : List ItemOut) (there : slice_get w.wires position ≡ Some wire) (pipe : wire.up.items ≡ i ∷ rest) (o : Owned) (owned : IsOwned s wire.device o)
     (ask : IsAsk i) where
   abbrev who : Identity
   who = identity_at s wire.device o
 
-  abbrev old : DeviceRuns s w x wire.device o
+  abbrev old : DeviceSimulates s w x wire.device o
   old = runs.devices wire.device o owned
 
-  abbrev h : Hall ItemOut
+  abbrev h : ServerState ItemOut
   h = w.server
 
   abbrev First : UpWord ItemOut → Type 0
-  First word = IsFirst who old.logins h (by_number w.wires) old.view (place + 1) word
+  First word = IsFirst who old.logins h (by_number w.wires) old.view (position + 1) word
 
   abbrev Unbound : Type 0
-  Unbound = session_at (place + 1) h.sessions ≡ None
+  Unbound = session_at (position + 1) h.sessions ≡ None
 
   by_phase : (word : UpWord ItemOut) (p : First word) (q : Phase) → p.conn.phase ≡ q → ((e : Ending) (gone : Bool) → on_phase q e gone ≡ None) → Unbound
   by_phase word p q at none =
-      unseated who old.logins h old.view (kept_here who old.logins h (by_number w.wires) old.view (place + 1) word p) p.server (place + 1) p.conn p.is
+      unseated who old.logins h old.view (kept_here who old.logins h (by_number w.wires) old.view (position + 1) word p) p.server (position + 1) p.conn p.is
       (ap (λ f. on_phase f p.conn.ending p.conn.gone) at ∙ none p.conn.ending p.conn.gone)
 
   by_header : (p : First Hdr) → (p.conn.phase ≡ Start) ⊎ (p.conn.phase ≡ Restart) → Unbound
@@ -98,37 +98,37 @@ module _ (s : WireView) (says : ℕ) (w : ItemWorld) (x : World) (runs : WorldRu
 
   no_stanza : (z : ItemOut) → First (Up (St z)) → z ≡ i → IsAsk i → ⊥
   no_stanza z p same (inl (resource, is)) =
-      let built : IsUp o z = stanza_built who old.logins h (by_number w.wires) old.view (place + 1) z p o (history_for s x.takes o) old.built in
+      let built : IsUp o z = stanza_built who old.logins h (by_number w.wires) old.view (position + 1) z p o (history_for s x.takes o) old.built in
       no_carbons resource (subst (IsUp o) (same ∙ is) built)
   no_stanza z p same (inr (previd, n, is)) =
-      let stanza = (stanza_comes who old.logins h (by_number w.wires) old.view (place + 1) z p).stanza in
+      let stanza = (stanza_comes who old.logins h (by_number w.wires) old.view (position + 1) z p).stanza in
       false≢true (sym (ap stands (sym stanza.whole ∙ same ∙ is)) ∙ stanza.stanza)
 
-  by_word : (word : UpWord ItemOut) (p : First word) → up_item who (old.logins (place + 1)) word ≡ i → Unbound
-  by_word Hdr p same = by_header p (expected_up old.view (place + 1) p.conn Hdr p.rest (kept_here who old.logins h (by_number w.wires) old.view (place + 1) Hdr p) p.is p.first)
-  by_word Auth p same = by_phase Auth p Sasl (expected_up old.view (place + 1) p.conn Auth p.rest (kept_here who old.logins h (by_number w.wires) old.view (place + 1) Auth p) p.is p.first) (λ e gone. refl)
-  by_word Resp p same = by_phase Resp p Challenge (expected_up old.view (place + 1) p.conn Resp p.rest (kept_here who old.logins h (by_number w.wires) old.view (place + 1) Resp p) p.is p.first) (λ e gone. refl)
+  by_word : (word : UpWord ItemOut) (p : First word) → up_item who (old.logins (position + 1)) word ≡ i → Unbound
+  by_word Hdr p same = by_header p (expected_up old.view (position + 1) p.conn Hdr p.rest (kept_here who old.logins h (by_number w.wires) old.view (position + 1) Hdr p) p.is p.first)
+  by_word Auth p same = by_phase Auth p Sasl (expected_up old.view (position + 1) p.conn Auth p.rest (kept_here who old.logins h (by_number w.wires) old.view (position + 1) Auth p) p.is p.first) (λ e gone. refl)
+  by_word Resp p same = by_phase Resp p Challenge (expected_up old.view (position + 1) p.conn Resp p.rest (kept_here who old.logins h (by_number w.wires) old.view (position + 1) Resp p) p.is p.first) (λ e gone. refl)
   by_word (ResumeAt q n) p same =
-      by_phase (ResumeAt q n) p Ready (expected_up old.view (place + 1) p.conn (ResumeAt q n) p.rest (kept_here who old.logins h (by_number w.wires) old.view (place + 1) (ResumeAt q n) p) p.is p.first) (λ e gone. refl)
-  by_word Bind p same = by_phase Bind p Ready (expected_up old.view (place + 1) p.conn Bind p.rest (kept_here who old.logins h (by_number w.wires) old.view (place + 1) Bind p) p.is p.first) (λ e gone. refl)
-  by_word Enable p same = absurd (no_ask (up_item who (old.logins (place + 1)) Enable) i refl same ask)
+      by_phase (ResumeAt q n) p Ready (expected_up old.view (position + 1) p.conn (ResumeAt q n) p.rest (kept_here who old.logins h (by_number w.wires) old.view (position + 1) (ResumeAt q n) p) p.is p.first) (λ e gone. refl)
+  by_word Bind p same = by_phase Bind p Ready (expected_up old.view (position + 1) p.conn Bind p.rest (kept_here who old.logins h (by_number w.wires) old.view (position + 1) Bind p) p.is p.first) (λ e gone. refl)
+  by_word Enable p same = absurd (no_ask (up_item who (old.logins (position + 1)) Enable) i refl same ask)
   by_word (Up (St z)) p same = absurd (no_stanza z p same ask)
-  by_word (Up Req) p same = absurd (no_ask (up_item who (old.logins (place + 1)) (Up Req)) i refl same ask)
-  by_word (Up (Ack n)) p same = absurd (no_ask (up_item who (old.logins (place + 1)) (Up (Ack n))) i refl same ask)
+  by_word (Up Req) p same = absurd (no_ask (up_item who (old.logins (position + 1)) (Up Req)) i refl same ask)
+  by_word (Up (Ack n)) p same = absurd (no_ask (up_item who (old.logins (position + 1)) (Up (Ack n))) i refl same ask)
   by_word Foot p same = absurd (no_ask Closing i refl same ask)
 
-  g : ItemGoesUp who old.logins w old.view place wire i
-  g = goes_up s bounds small says w x runs place wire i rest there pipe wire.device o old refl
+  g : ItemGoesUp who old.logins w old.view position wire i
+  g = goes_up s bounds small says w x runs position wire i rest there pipe wire.device o old refl
 
   ask_unbound : Unbound
   ask_unbound = by_word g.has.word g.has.first g.has.is
 
-pub asks_unbound : (s : WireView) (W : bytes.World) (x : World) → AreBeside s W x → AsksAreUnbound W
+pub asks_unbound : (s : WireView) (W : bytes.ByteWorld) (x : AppWorld) → Simulates s W x → AsksAreUnbound W
 asks_unbound s W x here = record {
   items = here.items;
-  image = here.image;
-  unbound = λ place wire i rest there pipe ask.
-      let owner = here.runs.wires place wire there in
-      let none = ask_unbound s here.says here.items x here.runs place wire i rest there pipe owner.0 owner.1 ask in
-      ap (λ (g : Hall (List ℕ)). session_at (place + 1) g.sessions) here.image.hall ∙ at_turned written_item (place + 1) here.items.server.sessions ∙ ap (option_map (session_turned written_item)) none;
+  encodes = here.encodes;
+  unbound = λ position wire i rest there pipe ask.
+      let owner = here.runs.wires position wire there in
+      let none = ask_unbound s here.says here.items x here.runs position wire i rest there pipe owner.0 owner.1 ask in
+      ap (λ (g : ServerState (List ℕ)). session_at (position + 1) g.sessions) here.encodes.server_state ∙ at_rendered written_item (position + 1) here.items.server.sessions ∙ ap (option_map (session_rendered written_item)) none;
 }

@@ -3,36 +3,36 @@ use Rattle.std.proofs.Common.{◌≡◌, ℕ, zero, suc, ◌+◌, List, [], ◌�
 use Rattle.std.proofs.lemmas.List.Concat.{flat_map-append}
 use Rattle.std.proofs.lemmas.Option.{none-some, same_Some}
 use Rattle.std.specs.List.{flat_map, slice_get}
-use Rattle.sim_5_devices.proofs.AllDrifts.{reaches_both}
+use Rattle.sim_5_devices.proofs.AllSessionSteps.{reaches_both}
 use Rattle.cmd_schedule.specs.Schedules.{WireView}
 use Rattle.cmd_schedule.specs.WireGrammar.{IsWireSchedule}
 use Rattle.cmd_schedule.specs.declared.schedule.WireLine.{WireLine}
 use Rattle.sim_1_applications.specs.Devices as sessions
-use Rattle.sim_1_applications.specs.Events.{Event, Reaches}
+use Rattle.sim_1_applications.specs.Events.{AppEvent, Reaches}
 use Rattle.sim_1_applications.specs.Histories.{state_after}
 use Rattle.sim_1_applications.proofs.Moments.{reaches_is}
 use Rattle.sim_1_applications.specs.Runs.{LineRun, begins}
 use Rattle.sim_1_applications.specs.Runs as lines
 use Rattle.sim_7_schedules.proofs.ByteMoves.{state_joined}
 use Rattle.sim_7_schedules.proofs.WholeRuns.{whole_run}
-use Rattle.sim_7_schedules.specs.Besides.{AreBeside, GoBeside, GoLines}
+use Rattle.sim_7_schedules.specs.Simulation.{LinesSimulate, MovesSimulate, Simulates}
 use Rattle.cmd_world.specs.Histories.{history_of, world_at_start, worlds_along, worlds_by}
 use Rattle.cmd_world.specs.Lines.{moves_of, stepped}
 use Rattle.cmd_world.specs.Moves.{Move, moved}
-use Rattle.cmd_world.specs.Worlds.{World}
+use Rattle.cmd_world.specs.Worlds.{ByteWorld}
 
 -- ---- events, cut in two
 
-record Between (xs ys : List Event) (x last : sessions.World) : Type 0 where
-  mid : sessions.World
+record Between (xs ys : List AppEvent) (x last : sessions.AppWorld) : Type 0 where
+  mid : sessions.AppWorld
   first : Reaches xs x mid
   second : Reaches ys mid last
 
-cut_run : (xs ys : List Event) (x last : sessions.World) → Reaches (xs ++ ys) x last → Between xs ys x last
+cut_run : (xs ys : List AppEvent) (x last : sessions.AppWorld) → Reaches (xs ++ ys) x last → Between xs ys x last
 cut_run [] ys x last r = record { mid = x; first = refl; second = r }
 cut_run (e ∷ xs) ys x last r = let rest = cut_run xs ys r.0 last r.2 in record { mid = rest.mid; first = (r.0, r.1, rest.first); second = rest.second }
 
-pub cut_at : (xs ys : List Event) (x last : sessions.World) → Reaches (xs ++ ys) x last → Reaches xs x (state_after x xs) × Reaches ys (state_after x xs) last
+pub cut_at : (xs ys : List AppEvent) (x last : sessions.AppWorld) → Reaches (xs ++ ys) x last → Reaches xs x (state_after x xs) × Reaches ys (state_after x xs) last
 cut_at xs ys x last r =
     let b = cut_run xs ys x last r in
     let is = reaches_is xs x b.mid b.first in
@@ -40,28 +40,28 @@ cut_at xs ys x last r =
 
 -- ---- worlds, one after another
 
-abbrev pub Chain : WireView → sessions.World → List World → Type 0
+abbrev pub Chain : WireView → sessions.AppWorld → List ByteWorld → Type 0
 Chain s x [] = Unit {0}
-Chain s x (W ∷ Ws) = (y : sessions.World) × (es : List Event) × Reaches es x y × AreBeside s W y × Chain s y Ws
+Chain s x (W ∷ Ws) = (y : sessions.AppWorld) × (es : List AppEvent) × Reaches es x y × Simulates s W y × Chain s y Ws
 
-abbrev joined : List (List Event) → List Event
+abbrev joined : List (List AppEvent) → List AppEvent
 joined moves = flat_map (λ one. one) moves
 
-chain_moves : (s : WireView) (ms : List Move) (ess : List (List Event)) (W : World) (x : sessions.World) (more : List Event) (last : sessions.World) (Ws : List World) → GoBeside s ms ess W x → Reaches (joined ess ++ more) x last →
+chain_moves : (s : WireView) (ms : List Move) (ess : List (List AppEvent)) (W : ByteWorld) (x : sessions.AppWorld) (more : List AppEvent) (last : sessions.AppWorld) (Ws : List ByteWorld) → MovesSimulate s ms ess W x → Reaches (joined ess ++ more) x last →
     (Reaches more (state_after x (joined ess)) last → Chain s (state_after x (joined ess)) Ws) → Chain s x (worlds_by ms W ++ Ws)
-chain_moves s [] [] W x more last Ws go reaches behind = behind reaches
-chain_moves s [] (es ∷ ess) W x more last Ws go reaches behind = absurd go
-chain_moves s (m ∷ ms) [] W x more last Ws go reaches behind = absurd go
-chain_moves s (m ∷ ms) (es ∷ ess) W x more last Ws go reaches behind =
+chain_moves s [] [] W x more last Ws go reaches following = following reaches
+chain_moves s [] (es ∷ ess) W x more last Ws go reaches following = absurd go
+chain_moves s (m ∷ ms) [] W x more last Ws go reaches following = absurd go
+chain_moves s (m ∷ ms) (es ∷ ess) W x more last Ws go reaches following =
     let parts = cut_at es (joined ess ++ more) x last (subst (λ l. Reaches l x last) (append_assoc es (joined ess) more) reaches) in (
       state_after x es,
       es,
       parts.0,
       go.0,
-      chain_moves s ms ess (moved m W) (state_after x es) more last Ws go.1 parts.1 (subst (λ u. Reaches more u last → Chain s u Ws) (state_joined x es (joined ess)) behind),
+      chain_moves s ms ess (moved m W) (state_after x es) more last Ws go.1 parts.1 (subst (λ u. Reaches more u last → Chain s u Ws) (state_joined x es (joined ess)) following),
     )
 
-chain_lines : (s : WireView) (rest : List WireLine) (runs : List LineRun) (W : World) (x last : sessions.World) → GoLines s rest runs W x → Reaches (joined (lines.moves_of runs)) x last → Chain s x (worlds_along rest W)
+chain_lines : (s : WireView) (rest : List WireLine) (runs : List LineRun) (W : ByteWorld) (x last : sessions.AppWorld) → LinesSimulate s rest runs W x → Reaches (joined (lines.moves_of runs)) x last → Chain s x (worlds_along rest W)
 chain_lines s [] [] W x last go reaches = tt
 chain_lines s [] (run ∷ runs) W x last go reaches = absurd go
 chain_lines s (line ∷ rest) [] W x last go reaches = absurd go
@@ -77,20 +77,20 @@ chain_of s right =
 
 -- ---- one of them, and those behind it
 
-pub record Picked (s : WireView) (x : sessions.World) (Ws : List World) (j : ℕ) (W : World) : Type 0 where
-  pub world : sessions.World
-  pub events : List Event
+pub record Picked (s : WireView) (x : sessions.AppWorld) (Ws : List ByteWorld) (j : ℕ) (W : ByteWorld) : Type 0 where
+  pub world : sessions.AppWorld
+  pub events : List AppEvent
   pub reaches : Reaches events x world
-  pub beside : AreBeside s W world
-  pub rest : List World
+  pub beside : Simulates s W world
+  pub rest : List ByteWorld
   pub chain : Chain s world (W ∷ rest)
   pub at : (d n : ℕ) → n ≡ j + d → slice_get (W ∷ rest) d ≡ slice_get Ws n
 
-pub pick : (s : WireView) (Ws : List World) (x : sessions.World) (j : ℕ) (W : World) → Chain s x Ws → slice_get Ws j ≡ Some W → Picked s x Ws j W
+pub pick : (s : WireView) (Ws : List ByteWorld) (x : sessions.AppWorld) (j : ℕ) (W : ByteWorld) → Chain s x Ws → slice_get Ws j ≡ Some W → Picked s x Ws j W
 pick s [] x j W chain at = absurd (none-some W at)
 pick s (V ∷ Ws) x zero W chain at =
     let same = same_Some V W at in
-    let beside : AreBeside s W chain.0 = subst (λ u. AreBeside s u chain.0) same chain.3 in
+    let beside : Simulates s W chain.0 = subst (λ u. Simulates s u chain.0) same chain.3 in
     record {
       world = chain.0;
       events = chain.1;
@@ -112,6 +112,6 @@ pick s (V ∷ Ws) x (suc j) W chain at =
       at = deeper p.rest p.at;
     }
   where
-    deeper : (rest : List World) → ((d n : ℕ) → n ≡ j + d → slice_get (W ∷ rest) d ≡ slice_get Ws n) → (d n : ℕ) → n ≡ suc j + d → slice_get (W ∷ rest) d ≡ slice_get (V ∷ Ws) n
+    deeper : (rest : List ByteWorld) → ((d n : ℕ) → n ≡ j + d → slice_get (W ∷ rest) d ≡ slice_get Ws n) → (d n : ℕ) → n ≡ suc j + d → slice_get (W ∷ rest) d ≡ slice_get (V ∷ Ws) n
     deeper rest below d zero is = absurd (let no_way : ⊥ = omega (arith, is) in no_way)
     deeper rest below d (suc n) is = below d n (omega (arith, is))

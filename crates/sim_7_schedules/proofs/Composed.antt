@@ -3,7 +3,7 @@ use Rattle.std.proofs.Common.{◌≡◌, ℕ, ◌<◌, ◌≤◌, ◌^◌, List,
 use Rattle.std.proofs.lemmas.Option.{same_Some, slice_get-get_or, slice_get_within}
 use Rattle.std.specs.List.{flat_map, slice_get}
 use Rattle.mam_archive.specs.declared.archive.TheConstants.{GREATEST_NUMBER}
-use Rattle.sim_3_items.specs.Deeds.{awaits}
+use Rattle.sim_3_items.specs.Labels.{awaits}
 use Rattle.sim_3_items.specs.Items.{stanzas_read}
 use Rattle.sim_3_items.specs.ItemWorlds.{ItemWorld}
 use Rattle.sim_2_links.proofs.WithPremises.{prompt_runs}
@@ -17,16 +17,16 @@ use Rattle.sim_7_schedules.specs.ShownWorlds.{shown_of}
 use Rattle.cmd_schedule.specs.Schedules.{WireView, seen_of}
 use Rattle.cmd_schedule.specs.WireGrammar.{IsWireSchedule}
 use Rattle.cmd_schedule.specs.declared.schedule.WireLine.{WireLine}
-use Rattle.sim_7_schedules.specs.Besides.{AreBeside, GoBeside, GoLines, ScheduleRuns, bounds}
+use Rattle.sim_7_schedules.specs.Simulation.{LinesSimulate, MovesSimulate, ScheduleSimulates, Simulates, bounds}
 use Rattle.sim_1_applications.proofs.Said.{takes_few}
 use Rattle.sim_1_applications.proofs.Taken.{of_all}
 use Rattle.sim_1_applications.specs.Counts.{IsNumberedWithin}
 use Rattle.sim_1_applications.specs.Devices as sessions
-use Rattle.sim_1_applications.specs.Events.{Event}
+use Rattle.sim_1_applications.specs.Events.{AppEvent}
 use Rattle.sim_1_applications.proofs.Lists.{all_weaker}
 use Rattle.sim_1_applications.specs.Histories.{spoken_in, state_after, states_of}
 use Rattle.sim_1_applications.proofs.Moments.{reaches_is}
-use Rattle.sim_1_applications.specs.Reported.{AreShown, IsShown}
+use Rattle.sim_1_applications.specs.Reported.{AreRepresented, IsShown}
 use Rattle.sim_1_applications.specs.Runs.{IsRunOf, LineRun, begins, moves_of, owned_of}
 use Rattle.sim_1_applications.proofs.LawsOfBoth.{laws_kept}
 use Rattle.sim_1_applications.specs.Counted.{AreCounted}
@@ -35,71 +35,71 @@ use Rattle.cmd_world.specs.Lines as lines
 use Rattle.cmd_world.specs.Lines.{all_stepped, stepped}
 use Rattle.cmd_world.specs.Moves.{Move, all_moved, moved}
 use Rattle.cmd_world.specs.WorldReports.{report_of}
-use Rattle.cmd_world.specs.Worlds.{World}
-use Rattle.sim_3_images.proofs.MovesKept.{kept_behind, kept_first}
-use Rattle.sim_3_images.specs.Kept.{IsKept}
-use Rattle.sim_5_moves.specs.Running.{WorldRuns}
+use Rattle.cmd_world.specs.Worlds.{ByteWorld}
+use Rattle.sim_3_images.proofs.MovesKept.{kept_after, kept_first}
+use Rattle.sim_3_images.specs.Kept.{IsWorldKept}
+use Rattle.sim_5_moves.specs.Running.{WorldSimulates}
 
 -- the events of moves, one after another
-abbrev joined : List (List Event) → List Event
+abbrev joined : List (List AppEvent) → List AppEvent
 joined moves = flat_map (λ one. one) moves
 
-after_moves : (x : sessions.World) (front back : List (List Event)) → state_after x (joined (front ++ back)) ≡ state_after (state_after x (joined front)) (joined back)
+after_moves : (x : sessions.AppWorld) (front back : List (List AppEvent)) → state_after x (joined (front ++ back)) ≡ state_after (state_after x (joined front)) (joined back)
 after_moves x [] back = refl
 after_moves x (es ∷ front) back =
     state_joined x es (joined (front ++ back)) ∙ after_moves (state_after x es) front back ∙ ap (λ w. state_after w (joined back)) (sym (state_joined x es (joined front)))
 
 module _ (s : WireView) (right : IsWireSchedule s) where
-  shows : (W : World) (x : sessions.World) → IsKept s W → AreBeside s W x → IsShown (owned_of s) x (shown_of W)
-  shows W x kept beside = world_shown s bounds beside.says W beside.items x right kept beside.image beside.runs
+  represents : (W : ByteWorld) (x : sessions.AppWorld) → IsWorldKept s W → Simulates s W x → IsShown (owned_of s) x (shown_of W)
+  represents W x kept beside = world_shown s bounds beside.says W beside.items x right kept beside.encodes beside.runs
 
   -- along moves what is kept and what is beside stays
-  along : (ms : List Move) (ess : List (List Event)) (W : World) (x : sessions.World) → IsKept s W → AreBeside s W x → GoBeside s ms ess W x → IsKept s (all_moved ms W) × AreBeside s (all_moved ms W) (state_after x (joined ess))
+  along : (ms : List Move) (ess : List (List AppEvent)) (W : ByteWorld) (x : sessions.AppWorld) → IsWorldKept s W → Simulates s W x → MovesSimulate s ms ess W x → IsWorldKept s (all_moved ms W) × Simulates s (all_moved ms W) (state_after x (joined ess))
   along [] [] W x kept beside go = (kept, beside)
   along [] (es ∷ ess) W x kept beside go = absurd go
   along (m ∷ ms) [] W x kept beside go = absurd go
   along (m ∷ ms) (es ∷ ess) W x kept beside go =
-      let rest = along ms ess (moved m W) (state_after x es) (kept_behind s m W kept) go.0 go.1 in
-      (rest.0, subst (AreBeside s (all_moved ms (moved m W))) (sym (state_joined x es (joined ess))) rest.1)
+      let rest = along ms ess (moved m W) (state_after x es) (kept_after s m W kept) go.0 go.1 in
+      (rest.0, subst (Simulates s (all_moved ms (moved m W))) (sym (state_joined x es (joined ess))) rest.1)
 
-  along_lines : (rest : List WireLine) (runs : List LineRun) (W : World) (x : sessions.World) → IsKept s W → AreBeside s W x → GoLines s rest runs W x → IsKept s (all_stepped rest W) × AreBeside s (all_stepped rest W) (state_after x (joined (moves_of runs)))
+  along_lines : (rest : List WireLine) (runs : List LineRun) (W : ByteWorld) (x : sessions.AppWorld) → IsWorldKept s W → Simulates s W x → LinesSimulate s rest runs W x → IsWorldKept s (all_stepped rest W) × Simulates s (all_stepped rest W) (state_after x (joined (moves_of runs)))
   along_lines [] [] W x kept beside go = (kept, beside)
   along_lines [] (run ∷ runs) W x kept beside go = absurd go
   along_lines (line ∷ rest) [] W x kept beside go = absurd go
   along_lines (line ∷ rest) (run ∷ runs) W x kept beside go =
       let mid = along (lines.moves_of line W) run.moves W x kept beside go.1 in
       let end = along_lines rest runs (stepped line W) (state_after x (joined run.moves)) mid.0 mid.1 go.2 in
-      (end.0, subst (AreBeside s (all_stepped rest (stepped line W))) (sym (after_moves x run.moves (moves_of runs))) end.1)
+      (end.0, subst (Simulates s (all_stepped rest (stepped line W))) (sym (after_moves x run.moves (moves_of runs))) end.1)
 
   -- what each world shows, along moves and what comes behind them
-  show_moves : (ms : List Move) (ess : List (List Event)) (W : World) (x : sessions.World) (more : List (List Event)) (others : List World) → IsKept s W → AreBeside s W x → GoBeside s ms ess W x →
-      AreShown (owned_of s) (states_of (state_after x (joined ess)) more) (map shown_of (all_moved ms W ∷ others)) → AreShown (owned_of s) (states_of x (ess ++ more)) (map shown_of (W ∷ worlds_by ms W ++ others))
-  show_moves [] [] W x more others kept beside go behind = behind
-  show_moves [] (es ∷ ess) W x more others kept beside go behind = absurd go
-  show_moves (m ∷ ms) [] W x more others kept beside go behind = absurd go
-  show_moves (m ∷ ms) (es ∷ ess) W x more others kept beside go behind = (
-    shows W x kept beside,
-    show_moves ms ess (moved m W) (state_after x es) more others (kept_behind s m W kept) go.0 go.1
-        (subst (λ w. AreShown (owned_of s) (states_of w more) (map shown_of (all_moved ms (moved m W) ∷ others))) (state_joined x es (joined ess)) behind),
+  represent_moves : (ms : List Move) (ess : List (List AppEvent)) (W : ByteWorld) (x : sessions.AppWorld) (more : List (List AppEvent)) (others : List ByteWorld) → IsWorldKept s W → Simulates s W x → MovesSimulate s ms ess W x →
+      AreRepresented (owned_of s) (states_of (state_after x (joined ess)) more) (map shown_of (all_moved ms W ∷ others)) → AreRepresented (owned_of s) (states_of x (ess ++ more)) (map shown_of (W ∷ worlds_by ms W ++ others))
+  represent_moves [] [] W x more others kept beside go following = following
+  represent_moves [] (es ∷ ess) W x more others kept beside go following = absurd go
+  represent_moves (m ∷ ms) [] W x more others kept beside go following = absurd go
+  represent_moves (m ∷ ms) (es ∷ ess) W x more others kept beside go following = (
+    represents W x kept beside,
+    represent_moves ms ess (moved m W) (state_after x es) more others (kept_after s m W kept) go.0 go.1
+        (subst (λ w. AreRepresented (owned_of s) (states_of w more) (map shown_of (all_moved ms (moved m W) ∷ others))) (state_joined x es (joined ess)) following),
   )
 
-  show_lines : (rest : List WireLine) (runs : List LineRun) (W : World) (x : sessions.World) → IsKept s W → AreBeside s W x → GoLines s rest runs W x →
-      AreShown (owned_of s) (states_of x (moves_of runs)) (map shown_of (W ∷ worlds_along rest W))
-  show_lines [] [] W x kept beside go = (shows W x kept beside, tt)
-  show_lines [] (run ∷ runs) W x kept beside go = absurd go
-  show_lines (line ∷ rest) [] W x kept beside go = absurd go
-  show_lines (line ∷ rest) (run ∷ runs) W x kept beside go =
+  represent_lines : (rest : List WireLine) (runs : List LineRun) (W : ByteWorld) (x : sessions.AppWorld) → IsWorldKept s W → Simulates s W x → LinesSimulate s rest runs W x →
+      AreRepresented (owned_of s) (states_of x (moves_of runs)) (map shown_of (W ∷ worlds_along rest W))
+  represent_lines [] [] W x kept beside go = (represents W x kept beside, tt)
+  represent_lines [] (run ∷ runs) W x kept beside go = absurd go
+  represent_lines (line ∷ rest) [] W x kept beside go = absurd go
+  represent_lines (line ∷ rest) (run ∷ runs) W x kept beside go =
       let mid = along (lines.moves_of line W) run.moves W x kept beside go.1 in
-      show_moves (lines.moves_of line W) run.moves W x (moves_of runs) (worlds_along rest (stepped line W)) kept beside go.1
-      (show_lines rest runs (stepped line W) (state_after x (joined run.moves)) mid.0 mid.1 go.2)
+      represent_moves (lines.moves_of line W) run.moves W x (moves_of runs) (worlds_along rest (stepped line W)) kept beside go.1
+      (represent_lines rest runs (stepped line W) (state_after x (joined run.moves)) mid.0 mid.1 go.2)
 
-  of_lines : (rest : List WireLine) (runs : List LineRun) (W : World) (x : sessions.World) → GoLines s rest runs W x → map (λ (r : LineRun). r.line) runs ≡ rest
+  of_lines : (rest : List WireLine) (runs : List LineRun) (W : ByteWorld) (x : sessions.AppWorld) → LinesSimulate s rest runs W x → map (λ (r : LineRun). r.line) runs ≡ rest
   of_lines [] [] W x go = refl
   of_lines [] (run ∷ runs) W x go = absurd go
   of_lines (line ∷ rest) [] W x go = absurd go
   of_lines (line ∷ rest) (run ∷ runs) W x go = ap (λ l. l ∷ map (λ (r : LineRun). r.line) runs) go.0 ∙ ap (λ ls. line ∷ ls) (of_lines rest runs (stepped line W) (state_after x (joined run.moves)) go.2)
 
-  few_of : (W : World) (x : sessions.World) → AreBeside s W x → length x.takes ≤ GREATEST_NUMBER
+  few_of : (W : ByteWorld) (x : sessions.AppWorld) → Simulates s W x → length x.takes ≤ GREATEST_NUMBER
   few_of W x beside =
       let led = beside.runs.led in
       let many = takes_few _ _ _ led.events x led.reaches in
@@ -108,7 +108,7 @@ module _ (s : WireView) (right : IsWireSchedule s) where
       omega arith
 
   -- each device's epoch is no higher than the numbers that the server gave
-  pub epoch_of_device : (says : ℕ) (v : ItemWorld) (x : sessions.World) (runs : WorldRuns s bounds says v x) (i : ℕ) (d : sessions.Device) → slice_get x.devices i ≡ Some d → sessions.epoch_of d.sessions ≤ 10001
+  pub epoch_of_device : (says : ℕ) (v : ItemWorld) (x : sessions.AppWorld) (runs : WorldSimulates s bounds says v x) (i : ℕ) (d : sessions.Device) → slice_get x.devices i ≡ Some d → sessions.epoch_of d.sessions ≤ 10001
   epoch_of_device says v x runs i d at =
       let size = slice_get_within x.devices i d at in
       let many = runs.many_there in
@@ -117,12 +117,12 @@ module _ (s : WireView) (right : IsWireSchedule s) where
       let dr = runs.devices i o owned in
       let same : dr.device ≡ d = same_Some dr.device d (sym dr.there ∙ at) in
       let low = epochs stanzas_read dr.view dr.device dr.sessions (prompt_runs awaits dr.view dr.prompt) in
-      let high = dr.shows.server.free in
+      let high = dr.represents.server.free in
       let within = runs.within.few in
       let dialled = runs.dialled in
       subst (λ (e : sessions.Device). sessions.epoch_of e.sessions ≤ 10001) same (omega arith)
 
-  counted_of : (W : World) (x : sessions.World) → AreBeside s W x → AreCounted x
+  counted_of : (W : ByteWorld) (x : sessions.AppWorld) → Simulates s W x → AreCounted x
   counted_of W x beside =
       let led = beside.runs.led in
       let spoken = led.spoken in
@@ -132,18 +132,18 @@ module _ (s : WireView) (right : IsWireSchedule s) where
       (of_all _ _ _ led.events x 10001 led.reaches (epoch_of_device beside.says beside.items x beside.runs))
 
   -- behind the last line the world that it leads to is beside the last one of the applications
-  pub last_beside : (runs : ScheduleRuns s) → IsKept s (world_of s) × AreBeside s (world_of s) runs.last
+  pub last_beside : (runs : ScheduleSimulates s) → IsWorldKept s (world_of s) × Simulates s (world_of s) runs.last
   unfolding world_of
   last_beside sr =
       let end = along_lines s.lines sr.runs (world_at_start s) (begins s) (kept_first s) sr.first sr.go in
       let is = reaches_is (joined (moves_of sr.runs)) (begins s) sr.last sr.reaches in
-      (end.0, subst (AreBeside s (world_of s)) (sym is) end.1)
+      (end.0, subst (Simulates s (world_of s)) (sym is) end.1)
 
-  pub run_of : (runs : ScheduleRuns s) → IsRunOf s (map shown_of (history_of s)) (report_of (world_of s))
+  pub run_of : (runs : ScheduleSimulates s) → IsRunOf s (map shown_of (history_of s)) (report_of (world_of s))
   run_of sr =
       let end = last_beside sr in
       let last = end.1 in
-      let told = reported s bounds last.says (world_of s) last.items sr.last right small end.0 last.image last.runs in
+      let told = reported s bounds last.says (world_of s) last.items sr.last right small end.0 last.encodes last.runs in
       record {
         right = right;
         runs = sr.runs;
@@ -152,15 +152,15 @@ module _ (s : WireView) (right : IsWireSchedule s) where
         last = sr.last;
         reaches = sr.reaches;
         few = few_of (world_of s) sr.last last;
-        shown = show_lines s.lines sr.runs (world_at_start s) (begins s) (kept_first s) sr.first sr.go;
+        shown = represent_lines s.lines sr.runs (world_at_start s) (begins s) (kept_first s) sr.first sr.go;
         reported = record { version = told.version; wire = told.wire; takes = told.takes; accounts = told.accounts; devices = told.devices; refused = sr.refused };
       }
 
-  pub last_is : (runs : ScheduleRuns s) → (run_of runs).last ≡ runs.last
+  pub last_is : (runs : ScheduleSimulates s) → (run_of runs).last ≡ runs.last
   unfolding run_of
   last_is sr = refl
 
-  pub lawful : (runs : ScheduleRuns s) → KeepsLaws (map shown_of (history_of s)) (seen_of s) (report_of (world_of s))
+  pub lawful : (runs : ScheduleSimulates s) → KeepsLaws (map shown_of (history_of s)) (seen_of s) (report_of (world_of s))
   lawful sr =
       laws_kept s (map shown_of (history_of s)) (report_of (world_of s)) (run_of sr)
       (subst AreCounted (sym (last_is sr)) (counted_of (world_of s) sr.last (last_beside sr).1))

@@ -3,11 +3,11 @@ use Rattle.std.proofs.Common.{◌≡◌, ℕ, zero, suc, ◌+◌, ◌<◌, ◌^�
 use Rattle.std.proofs.lemmas.Option.{none-some, same_Some}
 use Rattle.std.specs.List.{AllByRecursion, slice_get}
 use Rattle.std.specs.Prelude.{IfSome}
-use Rattle.cmd_direct.proofs.TurnRuns.{all_places}
+use Rattle.cmd_direct.proofs.TurnRuns.{all_positions}
 use Rattle.cmd_network.specs.Devices.{DeviceState}
 use Rattle.sim_3_images.proofs.NetworkMoves.{found_both}
-use Rattle.sim_3_images.specs.WorldImages.{WireAt}
-use Rattle.sim_3_images.specs.Mild.{DownFits, UpFits}
+use Rattle.sim_3_images.specs.WorldEncodings.{WireAt}
+use Rattle.sim_3_images.specs.Relayable.{DownFits, UpFits}
 use Rattle.sim_3_items.specs.ItemPipes.{ItemWire}
 use Rattle.sim_3_images.proofs.ChangedLists.{all_at}
 use Rattle.law_reports.proofs.Declared.{IsNamed}
@@ -20,14 +20,14 @@ use Rattle.cmd_schedule.specs.WireGrammar.{IsWireSchedule, nothing_above}
 use Rattle.cmd_schedule.specs.declared.schedule.Line.{Line}
 use Rattle.cmd_schedule.specs.declared.schedule.Step.{Step}
 use Rattle.cmd_schedule.specs.declared.schedule.Step.TheVariants.{Device}
-use Rattle.sim_7_schedules.specs.Besides.{AreBeside}
+use Rattle.sim_7_schedules.specs.Simulation.{Simulates}
 use Rattle.sim_1_applications.specs.Devices as sessions
 use Rattle.sim_1_applications.specs.Runs.{owned_of}
 use Rattle.sim_7_schedules.proofs.CountedBytes.{AreCounted}
 use Rattle.cmd_network.specs.declared.wire.Wire.{Wire}
 use Rattle.cmd_world.specs.WorldReports.{conn_lines, name_at}
-use Rattle.cmd_world.specs.Worlds.{World}
-use Rattle.sim_3_images.specs.Kept.{IsKept, owned_by}
+use Rattle.cmd_world.specs.Worlds.{ByteWorld}
+use Rattle.sim_3_images.specs.Kept.{IsWorldKept, owned_by}
 
 -- ---- names of devices
 
@@ -45,20 +45,20 @@ lines_named (line ∷ lines) right = step_named line.step (owned_in (steps_of li
 owners_named : (s : WireView) → IsWireSchedule s → AllByRecursion IsOwner (owned_of s)
 owners_named s right = lines_named (seen_of s).lines (wire_lines_right nothing_above 2 s.lines right.lines)
 
-name_there : (ds : List DeviceState) (place : ℕ) (o : Owned) → slice_get (map owned_by ds) place ≡ Some o → name_at place ds ≡ o.device
-name_there [] place o at = absurd (none-some o at)
+name_there : (ds : List DeviceState) (position : ℕ) (o : Owned) → slice_get (map owned_by ds) position ≡ Some o → name_at position ds ≡ o.device
+name_there [] position o at = absurd (none-some o at)
 name_there (d ∷ ds) zero o at = ap (λ (p : Owned). p.device) (same_Some (owned_by d) o at)
-name_there (d ∷ ds) (suc place) o at = name_there ds place o at
+name_there (d ∷ ds) (suc position) o at = name_there ds position o at
 
 -- ---- connections
 
 -- of each the device has a name
-wire_named : (s : WireView) → IsWireSchedule s → (W : World) (x : sessions.World) → IsKept s W → AreBeside s W x → (place : ℕ) (b : Wire) → slice_get W.wires place ≡ Some b → IsNamed (name_at b.device W.devices)
-wire_named s right W x kept beside place b at =
+wire_named : (s : WireView) → IsWireSchedule s → (W : ByteWorld) (x : sessions.AppWorld) → IsWorldKept s W → Simulates s W x → (position : ℕ) (b : Wire) → slice_get W.wires position ≡ Some b → IsNamed (name_at b.device W.devices)
+wire_named s right W x kept beside position b at =
     let v = beside.items in
-    let found = found_both (WireAt UpFits DownFits W v place) b (slice_get W.wires place) (slice_get v.wires place) at (beside.image.wires place) in
+    let found = found_both (WireAt UpFits DownFits W v position) b (slice_get W.wires position) (slice_get v.wires position) at (beside.encodes.wires position) in
     let wire : ItemWire = found.other in
-    let owner = beside.runs.wires place wire found.is in
+    let owner = beside.runs.wires position wire found.is in
     let same : b.device ≡ wire.device = found.holds.device in
     let there : slice_get (map owned_by W.devices) b.device ≡ Some owner.0 = ap (λ os. slice_get os b.device) kept.owners ∙ ap (λ i. slice_get (owned_of s) i) same ∙ owner.1 in
     subst IsNamed (sym (name_there W.devices b.device owner.0 there)) (subst (λ o. IfSome o IsOwner) owner.1 (all_at IsOwner (owned_of s) wire.device (owners_named s right)))
@@ -77,8 +77,8 @@ lines_right devices k (b ∷ ws) low counts named = (
   lines_right devices (k + 1) ws (omega arith) counts.1 named.1,
 )
 
-pub conns_right : (s : WireView) → IsWireSchedule s → (W : World) (x : sessions.World) → IsKept s W → AreBeside s W x → AreCounted W.wires → AllByRecursion IsConn (conn_lines W.devices 1 W.wires)
+pub conns_right : (s : WireView) → IsWireSchedule s → (W : ByteWorld) (x : sessions.AppWorld) → IsWorldKept s W → Simulates s W x → AreCounted W.wires → AllByRecursion IsConn (conn_lines W.devices 1 W.wires)
 conns_right s right W x kept beside counts =
-    let many = beside.image.as_many in
+    let many = beside.encodes.as_many in
     let few = beside.runs.dialled in
-    lines_right W.devices 1 W.wires (omega arith) counts (all_places (λ (b : Wire). IsNamed (name_at b.device W.devices)) W.wires (wire_named s right W x kept beside))
+    lines_right W.devices 1 W.wires (omega arith) counts (all_positions (λ (b : Wire). IsNamed (name_at b.device W.devices)) W.wires (wire_named s right W x kept beside))

@@ -5,13 +5,13 @@ use Rattle.std.proofs.lemmas.Option.{same_Some, slice_get-map}
 use Rattle.std.specs.Option.{option_map}
 use Rattle.std.specs.Prelude.{slice_get}
 use Rattle.mam_archive.specs.Entries.{EntryView}
-use Rattle.law_client.specs.Turned.{client_turned}
+use Rattle.law_client.specs.Rendered.{client_rendered}
 use Rattle.cl_handlers.specs.Clients.{ClientView}
-use Rattle.sim_3_images.specs.Mild.{ClientFits, DownFits, HallFits, UpFits}
+use Rattle.sim_3_images.specs.Relayable.{ClientFits, DownFits, ServerFits, UpFits}
 use Rattle.cmd_network.specs.DeviceLines as devices
 use Rattle.cmd_network.specs.Devices.{DeviceState}
-use Rattle.sim_3_images.specs.Stands.{StandingHalls}
-use Rattle.sim_3_images.specs.WorldImages.{WorldImage}
+use Rattle.sim_3_images.specs.Stands.{StandingServers}
+use Rattle.sim_3_images.specs.WorldEncodings.{WorldEncodes}
 use Rattle.sim_3_items.specs.ItemWorlds.{ItemWorld}
 use Rattle.mam_log.specs.Views.{LogView}
 use Rattle.sim_5_devices.specs.Shown.{IsReadingGiven}
@@ -19,7 +19,7 @@ use Rattle.sm_outbox.specs.Submissions.{all_said}
 use Rattle.sim_5_devices.proofs.Readings.{reading_given}
 use Rattle.sim_7_schedules.proofs.Ground.{few_takes, keeps, read}
 use Rattle.sim_7_schedules.proofs.LogLines.{AreLogLines, log_lines}
-use Rattle.sim_7_schedules.proofs.Settled.{device_image, settled_device}
+use Rattle.sim_7_schedules.proofs.Settled.{device_encodes, settled_device}
 use Rattle.cmd_schedule.specs.Contents.{Owned}
 use Rattle.cmd_schedule.specs.Schedules.{WireView}
 use Rattle.cmd_schedule.specs.WireGrammar.{IsWireSchedule}
@@ -29,38 +29,38 @@ use Rattle.sim_1_applications.specs.Kept.{TilesKept}
 use Rattle.sim_1_applications.specs.Reported.{AreDeviceLines, IsDeviceLine, history_at}
 use Rattle.sim_1_applications.specs.Runs.{owned_of}
 use Rattle.cmd_world.specs.WorldReports.{device_line_of}
-use Rattle.cmd_world.specs.Worlds.{World}
-use Rattle.sim_3_images.specs.Kept.{IsKept, owned_by}
-use Rattle.sim_5_moves.specs.Running.{AreSmall, Bounds, DeviceRuns, WorldRuns, keep_in}
+use Rattle.cmd_world.specs.Worlds.{ByteWorld}
+use Rattle.sim_3_images.specs.Kept.{IsWorldKept, owned_by}
+use Rattle.sim_5_moves.specs.Running.{AreSmall, Bounds, DeviceSimulates, WorldSimulates, keep_in}
 use Rattle.xml_writer.specs.Items.{written_item}
 
-module _ (schedule : WireView) (right : IsWireSchedule schedule) (b : Bounds) (small : AreSmall b) (says : ℕ) (w : World) (v : ItemWorld) (x : sessions.World) (kept : IsKept schedule w) (image : WorldImage UpFits DownFits (StandingHalls HallFits) ClientFits w v)
-    (runs : WorldRuns schedule b says v x) where
+module _ (schedule : WireView) (right : IsWireSchedule schedule) (b : Bounds) (small : AreSmall b) (says : ℕ) (w : ByteWorld) (v : ItemWorld) (x : sessions.AppWorld) (kept : IsWorldKept schedule w) (encodes : WorldEncodes UpFits DownFits (StandingServers ServerFits) ClientFits w v)
+    (runs : WorldSimulates schedule b says v x) where
   abbrev history : List ℕ → List EntryView
   history = history_at (owned_of schedule) x.takes
 
   owned_is : (i : ℕ) (o : Owned) (d : DeviceState) → slice_get (owned_of schedule) i ≡ Some o → slice_get w.devices i ≡ Some d → owned_by d ≡ o
   owned_is i o d at there = same_Some (owned_by d) o (sym (slice_get-map owned_by w.devices i ∙ ap (option_map owned_by) there) ∙ ap (λ (os : List Owned). slice_get os i) kept.owners ∙ at)
 
-  log_of_device : (i : ℕ) (o : Owned) → slice_get (owned_of schedule) i ≡ Some o → (one : DeviceRuns schedule v x i o) → AreLogLines (keep_in schedule) (history o.account) one.shows.device.client.log one.device.reading
+  log_of_device : (i : ℕ) (o : Owned) → slice_get (owned_of schedule) i ≡ Some o → (one : DeviceSimulates schedule v x i o) → AreLogLines (keep_in schedule) (history o.account) one.represents.device.client.log one.device.reading
   log_of_device i o at one =
       let known = (read schedule right b says v x runs).devices i one.device one.there in
       let tiles = subst (λ keep. TilesKept keep (last_of x.takes one.device.account) one.device.reading) (keeps schedule right b says v x runs) known.tiles in
       let given = reading_given x (read schedule right b says v x runs) i one.device one.there (owned_of schedule) (few_takes schedule right b says v x runs small) in
-      log_lines (keep_in schedule) (last_of x.takes one.device.account) (history o.account) one.shows.device.client.log one.device.reading one.log (subst (λ account. IsReadingGiven (history account) one.device.reading) one.account given) tiles
+      log_lines (keep_in schedule) (last_of x.takes one.device.account) (history o.account) one.represents.device.client.log one.device.reading one.log (subst (λ account. IsReadingGiven (history account) one.device.reading) one.account given) tiles
 
-  device_told : (i : ℕ) (o : Owned) (d : DeviceState) → slice_get (owned_of schedule) i ≡ Some o → slice_get w.devices i ≡ Some d → (one : DeviceRuns schedule v x i o)
+  device_told : (i : ℕ) (o : Owned) (d : DeviceState) → slice_get (owned_of schedule) i ≡ Some o → slice_get w.devices i ≡ Some d → (one : DeviceSimulates schedule v x i o)
       → IsDeviceLine (keep_in schedule) (history o.account) o one.device (device_line_of w d)
   device_told i o d at there one =
       let owner = owned_is i o d at there in
-      let client : d.client.client ≡ client_turned written_item one.shows.device.client = (device_image schedule w v x image kept i o one d there).client in
+      let client : d.client.client ≡ client_rendered written_item one.represents.device.client = (device_encodes schedule w v x encodes kept i o one d there).client in
       let lines : AreLogLines (keep_in schedule) (history o.account) d.client.client.log one.device.reading =
       subst (λ (log : LogView). AreLogLines (keep_in schedule) (history o.account) log one.device.reading) (sym (ap (λ (c : ClientView (List ℕ)). c.log) client)) (log_of_device i o at one) in
       record {
         name = ap (λ (p : Owned). p.device) owner;
         account = ap (λ (p : Owned). p.account) owner;
         epoch = ap (λ (c : ClientView (List ℕ)). c.epoch) client ∙ one.submissions.epoch;
-        settled = settled_device schedule w v x image kept i o one d there;
+        settled = settled_device schedule w v x encodes kept i o one d there;
         said = ap (λ (c : ClientView (List ℕ)). map devices.said_line (all_said c.said)) client ∙ one.submissions.said;
         pages = lines.pages;
         underway = lines.underway;

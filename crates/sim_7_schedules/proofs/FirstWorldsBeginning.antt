@@ -1,10 +1,10 @@
--- The worlds with which a schedule begins stand beside one another.
+-- The worlds with which a schedule begins stand related.
 use Rattle.std.proofs.Common.{◌≡◌, ℕ, ◌+◌, ◌≤◌, [], Some, map, slice_get, refl, arith}
 use Rattle.std.proofs.lemmas.List.{length-map}
 use Rattle.cmd_network.specs.Starting.{accounts_at_start}
 use Rattle.sim_3_images.proofs.ServersInOrder.{start_stands}
 use Rattle.sim_3_images.specs.ItemStarts.{item_device, items_at_start}
-use Rattle.sim_3_images.proofs.FittingImages.{begun_fits}
+use Rattle.sim_3_images.proofs.FittingEncodings.{begun_fits}
 use Rattle.cmd_report.specs.Addresses.{domain}
 use Rattle.cmd_schedule.specs.Schedules.{WireView}
 use Rattle.cmd_schedule.specs.WireGrammar.{IsWireSchedule}
@@ -15,7 +15,7 @@ use Rattle.sim_1_applications.specs.Runs.{begins, owned_of}
 use Rattle.sim_7_schedules.proofs.FirstDevices.{device_begins}
 use Rattle.sim_7_schedules.proofs.FirstServers.{server_begins}
 use Rattle.sim_7_schedules.proofs.Lists.{home, one_each}
-use Rattle.sim_5_moves.specs.Running.{Bounds, IsLed, WorldRuns, keep_in, names_of}
+use Rattle.sim_5_moves.specs.Running.{Bounds, IsLed, WorldSimulates, keep_in, names_of}
 
 pub led_begins : (schedule : WireView) → IsLed schedule 0 (begins schedule)
 led_begins schedule = record { events = []; reaches = refl; spoken = refl }
@@ -23,7 +23,7 @@ led_begins schedule = record { events = []; reaches = refl; spoken = refl }
 pub nothing_asked : (schedule : WireView) (b : Bounds) (i : ℕ) (d : Device) → slice_get (begins schedule).devices i ≡ Some d → d.reading.asked ≤ b.pages + 1
 nothing_asked schedule b i d there = one_of (λ j (e : Device). e.reading.asked ≤ b.pages + 1) (map home (owned_of schedule)) i d (λ account. omega arith) there
 
-pub begun : (schedule : WireView) → IsWireSchedule schedule → (b : Bounds) → WorldRuns schedule b 0 (items_at_start schedule) (begins schedule)
+pub begun : (schedule : WireView) → IsWireSchedule schedule → (b : Bounds) → WorldSimulates schedule b 0 (items_at_start schedule) (begins schedule)
 begun schedule is b = record {
   led = led_begins schedule;
   said = omega arith;
@@ -32,7 +32,7 @@ begun schedule is b = record {
   devices = device_begins schedule is;
   many = length-map (owned_of schedule) item_device;
   many_there = one_each (owned_of schedule);
-  wires = λ place wire none. absurd (let no_way : ⊥ = cc in no_way);
+  wires = λ position wire none. absurd (let no_way : ⊥ = cc in no_way);
   server = server_begins schedule;
   takes = refl;
   clock = refl;

@@ -6,10 +6,10 @@ use Rattle.std.specs.Option.{option_map}
 use Rattle.std.specs.Prelude.{◌&&◌, not}
 use Rattle.sm_acks.specs.Delivery.{IsPrefix}
 use Rattle.sim_1_applications.specs.Stanzas.{Carbons, Down, Live, Message, Presence, Up}
-use Rattle.sim_1_applications.specs.Devices.{Counted, Device, Known, Session, Sessions, Stage, Take, World, epoch_of, fresh, last_of}
+use Rattle.sim_1_applications.specs.Devices.{AppWorld, Counted, Device, Known, Session, Sessions, Stage, Take, epoch_of, fresh, last_of}
 use Rattle.sim_1_applications.specs.Events as events
-use Rattle.sim_1_applications.specs.Events.Event.{At, Tick}
-use Rattle.sim_1_applications.proofs.Worlds.{at_place, get_each, same_place}
+use Rattle.sim_1_applications.specs.Events.AppEvent.{At, Tick}
+use Rattle.sim_1_applications.proofs.Worlds.{at_position, get_each, same_position}
 use Rattle.sim_7_schedules.proofs.EpochLists.{at_past}
 
 -- ---- fronts
@@ -162,21 +162,21 @@ hear_all_further takes full (t ∷ ts) j d =
     all_both d.sessions (events.hear takes full t j d).sessions (events.hear_all takes full ts j (events.hear takes full t j d)).sessions
     (hear_further takes full t j d) (hear_all_further takes full ts j (events.hear takes full t j d))
 
-becomes_further : (w : World) (new : List Take) (i : ℕ) (act : events.Act) (j : ℕ) (d : Device) → ((j == i) ≡ true → events.May act d) → AllFurther d.sessions (events.becomes w new i act j d).sessions
+becomes_further : (w : AppWorld) (new : List Take) (i : ℕ) (act : events.Act) (j : ℕ) (d : Device) → ((j == i) ≡ true → events.May act d) → AllFurther d.sessions (events.becomes w new i act j d).sessions
 becomes_further w new i act j d may =
-    at_place (j == i) (events.own (events.around w d) act d) d (λ e. AllFurther d.sessions (events.hear_all (w.takes ++ new) (events.full_of act) new j e).sessions)
+    at_position (j == i) (events.own (events.around w d) act d) d (λ e. AllFurther d.sessions (events.hear_all (w.takes ++ new) (events.full_of act) new j e).sessions)
     (λ is. all_both d.sessions (events.own (events.around w d) act d).sessions (events.hear_all (w.takes ++ new) (events.full_of act) new j (events.own (events.around w d) act d)).sessions
     (own_further (events.around w d) act d (may is)) (hear_all_further (w.takes ++ new) (events.full_of act) new j (events.own (events.around w d) act d)))
     (λ _. hear_all_further (w.takes ++ new) (events.full_of act) new j d)
 
 -- ---- the device at a place
 
-pub record FurtherAt (a : Sessions) (w : World) (i : ℕ) : Type 0 where
+pub record FurtherAt (a : Sessions) (w : AppWorld) (i : ℕ) : Type 0 where
   pub device : Device
   pub at : slice_get w.devices i ≡ Some device
   pub further : AllFurther a device.sessions
 
-further_moves : (event : events.Event) (a : Sessions) (w next : World) (i : ℕ) → events.Moves event w next → FurtherAt a w i → FurtherAt a next i
+further_moves : (event : events.AppEvent) (a : Sessions) (w next : AppWorld) (i : ℕ) → events.Moves event w next → FurtherAt a w i → FurtherAt a next i
 further_moves (Tick ms) a w next i is f = subst (λ v. FurtherAt a v i) (sym is) (record { device = f.device; at = f.at; further = f.further })
 further_moves (At j act) a w next i is f =
     let new = events.taken_by w.accounts w.clock j is.0 act in
@@ -184,13 +184,13 @@ further_moves (At j act) a w next i is f =
       device = events.becomes w new j act (0 + i) f.device;
       at = get_each 0 (events.becomes w new j act) w.devices i ∙ ap (option_map (events.becomes w new j act (0 + i))) f.at;
       further = all_both a f.device.sessions (events.becomes w new j act (0 + i) f.device).sessions f.further (becomes_further w new j act (0 + i) f.device (λ same.
-          let here : j ≡ i = (let e = same_place (0 + i) j same in omega (arith, e)) in
+          let here : j ≡ i = (let e = same_position (0 + i) j same in omega (arith, e)) in
           subst (events.May act) (same_Some is.0 f.device (sym is.1 ∙ ap (slice_get w.devices) here ∙ f.at)) is.2));
     })
 
-further_from : (all : List events.Event) (a : Sessions) (w last : World) (i : ℕ) → events.Reaches all w last → FurtherAt a w i → FurtherAt a last i
+further_from : (all : List events.AppEvent) (a : Sessions) (w last : AppWorld) (i : ℕ) → events.Reaches all w last → FurtherAt a w i → FurtherAt a last i
 further_from [] a w last i is f = subst (λ v. FurtherAt a v i) (sym is) f
 further_from (event ∷ all) a w last i reaches f = further_from all a reaches.0 last i reaches.2 (further_moves event a w reaches.0 i reaches.1 f)
 
-pub further_along : (all : List events.Event) (w last : World) (i : ℕ) (d : Device) → events.Reaches all w last → slice_get w.devices i ≡ Some d → FurtherAt d.sessions last i
+pub further_along : (all : List events.AppEvent) (w last : AppWorld) (i : ℕ) (d : Device) → events.Reaches all w last → slice_get w.devices i ≡ Some d → FurtherAt d.sessions last i
 further_along all w last i d reaches at = further_from all d.sessions w last i reaches (record { device = d; at = at; further = all_itself d.sessions })

@@ -8,7 +8,7 @@ use Rattle.sim_3_images.proofs.Starts.{named_among}
 use Rattle.base_io.specs.Names.{is_among}
 use Rattle.sim_3_items.specs.ItemWorlds.{ItemWorld}
 use Rattle.sim_2_links.proofs.WithPremises.{prompt_runs}
-use Rattle.sim_3_items.specs.Deeds.{awaits}
+use Rattle.sim_3_items.specs.Labels.{awaits}
 use Rattle.sim_2_events.proofs.Counted.{epochs}
 use Rattle.sim_3_items.specs.Items.{stanzas_read}
 use Rattle.sim_7_schedules.proofs.TakeLines.{IsTellable}
@@ -23,7 +23,7 @@ use Rattle.sim_1_applications.proofs.Later.{later_along}
 use Rattle.sim_1_applications.proofs.Lists.{all_weaker}
 use Rattle.sim_1_applications.proofs.Runs.{taken_along, taken_beginning}
 use Rattle.sim_1_applications.proofs.TileRuns.{read_along, read_beginning}
-use Rattle.sim_1_applications.specs.Devices.{Device, Take, World, epoch_of}
+use Rattle.sim_1_applications.specs.Devices.{AppWorld, Device, Take, epoch_of}
 use Rattle.sim_1_applications.specs.Histories.{spoken_in}
 use Rattle.sim_1_applications.specs.Kept.{IsOfDevice, Read, Taken, is_of}
 use Rattle.sim_1_applications.proofs.Ground.{by_device}
@@ -32,7 +32,7 @@ use Rattle.sim_1_applications.specs.Reported.{name_at}
 use Rattle.sim_1_applications.specs.Runs.{begins, owned_of}
 use Rattle.cmd_world.proofs.Declares.{are_accounts, are_names, some_kept}
 use Rattle.cmd_world.proofs.Traces.{may_run_all}
-use Rattle.sim_5_moves.specs.Running.{AreSmall, Bounds, WorldRuns, keep_in, names_of}
+use Rattle.sim_5_moves.specs.Running.{AreSmall, Bounds, WorldSimulates, keep_in, names_of}
 
 -- ---- lists
 
@@ -47,7 +47,7 @@ all_three P Q R S each (x ∷ xs) p q r = (each x p.0 q.0 r.0, all_three P Q R S
 
 -- ---- a world that stands
 
-module _ (schedule : WireView) (right : IsWireSchedule schedule) (b : Bounds) (says : ℕ) (v : ItemWorld) (x : World) (runs : WorldRuns schedule b says v x) where
+module _ (schedule : WireView) (right : IsWireSchedule schedule) (b : Bounds) (says : ℕ) (v : ItemWorld) (x : AppWorld) (runs : WorldSimulates schedule b says v x) where
   taken : Taken x
   taken = taken_along runs.led.events (begins schedule) x runs.led.reaches (taken_beginning (keep_in schedule) (names_of schedule) _)
 
@@ -72,7 +72,7 @@ module _ (schedule : WireView) (right : IsWireSchedule schedule) (b : Bounds) (s
       let one = runs.devices i o.0 o.1 in
       let same = same_Some one.device d (sym one.there ∙ at) in
       let low = epochs stanzas_read one.view one.device one.sessions (prompt_runs awaits one.view one.prompt) in
-      let free = one.shows.server.free in
+      let free = one.represents.server.free in
       let few = runs.within.few in
       let dialled = runs.dialled in
       subst (λ (e : Device). epoch_of e.sessions ≤ b.dials + 1) same (omega (arith, low, free, few, dialled))

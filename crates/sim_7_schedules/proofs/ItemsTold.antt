@@ -27,9 +27,9 @@ use Rattle.im_stanza.specs.declared.conditions.Condition.TheVariants.{ItemNotFou
 use Rattle.xml_trees.specs.Trees.{Elem}
 use Rattle.mam_archive.specs.Entries.{EntryView}
 use Rattle.cl_core.specs.Steps.{element_row, item_step, stream_condition}
-use Rattle.cl_handlers.specs.Clients.{ClientView, Turn}
+use Rattle.cl_handlers.specs.Clients.{ClientStep, ClientView}
 use Rattle.cl_handlers.specs.Speech.{in_items}
-use Rattle.cl_handlers.specs.Turns.{ends}
+use Rattle.cl_handlers.specs.ClientSteps.{ends}
 use Rattle.cl_handlers.specs.declared.events.PeerFault.TheVariants.{Stream}
 use Rattle.cl_handlers.specs.declared.phase.Phase.TheVariants as phase
 use Rattle.sim_5_devices.proofs.Next.{well}
@@ -38,16 +38,16 @@ use Rattle.sim_5_devices.proofs.Rest.{short_queue}
 use Rattle.sim_5_devices.specs.Logged.{IsReadAs}
 use Rattle.sim_5_devices.specs.Named.{IsNamed}
 use Rattle.sim_5_devices.specs.Shown.{page_shown, tile_shown}
-use Rattle.sim_3_items.specs.Deeds.{awaits}
+use Rattle.sim_3_items.specs.Labels.{awaits}
 use Rattle.sim_3_items.specs.Identities.{Identity}
 use Rattle.sim_3_items.specs.Pipes.{by_number}
-use Rattle.sim_3_items.specs.Reading.{IsNextDown, turn_on}
-use Rattle.sim_3_items.specs.WordItems.{down_item, features_item, is_behind_login, told_count}
-use Rattle.sim_3_images.proofs.TurnsBehind.{step_adds}
+use Rattle.sim_3_items.specs.Reading.{IsNextDown, client_step_on}
+use Rattle.sim_3_items.specs.WordItems.{down_item, features_item, is_after_login, told_count}
+use Rattle.sim_3_images.proofs.TurnsAfter.{step_adds}
 use Rattle.sim_3_images.specs.Devices.{identity_at}
 use Rattle.sim_3_items.specs.Downs.{down_stanza}
 use Rattle.sim_3_items.specs.ItemPipes.{ItemWire}
-use Rattle.sim_3_items.specs.ItemWorlds.{ItemDevice, ItemWorld, read_of, silent_turn}
+use Rattle.sim_3_items.specs.ItemWorlds.{ItemDevice, ItemWorld, read_of, silent_client_step}
 use Rattle.sim_2_links.proofs.WithPremises.{prompt_runs}
 use Rattle.sim_2_links.specs.Words.{Ack, Bound, Chal, Conflict, Constraint, Down, DownWord, Client, Enabled, End, Err as ErrWord, Failed, Feat, Head, InAuth, InBind, InEnable, InFeatures1, InFeatures2, InOnline, InResponse, InResume, Req, Resumed, St, Succ, TooHigh}
 use Rattle.sim_4_links_follow.proofs.AllReads.{expected}
@@ -57,18 +57,18 @@ use Rattle.sim_4_links_follow.proofs.Working.{kept_here, phase_here}
 use Rattle.sim_4_links_follow.specs.Following.{HasNextDown, IsNextItem}
 use Rattle.mam_log.specs.Views.{LogView, OpenPage, without_page}
 use Rattle.sim_5_moves.proofs.Next.{IsNextRead, IsNextStanza, next_read, next_stanza}
-use Rattle.sim_5_moves.proofs.Turned.{IsReadable, reaction, read_so}
+use Rattle.sim_5_moves.proofs.Rendered.{IsReadable, reaction, read_so}
 use Rattle.sim_5_moves.specs.Ground.{IsGround}
-use Rattle.sim_5_moves.specs.Running.{AreSmall, Bounds, DeviceRuns, IsOwned, WorldRuns, history_for, keep_in}
+use Rattle.sim_5_moves.specs.Running.{AreSmall, Bounds, DeviceSimulates, IsOwned, WorldSimulates, history_for, keep_in}
 use Rattle.im_payload.specs.Names.{management, sasl}
 use Rattle.law_payloads.specs.AsRead.{last_moment}
 use Rattle.cmd_schedule.specs.Contents.{Owned}
 use Rattle.cmd_schedule.specs.Schedules.{WireView}
 use Rattle.sim_1_applications.specs.Devices as sessions
-use Rattle.sim_1_applications.specs.Devices.{Reading, World}
+use Rattle.sim_1_applications.specs.Devices.{AppWorld, Reading}
 use Rattle.sim_1_applications.specs.Events.{around}
 use Rattle.sim_1_applications.specs.Runs.{owned_of}
-use Rattle.sim_7_schedules.proofs.EventRows.{IsCountAt, IsFairItem, IsFine, IsHighAt, IsLeft, IsStanzaAt, StepOut, step_out}
+use Rattle.sim_7_schedules.proofs.EventRows.{IsBounded, IsCountAt, IsFairItem, IsHighAt, IsLeft, IsStanzaAt, StepOut, step_out}
 use Rattle.sim_7_schedules.proofs.PagesStay.{never_lost}
 use Rattle.xml_writer.specs.Items.{Closing, ItemOut, Opening, Whole}
 
@@ -82,7 +82,7 @@ never : (TooHigh ≡ Conflict) ⊎ (TooHigh ≡ Constraint) → ⊥
 never (inl e) = cc e
 never (inr e) = cc e
 
-features_fair : (behind : Bool) → IsFairItem (read_of (features_item behind))
+features_fair : (following : Bool) → IsFairItem (read_of (features_item following))
 features_fair true = λ named. absurd (false≢true named)
 features_fair false = λ named. absurd (false≢true named)
 
@@ -92,7 +92,7 @@ CountsNone p = (e : Elem) (h : ℕ) → IsCountAt p e h → ⊥
 
 none_high : (c : ClientView ItemOut) (p : Phase) → c.phase ≡ p → CountsNone p → (i : Item) → IsHighAt c i → ⊥
 none_high c p at none (framed.Element e) (s, h, has, count, plain, high) = none e h (subst (λ p. IsCountAt p e h) at count)
-none_high c p at none (framed.Header place header) high = high
+none_high c p at none (framed.Header position header) high = high
 none_high c p at none framed.Footer high = high
 
 same_ok : {A E : Type 0} (a b : A) (r : Result A E) → r ≡ Ok a → r ≡ Ok b → a ≡ b
@@ -107,23 +107,23 @@ not_above c own h has low s k there same high =
     let is : own ≡ s = same_Some own s (sym has ∙ there) in
     false≢true (sym low ∙ ap (λ (q : SessionView ItemOut). is_too_high q.waiting h) is ∙ ap (is_too_high s.waiting) (sym same) ∙ high)
 
-no_stanza : (c : ClientView ItemOut) (behind : Bool) → IsStanzaAt c (read_of (features_item behind)) → ⊥
+no_stanza : (c : ClientView ItemOut) (following : Bool) → IsStanzaAt c (read_of (features_item following)) → ⊥
 no_stanza c true at = false≢true at.1
 no_stanza c false at = false≢true at.1
 
-module _ (schedule : WireView) (b : Bounds) (small : AreSmall b) (says : ℕ) (w : ItemWorld) (x : World) (runs : WorldRuns schedule b says w x) (ground : IsGround schedule x) (timely : w.moment ≤ last_moment)
-    (place : ℕ) (wire : ItemWire) (o : Owned) (owned : IsOwned schedule wire.device o) where
+module _ (schedule : WireView) (b : Bounds) (small : AreSmall b) (says : ℕ) (w : ItemWorld) (x : AppWorld) (runs : WorldSimulates schedule b says w x) (ground : IsGround schedule x) (timely : w.moment ≤ last_moment)
+    (position : ℕ) (wire : ItemWire) (o : Owned) (owned : IsOwned schedule wire.device o) where
   abbrev i : ℕ
   i = wire.device
 
-  abbrev old : DeviceRuns schedule w x i o
+  abbrev old : DeviceSimulates schedule w x i o
   old = runs.devices i o owned
 
   abbrev who : Identity
   who = identity_at schedule i o
 
   abbrev d : ItemDevice
-  d = old.shows.device
+  d = old.represents.device
 
   abbrev reading : Reading
   reading = old.device.reading
@@ -132,20 +132,20 @@ module _ (schedule : WireView) (b : Bounds) (small : AreSmall b) (says : ℕ) (w
   history = history_for schedule x.takes o
 
   abbrev At : DownWord ItemOut → Type 0
-  At word = IsNextDown who old.logins d (by_number w.wires) old.view (place + 1) word
+  At word = IsNextDown who old.logins d (by_number w.wires) old.view (position + 1) word
 
   abbrev item : (word : DownWord ItemOut) → At word → ItemOut
-  item word p = down_item who (old.logins (place + 1)) (place + 1) (is_behind_login p.conn.client) word
+  item word p = down_item who (old.logins (position + 1)) (position + 1) (is_after_login p.conn.client) word
 
   -- the open page isn't dropped
   abbrev IsKept : ItemOut → Type 0
-  IsKept z = (page : OpenPage) → d.client.log.page ≡ Some page → (turn_on z d).client.log ≡ without_page d.client.log → ⊥
+  IsKept z = (page : OpenPage) → d.client.log.page ≡ Some page → (client_step_on z d).client.log ≡ without_page d.client.log → ⊥
 
   -- ---- a stanza
 
   module _ (z : ItemOut) (p : At (Down (St z))) where
     nx : IsNextStanza old.view d z
-    nx = next_stanza who old.logins d (by_number w.wires) old.view (place + 1) z p
+    nx = next_stanza who old.logins d (by_number w.wires) old.view (position + 1) z p
 
     nr : IsNextRead o history z old.device.sessions
     nr = next_read old.view d z nx old.device.sessions old.sessions o history old.built
@@ -167,13 +167,13 @@ module _ (schedule : WireView) (b : Bounds) (small : AreSmall b) (says : ℕ) (w
       plain = world_plain (owned_of schedule) x ground.taken ground.named early ground.few o.account;
       few = ground.few;
       more = (let few = runs.asked i old.device old.there in let most = small.stanzas in omega (arith, few, most));
-      short = subst (λ m. IfSome m (λ s. length s.waiting.queue ≤ 1002)) nx.has (short_queue who old.logins d old.view old.in_time old.shows.client);
+      short = subst (λ m. IfSome m (λ s. length s.waiting.queue ≤ 1002)) nx.has (short_queue who old.logins d old.view old.in_time old.represents.client);
     }
 
     abbrev next : Reading
     next = (reaction schedule w x i o old z known).reading
 
-    read : IsReadAs o (keep_in schedule) history d nx.session z (reaction schedule w x i o old z known) (turn_on z d)
+    read : IsReadAs o (keep_in schedule) history d nx.session z (reaction schedule w x i o old z known) (client_step_on z d)
     unfolding nx known
     read = read_so schedule w x i o old z known
 
@@ -200,9 +200,9 @@ module _ (schedule : WireView) (b : Bounds) (small : AreSmall b) (says : ℕ) (w
     stanza_fair Closing same = tt
     stanza_fair (Whole e) same = λ named.
         let ended : (element_at d e phase.Online).client.phase ≡ phase.Apart =
-        ap (λ b. (cond b (ends (silent_turn d.client) (Stream (stream_condition e))) (element_row in_items (silent_turn d.client) phase.Online e)).client.phase) named in
+        ap (λ b. (cond b (ends (silent_client_step d.client) (Stream (stream_condition e))) (element_row in_items (silent_client_step d.client) phase.Online e)).client.phase) named in
         let both : phase.Online ≡ phase.Apart =
-        sym read.phase ∙ ap (λ y. (turn_on y d).client.phase) (sym same) ∙ ap (λ (t : Turn ItemOut ItemOut). t.client.phase) (on_element d e phase.Online nx.online) ∙ ended in
+        sym read.phase ∙ ap (λ y. (client_step_on y d).client.phase) (sym same) ∙ ap (λ (t : ClientStep ItemOut ItemOut). t.client.phase) (on_element d e phase.Online nx.online) ∙ ended in
         absurd (let no_way : ⊥ = cc in no_way)
 
   -- ---- each word
@@ -210,7 +210,7 @@ module _ (schedule : WireView) (b : Bounds) (small : AreSmall b) (says : ℕ) (w
   fair_word : (word : DownWord ItemOut) (p : At word) → IsFairItem (read_of (item word p))
   unfolding sasl
   fair_word Head p = tt
-  fair_word Feat p = features_fair (is_behind_login p.conn.client)
+  fair_word Feat p = features_fair (is_after_login p.conn.client)
   fair_word Chal p = λ named. absurd (false≢true named)
   fair_word Succ p = λ named. absurd (false≢true named)
   fair_word Failed p = λ named. absurd (false≢true named)
@@ -222,19 +222,19 @@ module _ (schedule : WireView) (b : Bounds) (small : AreSmall b) (says : ℕ) (w
   fair_word (Down (Ack h)) p = λ named. absurd (false≢true named)
   fair_word (ErrWord Conflict) p = λ named. inl refl
   fair_word (ErrWord Constraint) p = λ named. inr refl
-  fair_word (ErrWord TooHigh) p = absurd (never (expected who old.logins d (by_number w.wires) old.view (place + 1) (ErrWord TooHigh) p))
+  fair_word (ErrWord TooHigh) p = absurd (never (expected who old.logins d (by_number w.wires) old.view (position + 1) (ErrWord TooHigh) p))
   fair_word End p = tt
 
-  kept_word : (word : DownWord ItemOut) (p : At word) → IsStanzaAt d.client (read_of (item word p)) → IsKept (item word p) × (IsLeft (turn_on (item word p) d) → ⊥)
+  kept_word : (word : DownWord ItemOut) (p : At word) → IsStanzaAt d.client (read_of (item word p)) → IsKept (item word p) × (IsLeft (client_step_on (item word p) d) → ⊥)
   unfolding sasl
   kept_word Head p at = absurd at
-  kept_word Feat p at = absurd (no_stanza d.client (is_behind_login p.conn.client) at)
+  kept_word Feat p at = absurd (no_stanza d.client (is_after_login p.conn.client) at)
   kept_word Chal p at = absurd (false≢true at.1)
   kept_word Succ p at = absurd (false≢true at.1)
   kept_word Failed p at = absurd (false≢true at.1)
   kept_word (Resumed q h) p at = absurd (false≢true at.1)
   kept_word (Bound m) p at =
-      let binding = phase_here who old.logins d (by_number w.wires) old.view (place + 1) (Bound m) p InBind (expected who old.logins d (by_number w.wires) old.view (place + 1) (Bound m) p).1 in
+      let binding = phase_here who old.logins d (by_number w.wires) old.view (position + 1) (Bound m) p InBind (expected who old.logins d (by_number w.wires) old.view (position + 1) (Bound m) p).1 in
       let both : phase.Online ≡ phase.Binding = sym at.0 ∙ binding in
       absurd (let no_way : ⊥ = cc in no_way)
   kept_word (Enabled m) p at = absurd (false≢true at.1)
@@ -243,34 +243,34 @@ module _ (schedule : WireView) (b : Bounds) (small : AreSmall b) (says : ℕ) (w
   kept_word (Down (Ack h)) p at = absurd (false≢true at.1)
   kept_word (ErrWord Conflict) p at = absurd (false≢true at.1)
   kept_word (ErrWord Constraint) p at = absurd (false≢true at.1)
-  kept_word (ErrWord TooHigh) p at = absurd (never (expected who old.logins d (by_number w.wires) old.view (place + 1) (ErrWord TooHigh) p))
+  kept_word (ErrWord TooHigh) p at = absurd (never (expected who old.logins d (by_number w.wires) old.view (position + 1) (ErrWord TooHigh) p))
   kept_word End p at = absurd at
 
   -- no count is too high
   abbrev IsLow : ItemOut → Type 0
-  IsLow z = IsHighAt d.client (read_of z) → IsLeft (turn_on z d) → ⊥
+  IsLow z = IsHighAt d.client (read_of z) → IsLeft (client_step_on z d) → ⊥
 
   module _ (word : DownWord ItemOut) (p : At word) where
-    client_at : (client : Client) → p.conn.client ≡ client → d.client.phase ≡ client_phase who (old.logins (place + 1)) client
-    client_at client is = phase_here who old.logins d (by_number w.wires) old.view (place + 1) word p client is
+    client_at : (client : Client) → p.conn.client ≡ client → d.client.phase ≡ client_phase who (old.logins (position + 1)) client
+    client_at client is = phase_here who old.logins d (by_number w.wires) old.view (position + 1) word p client is
 
-    quiet_at : (client : Client) → p.conn.client ≡ client → CountsNone (client_phase who (old.logins (place + 1)) client) → IsLow (item word p)
-    quiet_at client is none = λ high gone. none_high d.client (client_phase who (old.logins (place + 1)) client) (client_at client is) none (read_of (item word p)) high
+    quiet_at : (client : Client) → p.conn.client ≡ client → CountsNone (client_phase who (old.logins (position + 1)) client) → IsLow (item word p)
+    quiet_at client is none = λ high gone. none_high d.client (client_phase who (old.logins (position + 1)) client) (client_at client is) none (read_of (item word p)) high
 
     comes : IsExpectedDown old.view p.conn.client word
-    comes = expected who old.logins d (by_number w.wires) old.view (place + 1) word p
+    comes = expected who old.logins d (by_number w.wires) old.view (position + 1) word p
 
     links : LinkKept old.view
-    links = kept_here who old.logins d (by_number w.wires) old.view (place + 1) word p
+    links = kept_here who old.logins d (by_number w.wires) old.view (position + 1) word p
 
     has_own : (o : Own ItemOut) → old.view.own ≡ Some o → (s : SessionView ItemOut) × (d.client.session ≡ Some s) × IsOwn o s
-    has_own o is = own_session who old.logins d old.view o old.shows.client is
+    has_own o is = own_session who old.logins d old.view o old.represents.client is
 
   resumed_low : (q h : ℕ) (p : At (Resumed q h)) → IsLow (item (Resumed q h) p)
   resumed_low q h p (s, k, has, count, plain, high) gone =
       let e = comes (Resumed q h) p in
       let own = has_own (Resumed q h) p e.0 e.1 in
-      let within = resumed_within old.view (place + 1) q h p.conn e.0 p.rest (links (Resumed q h) p) p.here p.is e.1 p.first in
+      let within = resumed_within old.view (position + 1) q h p.conn e.0 p.rest (links (Resumed q h) p) p.here p.is e.1 p.first in
       let known = subst (λ at. IsCountAt at (resumed_elem (record { previd = previd_of q; h = told_count h })) k) (client_at (Resumed q h) p (InResume q) e.3) count in
       let told = same_ok (previd_of q, told_count h) known.0 (resumption_read (codes "resumed") (resumed_elem (record { previd = previd_of q; h = told_count h }))) (resumed_written (record { previd = previd_of q; h = told_count h }) (mod-lt h (omega arith))) known.1 in
       not_above d.client own.0 (told_count h) own.1 (not_too_high e.0 own.0 h within own.2) s k has (sym known.2 ∙ ap (λ (x : List ℕ × ℕ). x.1) (sym told)) high
@@ -285,7 +285,7 @@ module _ (schedule : WireView) (b : Bounds) (small : AreSmall b) (says : ℕ) (w
   count_low h p (s, k, has, count, plain, high) gone =
       let e = comes (Down (Ack h)) p in
       let own = has_own (Down (Ack h)) p e.0 e.1 in
-      let within = down_count_within old.view (place + 1) h p.conn e.0 p.rest (links (Down (Ack h)) p) p.here p.is e.1 p.first in
+      let within = down_count_within old.view (position + 1) h p.conn e.0 p.rest (links (Down (Ack h)) p) p.here p.is e.1 p.first in
       let known = subst (λ at. IsCountAt at (ack_elem (record { h = told_count h })) k) (client_at (Down (Ack h)) p (InOnline e.0.number) e.2) count in
       let told = same_ok (record { h = told_count h }) known.0 (ack_read (ack_elem (record { h = told_count h }))) (ack_written (record { h = told_count h }) (mod-lt h (omega arith))) known.2 in
       not_above d.client own.0 (told_count h) own.1 (not_too_high e.0 own.0 h within own.2) s k has (sym known.3 ∙ ap (λ (x : AckWord). x.h) (sym told)) high
@@ -321,15 +321,15 @@ module _ (schedule : WireView) (b : Bounds) (small : AreSmall b) (says : ℕ) (w
 
   -- ---- the item
 
-  module _ (z : ItemOut) (n : IsNextItem place i w d wire z) where
-    h : HasNextDown who old.logins d (by_number w.wires) old.view (place + 1) wire z
-    h = next_down who old.logins w old.view old.shows (prompt_runs awaits old.view old.prompt) place d wire z n
+  module _ (z : ItemOut) (n : IsNextItem position i w d wire z) where
+    h : HasNextDown who old.logins d (by_number w.wires) old.view (position + 1) wire z
+    h = next_down who old.logins w old.view old.represents (prompt_runs awaits old.view old.prompt) position d wire z n
 
     fair : IsFairItem (read_of z)
     fair = subst (λ y. IsFairItem (read_of y)) h.is (fair_word h.word h.next)
 
     abbrev IsStaying : ItemOut → Type 0
-    IsStaying y = IsKept y × (IsLeft (turn_on y d) → ⊥)
+    IsStaying y = IsKept y × (IsLeft (client_step_on y d) → ⊥)
 
     stays : IsStanzaAt d.client (read_of z) → IsStaying z
     stays at = subst IsStaying h.is (kept_word h.word h.next (subst (λ y. IsStanzaAt d.client (read_of y)) (sym h.is) at))
@@ -337,19 +337,19 @@ module _ (schedule : WireView) (b : Bounds) (small : AreSmall b) (says : ℕ) (w
     low : IsLow z
     low = subst IsLow h.is (low_word h.word h.next)
 
-    pub item_fine : (t : Turn ItemOut ItemOut) → t.client ≡ d.client → IsFine t → IsFine (item_step in_items t (read_of z))
-    item_fine t same fine = by (step_out t (read_of z) fair fine)
+    pub item_bounded : (t : ClientStep ItemOut ItemOut) → t.client ≡ d.client → IsBounded t → IsBounded (item_step in_items t (read_of z))
+    item_bounded t same bounded = by (step_out t (read_of z) fair bounded)
       where
-        client_is : (item_step in_items t (read_of z)).client ≡ (turn_on z d).client
-        client_is = (step_adds (read_of z) t).client_is ∙ ap (λ c. (item_step in_items (silent_turn c) (read_of z)).client) same
+        client_is : (item_step in_items t (read_of z)).client ≡ (client_step_on z d).client
+        client_is = (step_adds (read_of z) t).client_is ∙ ap (λ c. (item_step in_items (silent_client_step c) (read_of z)).client) same
 
-        left_here : IsLeft (item_step in_items t (read_of z)) → IsLeft (turn_on z d)
+        left_here : IsLeft (item_step in_items t (read_of z)) → IsLeft (client_step_on z d)
         left_here gone = ap (λ (c : ClientView ItemOut). c.phase) (sym client_is) ∙ gone
 
         at_here : IsStanzaAt t.client (read_of z) → IsStanzaAt d.client (read_of z)
         at_here at = subst (λ c. IsStanzaAt c (read_of z)) same at
 
-        by : StepOut t (read_of z) (item_step in_items t (read_of z)) → IsFine (item_step in_items t (read_of z))
+        by : StepOut t (read_of z) (item_step in_items t (read_of z)) → IsBounded (item_step in_items t (read_of z))
         by (inl done) = done
         by (inr (inl (at, inl (page, there, dropped)))) =
             absurd ((stays (at_here at)).0 page (ap (λ (c : ClientView ItemOut). c.log.page) (sym same) ∙ there)

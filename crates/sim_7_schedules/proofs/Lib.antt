@@ -4,7 +4,7 @@ pub mod FirstServers
 pub mod FirstDevices
 pub mod FirstWorldsBeginning
 -- schedules run
-pub mod Places
+pub mod Positions
 pub mod Rounds
 pub mod Wires
 pub mod ByteMoves
@@ -50,7 +50,7 @@ pub mod ReadReports
 -- each schedule
 pub mod WholeRuns
 -- each world of a history stands beside the applications
-pub mod WorldsBeside
+pub mod WorldsSimulated
 -- what each session has of lists
 pub mod EpochLists
 -- laws
@@ -69,7 +69,7 @@ pub mod LateBytes
 pub mod SessionRuns
 pub mod Chains
 pub mod BoundSessions
-pub mod TakenBehind
+pub mod TakenAfter
 pub mod HandledBinds
 -- the sessions of a device along a history
 pub mod FurtherSessions

@@ -3,7 +3,7 @@ use Rattle.std.proofs.Common.{◌≡◌, ℕ, ◌+◌, ◌*◌, ◌≤◌, List,
 use Rattle.std.proofs.lemmas.List.Concat.{flat_map-append}
 use Rattle.std.specs.List.{flat_map}
 use Rattle.std.specs.Prelude.{IsTrue}
-use Rattle.sim_5_devices.proofs.AllDrifts.{reaches_both}
+use Rattle.sim_5_devices.proofs.AllSessionSteps.{reaches_both}
 use Rattle.sim_3_items.specs.ItemWorlds.{ItemWorld}
 use Rattle.sim_7_schedules.specs.Refusals.{AreLinesRefused, all_refusals}
 use Rattle.sim_7_schedules.proofs.LineCounts.{counted, may_say}
@@ -16,8 +16,8 @@ use Rattle.cmd_schedule.specs.declared.schedule.WireLine.{WireLine}
 use Rattle.sim_7_schedules.proofs.ByteMoves.{IsTimely}
 use Rattle.sim_7_schedules.proofs.LineUnits.{dials_of, units_of}
 use Rattle.sim_7_schedules.proofs.Rounds.{AtMost}
-use Rattle.sim_7_schedules.specs.Besides.{EachMoveRuns, GoLines, IsImage, bounds}
-use Rattle.sim_1_applications.specs.Devices.{World}
+use Rattle.sim_7_schedules.specs.Simulation.{EachMoveSimulates, IsEncoded, LinesSimulate, bounds}
+use Rattle.sim_1_applications.specs.Devices.{AppWorld}
 use Rattle.sim_1_applications.specs.Events.{Reaches}
 use Rattle.sim_1_applications.specs.Histories.{spoken_in}
 use Rattle.sim_1_applications.proofs.Moments.{reaches_is}
@@ -25,18 +25,18 @@ use Rattle.sim_1_applications.specs.Runs.{LineRun, events_in, moves_of}
 use Rattle.cmd_world.specs.Lines as lines
 use Rattle.cmd_world.specs.Lines.{stepped}
 use Rattle.cmd_world.specs.Worlds as worlds
-use Rattle.sim_5_moves.specs.Running.{WorldRuns}
+use Rattle.sim_5_moves.specs.Running.{WorldSimulates}
 
 -- ---- before a line
 
 -- The worlds before the line with this number, below what stands above it. Lines are numbered from 2, and at each one
 -- message at most is said; a device asked for no more pages than there are lines above and times in them.
-pub record IsBefore (schedule : WireView) (above : WireAbove) (number : ℕ) (W : worlds.World) (x : World) : Type 0 where
+pub record IsBefore (schedule : WireView) (above : WireAbove) (number : ℕ) (W : worlds.ByteWorld) (x : AppWorld) : Type 0 where
   pub says : ℕ
   pub pages : ℕ
   pub items : ItemWorld
-  pub image : IsImage W items
-  pub runs : WorldRuns schedule bounds says items x
+  pub encodes : IsEncoded W items
+  pub runs : WorldSimulates schedule bounds says items x
   pub most : AtMost pages x
   pub said : says + 2 ≤ number
   pub few : pages + 2 ≤ number + above.times
@@ -45,28 +45,28 @@ pub record IsBefore (schedule : WireView) (above : WireAbove) (number : ℕ) (W 
   pub many : length W.wires ≤ above.dials
   pub moment : W.moment ≤ number * 1000000000
 
-timely : (number : ℕ) (W : worlds.World) → W.moment ≤ number * 1000000000 → number ≤ 100000 → IsTimely W
+timely : (number : ℕ) (W : worlds.ByteWorld) → W.moment ≤ number * 1000000000 → number ≤ 100000 → IsTimely W
 timely number W low few = let far : W.moment ≤ 253402207200000 = omega (arith, low, few) in far
 
 -- ---- lines
 
 -- what was said at each of them
-abbrev pub AreSpoken : List WireLine → List LineRun → worlds.World → Type 0
+abbrev pub AreSpoken : List WireLine → List LineRun → worlds.ByteWorld → Type 0
 AreSpoken [] [] W = Unit {0}
 AreSpoken (line ∷ rest) (r ∷ rs) W = (r.line ≡ line) × (spoken_in (events_in r) ≡ said_by_step W line.step) × AreSpoken rest rs (stepped line W)
 AreSpoken _ _ W = ⊥
 
-pub record LinesGo (schedule : WireView) (rest : List WireLine) (W : worlds.World) (x : World) : Type 0 where
+pub record LinesGo (schedule : WireView) (rest : List WireLine) (W : worlds.ByteWorld) (x : AppWorld) : Type 0 where
   pub runs : List LineRun
-  pub last : World
-  pub go : GoLines schedule rest runs W x
+  pub last : AppWorld
+  pub go : LinesSimulate schedule rest runs W x
   pub reaches : Reaches (flat_map (λ move. move) (moves_of runs)) x last
   pub refused : AreLinesRefused rest runs W
   pub spoken : AreSpoken rest runs W
 
-module _ (schedule : WireView) (each : EachMoveRuns schedule) where
+module _ (schedule : WireView) (each : EachMoveSimulates schedule) where
   -- what is asked of a line holds, by the bounds
-  one_line : (above : WireAbove) (number : ℕ) (line : WireLine) (W : worlds.World) (x : World) → number ≤ 100000 → IsTrue (may_run above line.step) → IsTrue (are_few above line.step) → (before : IsBefore schedule above number W x) →
+  one_line : (above : WireAbove) (number : ℕ) (line : WireLine) (W : worlds.ByteWorld) (x : AppWorld) → number ≤ 100000 → IsTrue (may_run above line.step) → IsTrue (are_few above line.step) → (before : IsBefore schedule above number W x) →
       LineDoes schedule before.says before.pages (dials_of line.step) (units_of line.step) (said_by_step W line.step) (lines.moves_of line W) W x
   one_line above number line W x low may few before =
       let c = counted above before.dials before.times line.step few in
@@ -78,9 +78,9 @@ module _ (schedule : WireView) (each : EachMoveRuns schedule) where
       let same = c.dials in
       let dials = c.few_dials in
       line_does schedule each line.step line.number before.says before.pages W before.items x (may_say above line.step may) (omega (arith, said, low)) (omega (arith, pages, units, times, low)) (omega (arith, many, same, dials)) (timely number W before.moment low)
-      before.image before.runs before.most
+      before.encodes before.runs before.most
 
-  next_line : (above : WireAbove) (number : ℕ) (line : WireLine) (W : worlds.World) (x : World) → IsTrue (may_run above line.step) → IsTrue (are_few above line.step) → (before : IsBefore schedule above number W x) →
+  next_line : (above : WireAbove) (number : ℕ) (line : WireLine) (W : worlds.ByteWorld) (x : AppWorld) → IsTrue (may_run above line.step) → IsTrue (are_few above line.step) → (before : IsBefore schedule above number W x) →
       (d : LineDoes schedule before.says before.pages (dials_of line.step) (units_of line.step) (said_by_step W line.step) (lines.moves_of line W) W x) → IsBefore schedule (above_by line.step above) (number + 1) (stepped line W) d.goes.next
   next_line above number line W x may few before d =
       let c = counted above before.dials before.times line.step few in
@@ -88,18 +88,18 @@ module _ (schedule : WireView) (each : EachMoveRuns schedule) where
         says = d.after;
         pages = before.pages + units_of line.step;
         items = d.goes.items;
-        image = d.goes.image;
+        encodes = d.goes.encodes;
         runs = d.goes.runs;
         most = d.goes.post;
         said = (let more = d.few in let was = before.said in omega (arith, more, was));
         few = (let more = c.units in let was = before.few in omega (arith, more, was));
         times = c.few_times;
         dials = c.few_dials;
-        many = (let wide = d.goes.wide in let shown = d.goes.image.as_many in let was = before.many in let same = c.dials in omega (arith, wide, shown, was, same));
+        many = (let wide = d.goes.wide in let shown = d.goes.encodes.as_many in let was = before.many in let same = c.dials in omega (arith, wide, shown, was, same));
         moment = (let was = before.moment in let more = line_moment W.names (length W.wires) line.number W above line.step may in omega (arith, was, more));
       }
 
-  pub lines_go : (rest : List WireLine) (above : WireAbove) (number : ℕ) (W : worlds.World) (x : World) → AreWireLines above number rest → IsBefore schedule above number W x → LinesGo schedule rest W x
+  pub lines_go : (rest : List WireLine) (above : WireAbove) (number : ℕ) (W : worlds.ByteWorld) (x : AppWorld) → AreWireLines above number rest → IsBefore schedule above number W x → LinesGo schedule rest W x
   lines_go [] above number W x are before = record { runs = []; last = x; go = tt; reaches = refl; refused = tt; spoken = tt }
   lines_go (line ∷ rest) above number W x are before =
       let d = one_line above number line W x are.1 are.2 are.3 before in
@@ -107,7 +107,7 @@ module _ (schedule : WireView) (each : EachMoveRuns schedule) where
       record {
         runs = record { line = line; moves = d.goes.moves; refused = all_refusals (lines.moves_of line W) W } ∷ more.runs;
         last = more.last;
-        go = (refl, d.goes.beside, subst (GoLines schedule rest more.runs (stepped line W)) (reaches_is (flat_map (λ one. one) d.goes.moves) x d.goes.next d.goes.led) more.go);
+        go = (refl, d.goes.beside, subst (LinesSimulate schedule rest more.runs (stepped line W)) (reaches_is (flat_map (λ one. one) d.goes.moves) x d.goes.next d.goes.led) more.go);
         reaches = subst (λ es. Reaches es x more.last) (sym (flat_map-append (λ one. one) d.goes.moves (moves_of more.runs)))
             (reaches_both (flat_map (λ one. one) d.goes.moves) (flat_map (λ one. one) (moves_of more.runs)) x d.goes.next more.last d.goes.led more.reaches);
         refused = (refl, refl, more.refused);

@@ -15,8 +15,8 @@ use Rattle.cl_core.specs.declared.faults.SayFault.{SayFault}
 use Rattle.cl_core.specs.declared.faults.SayFault.TheVariants as say
 use Rattle.cl_handlers.specs.Clients.{ClientView}
 use Rattle.cmd_network.specs.Devices.{DeviceState}
-use Rattle.base_io.proofs.NamePlaces.{stands_nowhere, stands_there}
-use Rattle.base_io.specs.Names.{is_among, place_of}
+use Rattle.base_io.proofs.NamePositions.{stands_nowhere, stands_there}
+use Rattle.base_io.specs.Names.{is_among, position_of}
 use Rattle.sim_7_schedules.proofs.LinesRefused.{move_names}
 use Rattle.sim_7_schedules.proofs.MovesRefused.{noted_moved}
 use Rattle.sim_7_schedules.proofs.NamesApart.{first_names, names_by, names_of}
@@ -37,12 +37,12 @@ use Rattle.cmd_schedule.specs.declared.schedule.WireStep.{WireStep}
 use Rattle.cmd_schedule.specs.declared.schedule.WireStep.TheVariants as wire
 use Rattle.law_limits.proofs.NamesWithin.{text_within}
 use Rattle.sim_1_applications.specs.Runs.{IsRefused, LineRun, Refusal, owned_of}
-use Rattle.cmd_network.specs.Places.{place_under}
+use Rattle.cmd_network.specs.Positions.{position_under}
 use Rattle.cmd_world.specs.Histories.{common_steps, world_at_start}
 use Rattle.cmd_world.specs.Lines.{move_of, moves_of, step_moves, stepped}
 use Rattle.cmd_world.specs.Moves as moves
 use Rattle.cmd_world.specs.Moves.{Move, all_moved, moved}
-use Rattle.cmd_world.specs.Worlds.{World}
+use Rattle.cmd_world.specs.Worlds.{ByteWorld}
 
 -- ---- what a client answers
 
@@ -100,36 +100,36 @@ module _ (c : ClientView (List ℕ)) where
 
 -- ---- a device by its name
 
-found_under : {X : Type 0} (f : X → List ℕ) (xs : List X) (place : ℕ) (name : List ℕ) → slice_get (map f xs) place ≡ Some name → (x : X) × (slice_get xs place ≡ Some x) × (f x ≡ name)
-found_under f [] place name at = absurd (none-some name at)
+found_under : {X : Type 0} (f : X → List ℕ) (xs : List X) (position : ℕ) (name : List ℕ) → slice_get (map f xs) position ≡ Some name → (x : X) × (slice_get xs position ≡ Some x) × (f x ≡ name)
+found_under f [] position name at = absurd (none-some name at)
 found_under f (x ∷ xs) zero name at = (x, refl, same_Some (f x) name at)
-found_under f (x ∷ xs) (suc place) name at = found_under f xs place name at
+found_under f (x ∷ xs) (suc position) name at = found_under f xs position name at
 
 device_names : (ds : List DeviceState) → map (λ (d : DeviceState). d.name) ds ≡ names_of (map noted_of ds)
 device_names [] = refl
 device_names (d ∷ ds) = ap (λ ns. d.name ∷ ns) (device_names ds)
 
 -- a world whose names are those of the devices and of their owners
-record IsKnown (owned : List Owned) (w : World) : Type 0 where
+record IsKnown (owned : List Owned) (w : ByteWorld) : Type 0 where
   owners : map (λ (o : Owned). o.device) owned ≡ w.names
   devices : names_of (noted_in w) ≡ w.names
 
-pub record Found (owned : List Owned) (w : World) (name : List ℕ) : Type 0 where
-  pub place : ℕ
+pub record Found (owned : List Owned) (w : ByteWorld) (name : List ℕ) : Type 0 where
+  pub position : ℕ
   pub device : DeviceState
-  pub is : IsNamedAt owned w name place device
+  pub is : IsNamedAt owned w name position device
 
-found_by : (owned : List Owned) (w : World) (name : List ℕ) → IsKnown owned w → is_among name w.names ≡ true → (o : Option ℕ) → place_of name w.names ≡ o → Found owned w name
+found_by : (owned : List Owned) (w : ByteWorld) (name : List ℕ) → IsKnown owned w → is_among name w.names ≡ true → (o : Option ℕ) → position_of name w.names ≡ o → Found owned w name
 found_by owned w name known among None at = absurd (false≢true (sym (subst (λ o. IfNone o (is_among name w.names ≡ false)) at (stands_nowhere name w.names)) ∙ among))
-found_by owned w name known among (Some place) at =
-    let there : (place < length w.names) × (slice_get w.names place ≡ Some name) = subst (λ o. IfSome o (λ i. (i < length w.names) × (slice_get w.names i ≡ Some name))) at (stands_there name w.names) in
-    let o = found_under (λ (o : Owned). o.device) owned place name (ap (λ ns. slice_get ns place) known.owners ∙ there.1) in
-    let d = found_under (λ (d : DeviceState). d.name) w.devices place name (ap (λ ns. slice_get ns place) (device_names w.devices ∙ known.devices) ∙ there.1) in
-    record { place = place; device = d.0; is = record { named = at; owner = o; device = d.1; name_is = d.2 } }
+found_by owned w name known among (Some position) at =
+    let there : (position < length w.names) × (slice_get w.names position ≡ Some name) = subst (λ o. IfSome o (λ i. (i < length w.names) × (slice_get w.names i ≡ Some name))) at (stands_there name w.names) in
+    let o = found_under (λ (o : Owned). o.device) owned position name (ap (λ ns. slice_get ns position) known.owners ∙ there.1) in
+    let d = found_under (λ (d : DeviceState). d.name) w.devices position name (ap (λ ns. slice_get ns position) (device_names w.devices ∙ known.devices) ∙ there.1) in
+    record { position = position; device = d.0; is = record { named = at; owner = o; device = d.1; name_is = d.2 } }
 
 -- ---- a line of a user
 
-module _ (owned : List Owned) (w : World) (name : List ℕ) (number : ℕ) (refused : List Refusal) (f : Found owned w name) where
+module _ (owned : List Owned) (w : ByteWorld) (name : List ℕ) (number : ℕ) (refused : List Refusal) (f : Found owned w name) where
   abbrev noted : List RefusedWhy → Type 0
   noted whys = refused ≡ refusals_of f.device.name number whys ++ []
 
@@ -137,28 +137,28 @@ module _ (owned : List Owned) (w : World) (name : List ℕ) (number : ℕ) (refu
   refused_so reason is = (reason, is ∙ ap (λ (x : List ℕ). record { device = x; line = record { line = number; why = reason } } ∷ []) f.is.name_is)
 
   said_so : (text : List ℕ) (r : Result ℕ SayFault) → say_answer f.device.client.client text ≡ r → is_other r ≡ false → noted (said_why r) → IsSayAnswered owned w name text number refused
-  said_so text (Ok n) is well so = (f.place, f.device, f.is, inl (n, is, so))
-  said_so text (Err say.NotBound) is well so = (f.place, f.device, f.is, inr (say.NotBound, is, refused_so why.NotBound so))
-  said_so text (Err say.OutboxFull) is well so = (f.place, f.device, f.is, inr (say.OutboxFull, is, refused_so why.OutboxFull so))
+  said_so text (Ok n) is well so = (f.position, f.device, f.is, inl (n, is, so))
+  said_so text (Err say.NotBound) is well so = (f.position, f.device, f.is, inr (say.NotBound, is, refused_so why.NotBound so))
+  said_so text (Err say.OutboxFull) is well so = (f.position, f.device, f.is, inr (say.OutboxFull, is, refused_so why.OutboxFull so))
   said_so text (Err say.BadText) is well so = absurd (false≢true (sym well))
   said_so text (Err say.NoMemory) is well so = absurd (false≢true (sym well))
 
   asked_so : (r : Result (Unit {0}) CatchUpStart) → catch_up_answer f.device.client.client ≡ r → is_other_start r ≡ false → noted (asked_why r) → IsCatchUpAnswered owned w name number refused
-  asked_so (Ok done) is well so = (f.place, f.device, f.is, inl (is, so))
-  asked_so (Err start.NotBound) is well so = (f.place, f.device, f.is, inr (start.NotBound, is, refused_so why.NotBound so))
-  asked_so (Err start.OutboxFull) is well so = (f.place, f.device, f.is, inr (start.OutboxFull, is, refused_so why.OutboxFull so))
-  asked_so (Err start.Underway) is well so = (f.place, f.device, f.is, inr (start.Underway, is, refused_so why.Underway so))
+  asked_so (Ok done) is well so = (f.position, f.device, f.is, inl (is, so))
+  asked_so (Err start.NotBound) is well so = (f.position, f.device, f.is, inr (start.NotBound, is, refused_so why.NotBound so))
+  asked_so (Err start.OutboxFull) is well so = (f.position, f.device, f.is, inr (start.OutboxFull, is, refused_so why.OutboxFull so))
+  asked_so (Err start.Underway) is well so = (f.position, f.device, f.is, inr (start.Underway, is, refused_so why.Underway so))
   asked_so (Err start.NoMemory) is well so = absurd (false≢true (sym well))
 
-  say_line : (to text : List ℕ) (private : Bool) → is_text text ≡ true → refused ≡ all_refusals (move_of (λ place. moves.Say place number to text private) (place_of name w.names)) w → IsSayAnswered owned w name text number refused
+  say_line : (to text : List ℕ) (private : Bool) → is_text text ≡ true → refused ≡ all_refusals (move_of (λ position. moves.Say position number to text private) (position_of name w.names)) w → IsSayAnswered owned w name text number refused
   say_line to text private good is =
       said_so text (say_answer f.device.client.client text) refl (answered_well f.device.client.client text good)
-      (is ∙ ap (λ o. all_refusals (move_of (λ place. moves.Say place number to text private) o) w) f.is.named ∙ ap (λ o. refusals_at number o (say_whys text o) ++ []) f.is.device)
+      (is ∙ ap (λ o. all_refusals (move_of (λ position. moves.Say position number to text private) o) w) f.is.named ∙ ap (λ o. refusals_at number o (say_whys text o) ++ []) f.is.device)
 
-  catch_up_line : (most : ℕ) → refused ≡ all_refusals (move_of (λ place. moves.CatchUp place number most) (place_of name w.names)) w → IsCatchUpAnswered owned w name number refused
+  catch_up_line : (most : ℕ) → refused ≡ all_refusals (move_of (λ position. moves.CatchUp position number most) (position_of name w.names)) w → IsCatchUpAnswered owned w name number refused
   catch_up_line most is =
       asked_so (catch_up_answer f.device.client.client) refl (asked_in f.device.client.client f.device.client.client.session)
-      (is ∙ ap (λ o. all_refusals (move_of (λ place. moves.CatchUp place number most) o) w) f.is.named ∙ ap (λ o. refusals_at number o (catch_up_whys o) ++ []) f.is.device)
+      (is ∙ ap (λ o. all_refusals (move_of (λ position. moves.CatchUp position number most) o) w) f.is.named ∙ ap (λ o. refusals_at number o (catch_up_whys o) ++ []) f.is.device)
 
 -- ---- a line
 
@@ -167,9 +167,9 @@ among_all : (name : List ℕ) (above more names : List (List ℕ)) → above ++ 
 among_all name above more names same is =
     subst (λ ns. is_among name ns ≡ true) same (list_any-append (λ other. bytes_eq name other) above more ∙ or_left (is_among name above) (is_among name more) is)
 
-module _ (owned : List Owned) (w : World) (above : WireAbove) (more : List (List ℕ)) (known : IsKnown owned w) (same : above.names.devices ++ more ≡ w.names) (number : ℕ) (refused : List Refusal) where
+module _ (owned : List Owned) (w : ByteWorld) (above : WireAbove) (more : List (List ℕ)) (known : IsKnown owned w) (same : above.names.devices ++ more ≡ w.names) (number : ℕ) (refused : List Refusal) where
   found_above : (name : List ℕ) → is_among name above.names.devices ≡ true → Found owned w name
-  found_above name is = found_by owned w name known (among_all name above.names.devices more w.names same is) (place_of name w.names) refl
+  found_above name is = found_by owned w name known (among_all name above.names.devices more w.names same is) (position_of name w.names) refl
 
   one_line : (s : WireStep) → IsTrue (may_run above s) → refused ≡ all_refusals (step_moves w.names (length w.wires) number s) w → IsAnswered owned w s number refused
   one_line (wire.Common (step.Account name)) may is = is
@@ -184,26 +184,26 @@ module _ (owned : List Owned) (w : World) (above : WireAbove) (more : List (List
       let p = and_parts (is_among name above.names.devices && nat_le 1 most) (nat_le most 100) may in
       catch_up_line owned w name number refused (found_above name (and_parts (is_among name above.names.devices) (nat_le 1 most) p.0).0) most is
   one_line (wire.Common (step.Tick ms)) may is = is
-  one_line (wire.Dial device) may is = is ∙ one_refuses_nothing moves.Dial (place_of device w.names) w (λ place v. refl)
-  one_line (wire.Forget device) may is = is ∙ one_refuses_nothing moves.Forget (place_of device w.names) w (λ place v. refl)
-  one_line (wire.Close device) may is = is ∙ one_refuses_nothing moves.Close (place_of device w.names) w (λ place v. refl)
-  one_line (wire.Up k count) may is = is ∙ one_refuses_nothing (λ place. moves.Up place count) (place_under k) w (λ place v. refl)
-  one_line (wire.Down k count) may is = is ∙ one_refuses_nothing (λ place. moves.Down place count) (place_under k) w (λ place v. refl)
-  one_line (wire.Cut k up down) may is = is ∙ one_refuses_nothing (λ place. moves.Cut place up down) (place_under k) w (λ place v. refl)
-  one_line (wire.Pass k times) may is = is ∙ passes_refuse_nothing times (place_under k) w
+  one_line (wire.Dial device) may is = is ∙ one_refuses_nothing moves.Dial (position_of device w.names) w (λ position v. refl)
+  one_line (wire.Forget device) may is = is ∙ one_refuses_nothing moves.Forget (position_of device w.names) w (λ position v. refl)
+  one_line (wire.Close device) may is = is ∙ one_refuses_nothing moves.Close (position_of device w.names) w (λ position v. refl)
+  one_line (wire.Up k count) may is = is ∙ one_refuses_nothing (λ position. moves.Up position count) (position_under k) w (λ position v. refl)
+  one_line (wire.Down k count) may is = is ∙ one_refuses_nothing (λ position. moves.Down position count) (position_under k) w (λ position v. refl)
+  one_line (wire.Cut k up down) may is = is ∙ one_refuses_nothing (λ position. moves.Cut position up down) (position_under k) w (λ position v. refl)
+  one_line (wire.Pass k times) may is = is ∙ passes_refuse_nothing times (position_under k) w
   one_line (wire.Run times) may is = is ∙ runs_refuse_nothing times (length w.wires) w
 
 -- ---- lines
 
-one_known : (owned : List Owned) (m : Move) (w : World) → names_of (noted_in (moved m w)) ≡ names_of (noted_in w)
+one_known : (owned : List Owned) (m : Move) (w : ByteWorld) → names_of (noted_in (moved m w)) ≡ names_of (noted_in w)
 one_known owned m w = ap names_of (noted_moved m w) ∙ sym (move_names m w)
 
-devices_stay : (owned : List Owned) (ms : List Move) (w : World) → names_of (noted_in (all_moved ms w)) ≡ names_of (noted_in w)
+devices_stay : (owned : List Owned) (ms : List Move) (w : ByteWorld) → names_of (noted_in (all_moved ms w)) ≡ names_of (noted_in w)
 devices_stay owned [] w = refl
 devices_stay owned (m ∷ ms) w = devices_stay owned ms (moved m w) ∙ one_known owned m w
 
-known_behind : (owned : List Owned) (ms : List Move) (w : World) → IsKnown owned w → IsKnown owned (all_moved ms w)
-known_behind owned ms w known = record {
+known_after : (owned : List Owned) (ms : List Move) (w : ByteWorld) → IsKnown owned w → IsKnown owned (all_moved ms w)
+known_after owned ms w known = record {
   owners = known.owners ∙ sym (names_stay ms w);
   devices = devices_stay owned ms w ∙ known.devices ∙ sym (names_stay ms w);
 }
@@ -228,14 +228,14 @@ declared_on above number (wire.Run times) rest = refl
 abbrev lines_in : List WireLine → List Line
 lines_in lines = flat_map (λ (line : WireLine). common_at line.number line.step) lines
 
-all_answered : (owned : List Owned) (above : WireAbove) (n : ℕ) (lines : List WireLine) (runs : List LineRun) (w : World) → AreWireLines above n lines → IsKnown owned w → above.names.devices ++ names_by (steps_of (lines_in lines)) ≡ w.names
+all_answered : (owned : List Owned) (above : WireAbove) (n : ℕ) (lines : List WireLine) (runs : List LineRun) (w : ByteWorld) → AreWireLines above n lines → IsKnown owned w → above.names.devices ++ names_by (steps_of (lines_in lines)) ≡ w.names
     → AreLinesRefused lines runs w → AreAnswered owned lines runs w
 all_answered owned above n [] [] w are known same refused = tt
 all_answered owned above n [] (r ∷ runs) w are known same refused = absurd refused
 all_answered owned above n (line ∷ lines) [] w are known same refused = absurd refused
 all_answered owned above n (line ∷ lines) (r ∷ runs) w are known same refused = (
   one_line owned w above (names_by (steps_of (lines_in (line ∷ lines)))) known same line.number r.refused line.step are.2 refused.1,
-  all_answered owned (above_by line.step above) (n + 1) lines runs (stepped line w) are.4 (known_behind owned (moves_of line w) w known)
+  all_answered owned (above_by line.step above) (n + 1) lines runs (stepped line w) are.4 (known_after owned (moves_of line w) w known)
       (declared_on above line.number line.step (lines_in lines) ∙ same ∙ sym (names_stay (moves_of line w) w)) refused.2,
 )
 

@@ -12,7 +12,7 @@ use Rattle.base_lemmas.proofs.Bytes.{bytes_eq-self}
 use Rattle.cmd_network.specs.Devices.{DeviceState}
 use Rattle.sim_7_schedules.proofs.MovesRefused.{none_more, noted_moved}
 use Rattle.sim_7_schedules.proofs.NamesApart.{AreApart, IsApart, apart_at_start, names_of}
-use Rattle.sim_7_schedules.specs.Refusals.{AreLinesRefused, Noted, all_refusals, catch_up_whys, lines_at, more_at, move_refusals, noted_behind, noted_in, noted_of, refusals_at, refusals_of, say_whys, with_more}
+use Rattle.sim_7_schedules.specs.Refusals.{AreLinesRefused, Noted, all_refusals, catch_up_whys, lines_at, more_at, move_refusals, noted_after, noted_in, noted_of, refusals_at, refusals_of, say_whys, with_more}
 use Rattle.cmd_report.specs.Reports.{DeviceView}
 use Rattle.cmd_report.specs.declared.report.RefusedLine.{RefusedLine}
 use Rattle.cmd_report.specs.declared.report.RefusedWhy.{RefusedWhy}
@@ -26,7 +26,7 @@ use Rattle.cmd_world.specs.Lines.{all_stepped, moves_of, stepped}
 use Rattle.cmd_world.specs.Moves as moves
 use Rattle.cmd_world.specs.Moves.{Move, all_moved, moved}
 use Rattle.cmd_world.specs.WorldReports.{device_line_of, report_of}
-use Rattle.cmd_world.specs.Worlds.{World}
+use Rattle.cmd_world.specs.Worlds.{ByteWorld}
 
 -- ---- the lines under a name
 
@@ -75,10 +75,10 @@ module _ (name : List ℕ) (number : ℕ) (whys : List RefusedWhy) (rs : List Re
   all_still first (n ∷ ns) same apart all =
       (one_still n (subst (λ x. bytes_eq n.name x ≡ false) same apart.0.1) all.0, all_still first ns same apart.1 all.1)
 
-  apart_there : (first : List ℕ) (names : List (List ℕ)) (place : ℕ) → IsApart first names → slice_get names place ≡ Some name → bytes_eq first name ≡ false
-  apart_there first [] place apart at = absurd (none-some name at)
+  apart_there : (first : List ℕ) (names : List (List ℕ)) (position : ℕ) → IsApart first names → slice_get names position ≡ Some name → bytes_eq first name ≡ false
+  apart_there first [] position apart at = absurd (none-some name at)
   apart_there first (n ∷ names) zero apart at = subst (λ x. bytes_eq first x ≡ false) (same_Some n name at) apart.0.0
-  apart_there first (n ∷ names) (suc place) apart at = apart_there first names place apart.1 at
+  apart_there first (n ∷ names) (suc position) apart at = apart_there first names position apart.1 at
 
   one_adds : (n : Noted) → n.name ≡ name → Holds rs n → Holds (rs ++ refusals_of name number whys) (with_more (lines_at number whys) n)
   one_adds n same is =
@@ -86,11 +86,11 @@ module _ (name : List ℕ) (number : ℕ) (whys : List RefusedWhy) (rs : List Re
       ∙ ap (λ l. lines_by n.name rs ++ l) (sym (own_lines n.name number whys) ∙ ap (λ x. lines_by n.name (refusals_of x number whys)) same)
       ∙ sym (lines_of_both n.name rs (refusals_of name number whys))
 
-  lines_added : (ns : List Noted) (place : ℕ) → AreApart (names_of ns) → slice_get (names_of ns) place ≡ Some name → AllByRecursion (Holds rs) ns
-      → AllByRecursion (Holds (rs ++ refusals_of name number whys)) (more_at place (lines_at number whys) ns)
-  lines_added [] place apart at all = tt
+  lines_added : (ns : List Noted) (position : ℕ) → AreApart (names_of ns) → slice_get (names_of ns) position ≡ Some name → AllByRecursion (Holds rs) ns
+      → AllByRecursion (Holds (rs ++ refusals_of name number whys)) (more_at position (lines_at number whys) ns)
+  lines_added [] position apart at all = tt
   lines_added (n ∷ ns) zero apart at all = (let same = same_Some n.name name at in (one_adds n same all.0, all_still n.name ns same apart.0 all.1))
-  lines_added (n ∷ ns) (suc place) apart at all = (one_still n (apart_there n.name (names_of ns) place apart.0 at) all.0, lines_added ns place apart.1 at all.1)
+  lines_added (n ∷ ns) (suc position) apart at all = (one_still n (apart_there n.name (names_of ns) position apart.0 at) all.0, lines_added ns position apart.1 at all.1)
 
 -- nothing is added
 still_held : (rs : List Refusal) (ns : List Noted) → AllByRecursion (Holds rs) ns → AllByRecursion (Holds (rs ++ [])) ns
@@ -98,68 +98,68 @@ still_held rs ns all = subst (λ x. AllByRecursion (Holds x) ns) (sym (append-ni
 
 -- ---- a move
 
-named_there : (devices : List DeviceState) (place : ℕ) (d : DeviceState) → slice_get devices place ≡ Some d → slice_get (names_of (map noted_of devices)) place ≡ Some d.name
-named_there devices place d at =
-    slice_get-map (λ (n : Noted). n.name) (map noted_of devices) place
-    ∙ ap (option_map (λ (n : Noted). n.name)) (slice_get-map noted_of devices place ∙ ap (option_map noted_of) at)
+named_there : (devices : List DeviceState) (position : ℕ) (d : DeviceState) → slice_get devices position ≡ Some d → slice_get (names_of (map noted_of devices)) position ≡ Some d.name
+named_there devices position d at =
+    slice_get-map (λ (n : Noted). n.name) (map noted_of devices) position
+    ∙ ap (option_map (λ (n : Noted). n.name)) (slice_get-map noted_of devices position ∙ ap (option_map noted_of) at)
 
 -- the device there, where there is one, refuses for what it says
-by_device : (number place : ℕ) (whys : Option DeviceState → List RefusedWhy) → whys None ≡ [] → (o : Option DeviceState) (devices : List DeviceState) (rs : List Refusal) → slice_get devices place ≡ o
+by_device : (number position : ℕ) (whys : Option DeviceState → List RefusedWhy) → whys None ≡ [] → (o : Option DeviceState) (devices : List DeviceState) (rs : List Refusal) → slice_get devices position ≡ o
     → AreApart (names_of (map noted_of devices)) → AllByRecursion (Holds rs) (map noted_of devices)
-    → AllByRecursion (Holds (rs ++ refusals_at number o (whys o))) (more_at place (lines_at number (whys o)) (map noted_of devices))
-by_device number place whys none None devices rs at apart all =
-    subst (λ ws. AllByRecursion (Holds (rs ++ [])) (more_at place (lines_at number ws) (map noted_of devices))) (sym none)
-    (subst (λ ns. AllByRecursion (Holds (rs ++ [])) ns) (none_more place devices at) (still_held rs (map noted_of devices) all))
-by_device number place whys none (Some d) devices rs at apart all =
-    lines_added d.name number (whys (Some d)) rs (map noted_of devices) place apart (named_there devices place d at) all
+    → AllByRecursion (Holds (rs ++ refusals_at number o (whys o))) (more_at position (lines_at number (whys o)) (map noted_of devices))
+by_device number position whys none None devices rs at apart all =
+    subst (λ ws. AllByRecursion (Holds (rs ++ [])) (more_at position (lines_at number ws) (map noted_of devices))) (sym none)
+    (subst (λ ns. AllByRecursion (Holds (rs ++ [])) ns) (none_more position devices at) (still_held rs (map noted_of devices) all))
+by_device number position whys none (Some d) devices rs at apart all =
+    lines_added d.name number (whys (Some d)) rs (map noted_of devices) position apart (named_there devices position d at) all
 
-move_holds : (m : Move) (w : World) (rs : List Refusal) → AreApart (names_of (noted_in w)) → AllByRecursion (Holds rs) (noted_in w) → AllByRecursion (Holds (rs ++ move_refusals m w)) (noted_behind m w)
-move_holds (moves.Dial place) w rs apart all = still_held rs (noted_in w) all
-move_holds (moves.Forget place) w rs apart all = still_held rs (noted_in w) all
-move_holds (moves.Close place) w rs apart all = still_held rs (noted_in w) all
-move_holds (moves.Say place number to text private) w rs apart all = by_device number place (say_whys text) refl (slice_get w.devices place) w.devices rs refl apart all
-move_holds (moves.CatchUp place number most) w rs apart all = by_device number place catch_up_whys refl (slice_get w.devices place) w.devices rs refl apart all
+move_holds : (m : Move) (w : ByteWorld) (rs : List Refusal) → AreApart (names_of (noted_in w)) → AllByRecursion (Holds rs) (noted_in w) → AllByRecursion (Holds (rs ++ move_refusals m w)) (noted_after m w)
+move_holds (moves.Dial position) w rs apart all = still_held rs (noted_in w) all
+move_holds (moves.Forget position) w rs apart all = still_held rs (noted_in w) all
+move_holds (moves.Close position) w rs apart all = still_held rs (noted_in w) all
+move_holds (moves.Say position number to text private) w rs apart all = by_device number position (say_whys text) refl (slice_get w.devices position) w.devices rs refl apart all
+move_holds (moves.CatchUp position number most) w rs apart all = by_device number position catch_up_whys refl (slice_get w.devices position) w.devices rs refl apart all
 move_holds (moves.Tick milliseconds) w rs apart all = still_held rs (noted_in w) all
-move_holds (moves.Up place count) w rs apart all = still_held rs (noted_in w) all
-move_holds (moves.Down place count) w rs apart all = still_held rs (noted_in w) all
-move_holds (moves.Cut place up down) w rs apart all = still_held rs (noted_in w) all
+move_holds (moves.Up position count) w rs apart all = still_held rs (noted_in w) all
+move_holds (moves.Down position count) w rs apart all = still_held rs (noted_in w) all
+move_holds (moves.Cut position up down) w rs apart all = still_held rs (noted_in w) all
 
-same_names : (place : ℕ) (lines : List RefusedLine) (ns : List Noted) → names_of ns ≡ names_of (more_at place lines ns)
-same_names place lines [] = refl
+same_names : (position : ℕ) (lines : List RefusedLine) (ns : List Noted) → names_of ns ≡ names_of (more_at position lines ns)
+same_names position lines [] = refl
 same_names zero lines (n ∷ ns) = refl
-same_names (suc place) lines (n ∷ ns) = ap (λ names. n.name ∷ names) (same_names place lines ns)
+same_names (suc position) lines (n ∷ ns) = ap (λ names. n.name ∷ names) (same_names position lines ns)
 
-pub move_names : (m : Move) (w : World) → names_of (noted_in w) ≡ names_of (noted_behind m w)
-move_names (moves.Dial place) w = refl
-move_names (moves.Forget place) w = refl
-move_names (moves.Close place) w = refl
-move_names (moves.Say place number to text private) w = same_names place (lines_at number (say_whys text (slice_get w.devices place))) (noted_in w)
-move_names (moves.CatchUp place number most) w = same_names place (lines_at number (catch_up_whys (slice_get w.devices place))) (noted_in w)
+pub move_names : (m : Move) (w : ByteWorld) → names_of (noted_in w) ≡ names_of (noted_after m w)
+move_names (moves.Dial position) w = refl
+move_names (moves.Forget position) w = refl
+move_names (moves.Close position) w = refl
+move_names (moves.Say position number to text private) w = same_names position (lines_at number (say_whys text (slice_get w.devices position))) (noted_in w)
+move_names (moves.CatchUp position number most) w = same_names position (lines_at number (catch_up_whys (slice_get w.devices position))) (noted_in w)
 move_names (moves.Tick milliseconds) w = refl
-move_names (moves.Up place count) w = refl
-move_names (moves.Down place count) w = refl
-move_names (moves.Cut place up down) w = refl
+move_names (moves.Up position count) w = refl
+move_names (moves.Down position count) w = refl
+move_names (moves.Cut position up down) w = refl
 
 -- ---- moves and lines
 
 -- what the devices of a world have refused, under their names, which are apart
-record Stands (rs : List Refusal) (w : World) : Type 0 where
+record Stands (rs : List Refusal) (w : ByteWorld) : Type 0 where
   apart : AreApart (names_of (noted_in w))
   holds : AllByRecursion (Holds rs) (noted_in w)
 
-one_move : (m : Move) (w : World) (rs : List Refusal) → Stands rs w → Stands (rs ++ move_refusals m w) (moved m w)
+one_move : (m : Move) (w : ByteWorld) (rs : List Refusal) → Stands rs w → Stands (rs ++ move_refusals m w) (moved m w)
 one_move m w rs stands = record {
   apart = subst (λ ns. AreApart (names_of ns)) (sym (noted_moved m w)) (subst AreApart (move_names m w) stands.apart);
   holds = subst (λ ns. AllByRecursion (Holds (rs ++ move_refusals m w)) ns) (sym (noted_moved m w)) (move_holds m w rs stands.apart stands.holds);
 }
 
-all_moves : (ms : List Move) (w : World) (rs : List Refusal) → Stands rs w → Stands (rs ++ all_refusals ms w) (all_moved ms w)
+all_moves : (ms : List Move) (w : ByteWorld) (rs : List Refusal) → Stands rs w → Stands (rs ++ all_refusals ms w) (all_moved ms w)
 all_moves [] w rs stands = subst (λ x. Stands x w) (sym (append-nil rs)) stands
 all_moves (m ∷ ms) w rs stands =
     subst (λ x. Stands x (all_moved ms (moved m w))) (append_assoc rs (move_refusals m w) (all_refusals ms (moved m w)))
     (all_moves ms (moved m w) (rs ++ move_refusals m w) (one_move m w rs stands))
 
-all_lines : (lines : List WireLine) (runs : List LineRun) (w : World) (rs : List Refusal) → AreLinesRefused lines runs w → Stands rs w → Stands (rs ++ flat_map (λ (r : LineRun). r.refused) runs) (all_stepped lines w)
+all_lines : (lines : List WireLine) (runs : List LineRun) (w : ByteWorld) (rs : List Refusal) → AreLinesRefused lines runs w → Stands rs w → Stands (rs ++ flat_map (λ (r : LineRun). r.refused) runs) (all_stepped lines w)
 all_lines [] [] w rs are stands = subst (λ x. Stands x w) (sym (append-nil rs)) stands
 all_lines [] (r ∷ runs) w rs are stands = absurd are
 all_lines (line ∷ lines) [] w rs are stands = absurd are
@@ -174,7 +174,7 @@ first_holds : (os : List Owned) → AllByRecursion (Holds []) (map noted_of (map
 first_holds [] = tt
 first_holds (o ∷ os) = (refl, first_holds os)
 
-shown : (rs : List Refusal) (w : World) (devices : List DeviceState) → AllByRecursion (Holds rs) (map noted_of devices) → AllByRecursion (λ (d : DeviceView). d.refused ≡ lines_by d.name rs) (map (device_line_of w) devices)
+shown : (rs : List Refusal) (w : ByteWorld) (devices : List DeviceState) → AllByRecursion (Holds rs) (map noted_of devices) → AllByRecursion (λ (d : DeviceView). d.refused ≡ lines_by d.name rs) (map (device_line_of w) devices)
 shown rs w [] all = tt
 shown rs w (d ∷ devices) all = (all.0, shown rs w devices all.1)
 

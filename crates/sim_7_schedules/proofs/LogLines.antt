@@ -10,14 +10,14 @@ use Rattle.mam_log.specs.LogPages as pages
 use Rattle.mam_log.specs.LogPages.{LogPage, tile_of}
 use Rattle.mam_log.specs.Views.{LogView}
 use Rattle.sim_5_devices.proofs.Entries.{at_both, length_at, logged_at}
-use Rattle.sim_5_devices.specs.Shown.{AreGiven, ArePageGiven, IsReadingGiven, LogShows, id_logged, page_shown, tile_shown}
+use Rattle.sim_5_devices.specs.Shown.{AreGiven, ArePageGiven, IsReadingGiven, LogRepresents, id_logged, page_shown, tile_shown}
 use Rattle.cmd_report.proofs.LoggedLines.{logged_by-pages}
 use Rattle.cmd_report.specs.Lines.{logged_by, logged_from, page_line, tile_line}
 use Rattle.cmd_report.specs.declared.report.HeldLine.{HeldLine}
 use Rattle.cmd_schedule.proofs.Lists.{map-map}
-use Rattle.sim_1_applications.proofs.Intervals.{length_behind}
+use Rattle.sim_1_applications.proofs.Intervals.{length_after}
 use Rattle.sim_1_applications.proofs.Lists.{all_front, all_rest}
-use Rattle.sim_1_applications.specs.Answers.{behind}
+use Rattle.sim_1_applications.specs.Answers.{following}
 use Rattle.sim_1_applications.specs.Devices.{OpenPage, Reading, Tile, log_of}
 use Rattle.sim_1_applications.specs.Kept.{AreTiles, TilesKept, end_of, numbers_by, start_of}
 use Rattle.sim_1_applications.specs.Reported as reported
@@ -33,9 +33,9 @@ AreCut (t ∷ ts) numbers = (front rest : List ℕ) × (numbers ≡ front ++ res
 cut_by : (keep n low high : ℕ) (ts : List Tile) → AreTiles keep n low high ts → AreCut ts (numbers_by keep n ts)
 cut_by keep n low high [] are = refl
 cut_by keep n low high (t ∷ ts) are =
-    let front = behind (start_of keep n t) (end_of keep n t - start_of keep n t) in
+    let front = following (start_of keep n t) (end_of keep n t - start_of keep n t) in
     let rest = numbers_by keep (end_of keep n t) ts in
-    (front, rest, refl, length_behind (start_of keep n t) (end_of keep n t - start_of keep n t) ∙ sym are.0.count, cut_by keep (end_of keep n t) t.last high ts are.1)
+    (front, rest, refl, length_after (start_of keep n t) (end_of keep n t - start_of keep n t) ∙ sym are.0.count, cut_by keep (end_of keep n t) t.last high ts are.1)
 
 -- ---- and so they cut the entries
 
@@ -74,15 +74,15 @@ pub record AreLogLines (keep : ℕ) (history : List EntryView) (log : LogView) (
 abbrev line_with : List ℕ → HeldLine
 line_with id = record { id = id }
 
-pub log_lines : (keep last : ℕ) (history : List EntryView) (log : LogView) (b : Reading) → LogShows keep history log b → IsReadingGiven history b → TilesKept keep last b → AreLogLines keep history log b
-log_lines keep last history log b shows given kept =
+pub log_lines : (keep last : ℕ) (history : List EntryView) (log : LogView) (b : Reading) → LogRepresents keep history log b → IsReadingGiven history b → TilesKept keep last b → AreLogLines keep history log b
+log_lines keep last history log b represents given kept =
     let cut : AreCut b.tiles (log_of b) = subst (AreCut b.tiles) (sym kept.numbers) (cut_by keep 0 0 last b.tiles kept.tiles) in
     let told = told_by keep history b.tiles (log_of b) cut given.logged in
-    let tiles : log.tiles ≡ map tile_of (pages_of keep history b) = shows.tiles ∙ sym told.tiles in
-    let entries : log.entries ≡ pages.log_of (pages_of keep history b) = shows.entries ∙ sym told.log in
+    let tiles : log.tiles ≡ map tile_of (pages_of keep history b) = represents.tiles ∙ sym told.tiles in
+    let entries : log.entries ≡ pages.log_of (pages_of keep history b) = represents.entries ∙ sym told.log in
     record {
       pages = ap (map tile_line) tiles ∙ map-map tile_of tile_line (pages_of keep history b);
-      underway = ap underway_lines shows.page ∙ underway_told history b.page given.page;
+      underway = ap underway_lines represents.page ∙ underway_told history b.page given.page;
       logged = ap₂ (logged_by 0) tiles entries ∙ logged_by-pages 0 (pages_of keep history b);
-      held = sym (map-map id_logged line_with log.held) ∙ ap (map line_with) shows.held ∙ map-map id_of line_with b.held;
+      held = sym (map-map id_logged line_with log.held) ∙ ap (map line_with) represents.held ∙ map-map id_of line_with b.held;
     }

@@ -15,9 +15,9 @@ use Rattle.cmd_schedule.specs.Contents.{accounts_of}
 use Rattle.cmd_schedule.specs.Schedules.{WireView, keep_of}
 use Rattle.cmd_schedule.specs.WireGrammar.{AreWireLines, IsWireSchedule, WireAbove, above_by, nothing_above}
 use Rattle.cmd_schedule.specs.declared.schedule.WireLine.{WireLine}
-use Rattle.sim_7_schedules.specs.Besides.{ScheduleRuns}
-use Rattle.sim_1_applications.proofs.Intervals.{length_behind}
-use Rattle.sim_1_applications.specs.Answers.{answer_of, behind, edge, is_place, last_in, page_from, size}
+use Rattle.sim_7_schedules.specs.Simulation.{ScheduleSimulates}
+use Rattle.sim_1_applications.proofs.Intervals.{length_after}
+use Rattle.sim_1_applications.specs.Answers.{edge, following, is_position, last_in, page_answer_of, page_from, size}
 use Rattle.sim_1_applications.specs.Devices as sessions
 use Rattle.sim_1_applications.specs.Devices.{Answer, Device, OpenPage, epoch_of}
 use Rattle.sim_1_applications.specs.Kept.{IsAt, IsPage, PageKept, request_of}
@@ -34,22 +34,22 @@ use Rattle.sim_7_schedules.proofs.CountedBytes.{AreCounted, counted_behind}
 use Rattle.cmd_world.specs.Histories.{history_of, world_at_start, world_of}
 use Rattle.cmd_world.specs.Lines.{all_stepped, stepped}
 use Rattle.cmd_world.specs.WorldReports.{report_of}
-use Rattle.cmd_world.specs.Worlds.{World}
+use Rattle.cmd_world.specs.Worlds.{ByteWorld}
 use Rattle.sim_3_images.proofs.BookedMoves.{last_world}
 
 -- ---- pages under way
 
 from_few : (low first last : ℕ) (r : Request) → length (page_from low first last r) ≤ r.max + 1
 from_few low first last r =
-    let all = behind low (size low last r.max) in
+    let all = following low (size low last r.max) in
     let whole = length-append (map (Res r.number) all) (Fin r.number (leb (last - low) r.max) (last_in all) (last + 1 - first) ∷ []) in
     let mapped = length-map all (Res r.number) in
-    let long = length_behind low (size low last r.max) in
+    let long = length_after low (size low last r.max) in
     let few = min-le_left r.max (last - low) in
     omega arith
 
-answer_few : (first last : ℕ) (r : Request) → length (answer_of first last r) ≤ r.max + 1
-answer_few first last r = by (is_place first last r.after)
+answer_few : (first last : ℕ) (r : Request) → length (page_answer_of first last r) ≤ r.max + 1
+answer_few first last r = by (is_position first last r.after)
   where
     by : (b : Bool) → length (cond b (page_from (edge first r.after) first last r) (NotFound r.number ∷ [])) ≤ r.max + 1
     by true = from_few (edge first r.after) first last r
@@ -80,13 +80,13 @@ underway_right keep first last d few is =
 
 -- ---- the moment
 
-lines_early : (lines : List WireLine) (above : WireAbove) (n : ℕ) (w : World) → AreWireLines above n lines → n ≤ 100001 → w.moment ≤ 1000000000 * n → (all_stepped lines w).moment ≤ 1000000000 * 100001
+lines_early : (lines : List WireLine) (above : WireAbove) (n : ℕ) (w : ByteWorld) → AreWireLines above n lines → n ≤ 100001 → w.moment ≤ 1000000000 * n → (all_stepped lines w).moment ≤ 1000000000 * 100001
 lines_early [] above n w are low early = omega arith
 lines_early (line ∷ lines) above n w are low early =
     let more = line_moment w.names (length w.wires) line.number w above line.step are.2 in
     lines_early lines (above_by line.step above) (n + 1) (stepped line w) are.4 (omega (arith, are.1)) (omega (arith, early, more))
 
-module _ (s : WireView) (right : IsWireSchedule s) (sr : ScheduleRuns s) where
+module _ (s : WireView) (right : IsWireSchedule s) (sr : ScheduleSimulates s) where
   last_early : (world_of s).moment ≤ 1000000000 * 100001
   unfolding world_of
   last_early = lines_early s.lines nothing_above 2 (world_at_start s) right.lines (omega arith) (omega arith)
@@ -95,15 +95,15 @@ module _ (s : WireView) (right : IsWireSchedule s) (sr : ScheduleRuns s) where
   clock_low =
       let beside = (last_beside s right sr).1 in
       let clock = beside.runs.clock in
-      let moment = beside.image.moment in
+      let moment = beside.encodes.moment in
       let early = last_early in
-      subst (λ (x : sessions.World). x.clock < 2 ^ 64) (sym (last_is s right sr)) (omega arith)
+      subst (λ (x : sessions.AppWorld). x.clock < 2 ^ 64) (sym (last_is s right sr)) (omega arith)
 
   abbrev AtLine : ℕ → DeviceView → Type 0
   AtLine i line = LineAt (keep_of s.version) (history_at (owned_of s) (run_of s right sr).last.takes) (owned_of s) (run_of s right sr).last.devices i line
 
   there : (i : ℕ) (line : DeviceView) → (at : AtLine i line) → slice_get sr.last.devices i ≡ Some at.d
-  there i line at = subst (λ (x : sessions.World). slice_get x.devices i ≡ Some at.d) (last_is s right sr) at.device
+  there i line at = subst (λ (x : sessions.AppWorld). slice_get x.devices i ≡ Some at.d) (last_is s right sr) at.device
 
   epoch_low : (i : ℕ) (line : DeviceView) → AtLine i line → IsNumber line.epoch
   epoch_low i line at =

@@ -5,7 +5,7 @@ use Rattle.std.proofs.lemmas.Option.{same_Some}
 use Rattle.std.specs.List.{AllByRecursion}
 use Rattle.std.specs.Str.{bytes_eq}
 use Rattle.base_lemmas.proofs.Bytes.{bytes_eq-self}
-use Rattle.srv_state.specs.State.{Hall, Step}
+use Rattle.srv_state.specs.State.{ServerState, Step}
 use Rattle.srv_state.specs.Steps as steps
 use Rattle.srv_state.specs.Steps.{Act, act, acted, put, shut}
 use Rattle.srv_state.specs.Streams.{parting_where}
@@ -95,7 +95,7 @@ module _ (account : ℕ) (resource : List ℕ) where
   strange : (s : Session ItemOut) → is_named account resource s ≡ true → is_other s ≡ true → ⊥
   strange s named other = false≢true (sym (ap not named) ∙ other)
 
-  module _ (h : Hall ItemOut) (rule : IsRule h.sessions h.next) where
+  module _ (h : ServerState ItemOut) (rule : IsRule h.sessions h.next) where
     abbrev IsFound : Session ItemOut → Type 0
     IsFound t = session_of t.shown.number h.sessions ≡ Some t
 
@@ -149,11 +149,11 @@ module _ (account : ℕ) (resource : List ℕ) where
 
   -- ---- small steps
 
-  pub record Spares (h : Hall ItemOut) (s : Step ItemOut) : Type 0 where
-    pub archives : s.hall.archives ≡ h.archives
-    pub others : others_of account resource s.hall.sessions ≡ others_of account resource h.sessions
+  pub record Spares (h : ServerState ItemOut) (s : Step ItemOut) : Type 0 where
+    pub archives : s.server_state.archives ≡ h.archives
+    pub others : others_of account resource s.server_state.sessions ≡ others_of account resource h.sessions
 
-  module _ (h : Hall ItemOut) where
+  module _ (h : ServerState ItemOut) where
     abbrev sparing : Act ItemOut → Type 0 → Type 0
     sparing (steps.Say k z) More = More
     sparing (steps.Close k) More = NotAt k h.sessions × More
@@ -170,12 +170,12 @@ module _ (account : ℕ) (resource : List ℕ) where
     then_sparing (steps.Close k ∷ acts) calm s spares =
         then_sparing acts calm.1 (shut k s) (record {
           archives = spares.archives;
-          others = left_same is_other (λ t. not (is_at k t)) s.hall.sessions (subst (AllByRecursion (λ t. not (is_at k t) ≡ true)) (sym spares.others) calm.0) ∙ spares.others;
+          others = left_same is_other (λ t. not (is_at k t)) s.server_state.sessions (subst (AllByRecursion (λ t. not (is_at k t) ≡ true)) (sym spares.others) calm.0) ∙ spares.others;
         })
     then_sparing (steps.Ask n on ∷ acts) calm s spares =
         then_sparing acts calm.1 (act itself (steps.Ask n on) s) (record {
           archives = spares.archives;
-          others = changed_others n (asks on) (λ t. refl) s.hall.sessions (subst (AllByRecursion (λ t. (t.shown.number == n) ≡ false)) (sym spares.others) calm.0) ∙ spares.others;
+          others = changed_others n (asks on) (λ t. refl) s.server_state.sessions (subst (AllByRecursion (λ t. (t.shown.number == n) ≡ false)) (sym spares.others) calm.0) ∙ spares.others;
         })
     then_sparing (steps.Enter k phase ∷ acts) calm s spares = absurd calm
     then_sparing (steps.Fail k left ∷ acts) calm s spares = absurd calm

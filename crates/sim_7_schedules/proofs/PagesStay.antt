@@ -6,7 +6,7 @@ use Rattle.std.specs.Option.{option_map, option_map_or}
 use Rattle.sim_5_devices.proofs.Faults.{page_well, taken_well}
 use Rattle.sim_1_applications.specs.Answers.{last_in}
 use Rattle.sim_1_applications.specs.Devices.{OpenPage, Reading, log_of}
-use Rattle.sim_1_applications.specs.Events.{Around, Reaction, are_new, asking, fin, is_empty, over, passed, quiet, reads, restart, result, same_place, tile}
+use Rattle.sim_1_applications.specs.Events.{Around, Reaction, are_new, asking, fin, is_empty, over, passed, quiet, reads, restart, result, same_position, tile}
 use Rattle.sim_1_applications.specs.Stanzas.{Accepted, Bounced, Down, Fin, Live, NotFound, Res}
 
 -- it isn't so that no page is open any more, and none was taken over
@@ -33,7 +33,7 @@ module _ (a : Around) (b : Reading) (page : OpenPage) (there : b.page ≡ Some p
       well
   never_lost (Fin q complete last count) well =
       page_well (IsKeeping b) b (fin a q complete last count)
-      (λ page there. taken_well (IsKeeping b) b (page.number == q && same_place last (last_in page.results) && are_new (log_of b) page.results && (complete || not (is_empty page.results)))
+      (λ page there. taken_well (IsKeeping b) b (page.number == q && same_position last (last_in page.results) && are_new (log_of b) page.results && (complete || not (is_empty page.results)))
       (if complete then quiet (over a complete count page b) else asking (last_in (over a complete count page b).run) page.max a.last (over a complete count page b))
       (λ good. taken_over complete b (over a complete count page b) (last_in (over a complete count page b).run) page.max a.last (length-append b.tiles (tile a complete count page ∷ []))))
       well

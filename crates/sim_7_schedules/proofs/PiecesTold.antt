@@ -8,15 +8,15 @@ use Rattle.std.specs.List.{AllByRecursion}
 use Rattle.std.specs.Option.{option_map}
 use Rattle.cl_core.specs.Feeds.{bytes_in, bytes_step, with_fault}
 use Rattle.cl_core.specs.Steps.{item_step, items_run}
-use Rattle.law_client.proofs.TableTurned.{bytes_turned, items_turned}
-use Rattle.law_client.specs.Turned.{written}
-use Rattle.cl_handlers.specs.Clients.{ClientView, Turn}
+use Rattle.law_client.proofs.TableRendered.{bytes_rendered, items_rendered}
+use Rattle.law_client.specs.Rendered.{written}
+use Rattle.cl_handlers.specs.Clients.{ClientStep, ClientView}
 use Rattle.cl_handlers.specs.Speech.{in_bytes, in_items}
-use Rattle.cl_handlers.specs.Turns.{ends, is_apart}
+use Rattle.cl_handlers.specs.ClientSteps.{ends, is_apart}
 use Rattle.cl_handlers.specs.declared.events.Event.TheVariants.{Ended}
 use Rattle.cl_handlers.specs.declared.events.PeerFault.TheVariants.{Framing}
 use Rattle.sim_5_devices.proofs.Worlds.{set_here}
-use Rattle.sim_3_items.specs.Reading.{device_behind, turn_on, wire_behind}
+use Rattle.sim_3_items.specs.Reading.{client_step_on, device_after, wire_after}
 use Rattle.cmd_network.specs.Devices as devices
 use Rattle.cmd_network.specs.Devices.{DeviceState, has_wire}
 use Rattle.xml_framer.specs.States as framing
@@ -26,23 +26,23 @@ use Rattle.sim_3_images.proofs.DownMoves.{run_unplaced}
 use Rattle.sim_3_images.proofs.ItemsHeard.{apart_run}
 use Rattle.sim_3_images.proofs.Lookups.{get_changed_same}
 use Rattle.sim_3_images.proofs.NetworkMoves.{found_both}
-use Rattle.sim_3_images.proofs.TurnsBehind.{step_adds}
+use Rattle.sim_3_images.proofs.TurnsAfter.{step_adds}
 use Rattle.sim_3_images.proofs.UserMoves.{silent_is}
 use Rattle.sim_3_images.proofs.WireSteps.{IsDownHanded, wire_down}
-use Rattle.sim_3_images.specs.ImagesCores.{writer_at}
-use Rattle.sim_3_images.specs.Mild.{ClientFits, DownFits, HallFits, UpFits}
-use Rattle.sim_3_images.specs.PipeImages.{over, standing}
-use Rattle.sim_3_images.specs.Stands.{StandingHalls}
-use Rattle.sim_3_images.specs.WireImages.{WireImage}
-use Rattle.sim_3_images.specs.WorldImages.{DeviceImage, WireAt, framer_here}
-use Rattle.sim_3_items.specs.ItemMoves.{Down, here_behind, left_where, moved}
+use Rattle.sim_3_images.specs.EncodingsCores.{writer_at}
+use Rattle.sim_3_images.specs.Relayable.{ClientFits, DownFits, ServerFits, UpFits}
+use Rattle.sim_3_images.specs.PipeEncodings.{over, standing}
+use Rattle.sim_3_images.specs.Stands.{StandingServers}
+use Rattle.sim_3_images.specs.WireEncodings.{WireEncodes}
+use Rattle.sim_3_images.specs.WorldEncodings.{DeviceEncodes, WireAt, framer_here}
+use Rattle.sim_3_items.specs.ItemMoves.{Down, here_after, left_where, moved}
 use Rattle.sim_3_items.specs.ItemPipes.{ItemWire, handed_down, put_up}
-use Rattle.sim_3_items.specs.ItemWorlds.{ItemDevice, ItemWorld, read_of, silent_turn}
+use Rattle.sim_3_items.specs.ItemWorlds.{ItemDevice, ItemWorld, read_of, silent_client_step}
 use Rattle.sim_4_links_follow.specs.Following.{IsNextItem}
 use Rattle.sim_5_moves.proofs.Alone.{moved_so}
 use Rattle.sim_5_moves.proofs.DownMovesDowns.{each_down}
 use Rattle.sim_5_moves.proofs.Grounds.{ground}
-use Rattle.sim_5_moves.specs.Running.{AreSmall, Bounds, DeviceRuns, IsInBounds, IsOwned, MoveRuns, WorldRuns}
+use Rattle.sim_5_moves.specs.Running.{AreSmall, Bounds, DeviceSimulates, IsInBounds, IsOwned, MoveSimulates, WorldSimulates}
 use Rattle.law_payloads.specs.AsRead.{last_moment}
 use Rattle.cmd_schedule.proofs.Lists.{all_append}
 use Rattle.cmd_schedule.specs.Contents.{Owned}
@@ -50,11 +50,11 @@ use Rattle.cmd_schedule.specs.Schedules.{WireView}
 use Rattle.cmd_schedule.specs.WireGrammar.{IsWireSchedule}
 use Rattle.srv_core.specs.Events.{framer_at}
 use Rattle.sim_1_applications.specs.Counts.{IsUnanswered}
-use Rattle.sim_1_applications.specs.Devices.{Device, World}
+use Rattle.sim_1_applications.specs.Devices.{AppWorld, Device}
 use Rattle.sim_7_schedules.proofs.ByteMoves.{IsTimely, cores}
-use Rattle.sim_7_schedules.proofs.EventRows.{IsFair, IsFine}
-use Rattle.sim_7_schedules.proofs.ItemsTold.{item_fine}
-use Rattle.sim_7_schedules.specs.Besides.{AreBeside, bounds}
+use Rattle.sim_7_schedules.proofs.EventRows.{IsBounded, IsFair}
+use Rattle.sim_7_schedules.proofs.ItemsTold.{item_bounded}
+use Rattle.sim_7_schedules.specs.Simulation.{Simulates, bounds}
 use Rattle.sim_7_schedules.specs.Faults.{EachTells, told_on}
 use Rattle.cmd_network.specs.declared.wire.Wire.{Wire}
 use Rattle.cmd_world.specs.Worlds as bytes
@@ -70,7 +70,7 @@ wide = record { says = 100000; pages = 200001; dials = 10000 }
 small : AreSmall wide
 small = record { stanzas = omega arith; dials = omega arith }
 
-widened : (s : WireView) (says : ℕ) (w : ItemWorld) (x : World) → WorldRuns s bounds says w x → WorldRuns s wide says w x
+widened : (s : WireView) (says : ℕ) (w : ItemWorld) (x : AppWorld) → WorldSimulates s bounds says w x → WorldSimulates s wide says w x
 widened s says w x r = record {
   led = r.led;
   said = r.said;
@@ -94,54 +94,54 @@ abbrev IsFew : Device → Type 0
 IsFew d = (d.reading.asked ≤ 200001) ⊎ IsUnanswered d
 
 -- these items are under way to the device of a connection, which has it
-record AreComing (s : WireView) (place says : ℕ) (w : ItemWorld) (x : World) (wire : ItemWire) (d : ItemDevice) (items : List ItemOut) : Type 0 where
-  runs : WorldRuns s wide says w x
+record AreComing (s : WireView) (position says : ℕ) (w : ItemWorld) (x : AppWorld) (wire : ItemWire) (d : ItemDevice) (items : List ItemOut) : Type 0 where
+  runs : WorldSimulates s wide says w x
   timely : w.moment ≤ last_moment
-  there : slice_get w.wires place ≡ Some wire
+  there : slice_get w.wires position ≡ Some wire
   has : slice_get w.devices wire.device ≡ Some d
-  here : d.here ≡ Some place
+  here : d.here ≡ Some position
   items_are : wire.down.items ≡ items
   few : (e : Device) → slice_get x.devices wire.device ≡ Some e → IsFew e
 
-module _ (s : WireView) (right : IsWireSchedule s) (place : ℕ) where
+module _ (s : WireView) (right : IsWireSchedule s) (position : ℕ) where
   -- the first of them
-  module _ (z : ItemOut) (rest : List ItemOut) (says : ℕ) (w : ItemWorld) (x : World) (wire : ItemWire) (d : ItemDevice) (t : Turn ItemOut ItemOut) (c : AreComing s place says w x wire d (z ∷ rest)) (same : t.client ≡ d.client)
-      (fine : IsFine t) where
+  module _ (z : ItemOut) (rest : List ItemOut) (says : ℕ) (w : ItemWorld) (x : AppWorld) (wire : ItemWire) (d : ItemDevice) (t : ClientStep ItemOut ItemOut) (c : AreComing s position says w x wire d (z ∷ rest)) (same : t.client ≡ d.client)
+      (bounded : IsBounded t) where
     of : (o : Owned) × IsOwned s wire.device o
-    of = c.runs.wires place wire c.there
+    of = c.runs.wires position wire c.there
 
-    abbrev old : DeviceRuns s w x wire.device of.0
+    abbrev old : DeviceSimulates s w x wire.device of.0
     old = c.runs.devices wire.device of.0 of.1
 
     abbrev dev : ItemDevice
-    dev = old.shows.device
+    dev = old.represents.device
 
     same_dev : dev ≡ d
-    same_dev = same_Some dev d (sym old.shows.there ∙ c.has)
+    same_dev = same_Some dev d (sym old.represents.there ∙ c.has)
 
-    n : IsNextItem place wire.device w dev wire z
-    n = record { there = c.there; of = refl; has = old.shows.there; here = ap (λ (y : ItemDevice). y.here) same_dev ∙ c.here; items = rest; first = c.items_are }
+    n : IsNextItem position wire.device w dev wire z
+    n = record { there = c.there; of = refl; has = old.represents.there; here = ap (λ (y : ItemDevice). y.here) same_dev ∙ c.here; items = rest; first = c.items_are }
 
     same_client : t.client ≡ dev.client
     same_client = same ∙ ap (λ (y : ItemDevice). y.client) (sym same_dev)
 
-    abbrev alone : Turn ItemOut ItemOut
-    alone = turn_on z dev
+    abbrev alone : ClientStep ItemOut ItemOut
+    alone = client_step_on z dev
 
-    abbrev next : Turn ItemOut ItemOut
+    abbrev next : ClientStep ItemOut ItemOut
     next = item_step in_items t (read_of z)
 
     next_client : next.client ≡ alone.client
-    next_client = (step_adds (read_of z) t).client_is ∙ ap (λ c. (item_step in_items (silent_turn c) (read_of z)).client) same_client
+    next_client = (step_adds (read_of z) t).client_is ∙ ap (λ c. (item_step in_items (silent_client_step c) (read_of z)).client) same_client
 
-    next_fine : IsFine next
-    next_fine = item_fine s wide small says w x c.runs (ground s right wide small says w x c.runs) c.timely place wire of.0 of.1 z n t same_client fine
+    next_bounded : IsBounded next
+    next_bounded = item_bounded s wide small says w x c.runs (ground s right wide small says w x c.runs) c.timely position wire of.0 of.1 z n t same_client bounded
 
-    within : IsInBounds wide says (Down place) w x
+    within : IsInBounds wide says (Down position) w x
     within = (λ wire2 e at there2. c.few e (subst (λ (y : ItemWire). slice_get x.devices y.device ≡ Some e) (same_Some wire2 wire (sym at ∙ c.there)) there2), c.timely)
 
-    r : MoveRuns s wide says (Down place) w x
-    r = each_down s wide small says w x c.runs (ground s right wide small says w x c.runs) place within
+    r : MoveSimulates s wide says (Down position) w x
+    r = each_down s wide small says w x c.runs (ground s right wide small says w x c.runs) position within
 
     few_then : (e : Device) → slice_get r.next.devices wire.device ≡ Some e → IsFew e
     few_then e at =
@@ -158,46 +158,46 @@ module _ (s : WireView) (right : IsWireSchedule s) (place : ℕ) where
     abbrev dev_then : ItemDevice
     dev_then = record { client = alone.client; here = dev.here }
 
-    others_come : is_apart alone.client.phase ≡ false → AreComing s place (says + 0) (moved (Down place) w) r.next wire_then dev_then rest
+    others_come : is_apart alone.client.phase ≡ false → AreComing s position (says + 0) (moved (Down position) w) r.next wire_then dev_then rest
     others_come stays = record {
       runs = r.runs;
-      timely = subst (λ (v : ItemWorld). v.moment ≤ last_moment) (sym (moved_so w place dev wire z n)) c.timely;
+      timely = subst (λ (v : ItemWorld). v.moment ≤ last_moment) (sym (moved_so w position dev wire z n)) c.timely;
       there =
-          ap (λ (v : ItemWorld). slice_get v.wires place) (moved_so w place dev wire z n) ∙ get_changed_same (wire_behind alone) w.wires place ∙ ap (option_map (wire_behind alone)) c.there
+          ap (λ (v : ItemWorld). slice_get v.wires position) (moved_so w position dev wire z n) ∙ get_changed_same (wire_after alone) w.wires position ∙ ap (option_map (wire_after alone)) c.there
           ∙ ap (λ b. Some (left_where b wire_then)) stays;
       has =
-          ap (λ (v : ItemWorld). slice_get v.devices wire.device) (moved_so w place dev wire z n) ∙ set_here w.devices wire.device dev (device_behind alone dev) old.shows.there
-          ∙ ap (λ b. Some (record { client = alone.client; here = here_behind b dev.here })) stays;
+          ap (λ (v : ItemWorld). slice_get v.devices wire.device) (moved_so w position dev wire z n) ∙ set_here w.devices wire.device dev (device_after alone dev) old.represents.there
+          ∙ ap (λ b. Some (record { client = alone.client; here = here_after b dev.here })) stays;
       here = n.here;
       items_are = ap (drop 1) c.items_are;
       few = few_then;
     }
 
-    abbrev AllFine : List ItemOut → Type 0
-    AllFine l = IsFine (items_run in_items next (map read_of l))
+    abbrev AllBounded : List ItemOut → Type 0
+    AllBounded l = IsBounded (items_run in_items next (map read_of l))
 
-    rest_fine : (l : List ItemOut) → (is_apart alone.client.phase ≡ false → AllFine l) → AllFine l
-    rest_fine l goes_on = by (is_apart alone.client.phase) refl
+    rest_bounded : (l : List ItemOut) → (is_apart alone.client.phase ≡ false → AllBounded l) → AllBounded l
+    rest_bounded l goes_on = by (is_apart alone.client.phase) refl
       where
-        by : (b : Bool) → is_apart alone.client.phase ≡ b → AllFine l
-        by true apart = subst IsFine (sym (apart_run (map read_of l) next (ap (λ (c : ClientView ItemOut). is_apart c.phase) next_client ∙ apart))) next_fine
+        by : (b : Bool) → is_apart alone.client.phase ≡ b → AllBounded l
+        by true apart = subst IsBounded (sym (apart_run (map read_of l) next (ap (λ (c : ClientView ItemOut). is_apart c.phase) next_client ∙ apart))) next_bounded
         by false stays = goes_on stays
 
-  items_fine : (l others : List ItemOut) (says : ℕ) (w : ItemWorld) (x : World) (wire : ItemWire) (d : ItemDevice) (t : Turn ItemOut ItemOut) → AreComing s place says w x wire d (l ++ others) → t.client ≡ d.client → IsFine t
-      → IsFine (items_run in_items t (map read_of l))
-  items_fine [] others says w x wire d t c same fine = fine
-  items_fine (z ∷ l) others says w x wire d t c same fine =
-      rest_fine z (l ++ others) says w x wire d t c same fine l (λ stays.
-      items_fine l others (says + 0) (moved (Down place) w) (r z (l ++ others) says w x wire d t c same fine).next (wire_then z (l ++ others) says w x wire d t c same fine) (dev_then z (l ++ others) says w x wire d t c same fine)
-      (item_step in_items t (read_of z)) (others_come z (l ++ others) says w x wire d t c same fine stays) (next_client z (l ++ others) says w x wire d t c same fine) (next_fine z (l ++ others) says w x wire d t c same fine))
+  items_bounded : (l others : List ItemOut) (says : ℕ) (w : ItemWorld) (x : AppWorld) (wire : ItemWire) (d : ItemDevice) (t : ClientStep ItemOut ItemOut) → AreComing s position says w x wire d (l ++ others) → t.client ≡ d.client → IsBounded t
+      → IsBounded (items_run in_items t (map read_of l))
+  items_bounded [] others says w x wire d t c same bounded = bounded
+  items_bounded (z ∷ l) others says w x wire d t c same bounded =
+      rest_bounded z (l ++ others) says w x wire d t c same bounded l (λ stays.
+      items_bounded l others (says + 0) (moved (Down position) w) (r z (l ++ others) says w x wire d t c same bounded).next (wire_then z (l ++ others) says w x wire d t c same bounded) (dev_then z (l ++ others) says w x wire d t c same bounded)
+      (item_step in_items t (read_of z)) (others_come z (l ++ others) says w x wire d t c same bounded stays) (next_client z (l ++ others) says w x wire d t c same bounded) (next_bounded z (l ++ others) says w x wire d t c same bounded))
 
 -- ---- bytes
 
-abbrev AreFair : Turn (List ℕ) ℕ → Type 0
+abbrev AreFair : ClientStep (List ℕ) ℕ → Type 0
 AreFair t = AllByRecursion IsFair t.out.events
 
 -- a fault of the bytes is none of these
-fault_fair : (t : Turn (List ℕ) ℕ) (o : Option Fault) → AreFair t → AreFair (with_fault t o)
+fault_fair : (t : ClientStep (List ℕ) ℕ) (o : Option Fault) → AreFair t → AreFair (with_fault t o)
 fault_fair t None fair = fair
 fault_fair t (Some why) fair = by (is_apart t.client.phase)
   where
@@ -205,11 +205,11 @@ fault_fair t (Some why) fair = by (is_apart t.client.phase)
     by true = fair
     by false = all_append IsFair t.out.events (Ended (Framing why) ∷ []) fair ((tt, tt), tt)
 
-module _ (s : WireView) (right : IsWireSchedule s) (W : bytes.World) (x : World) (beside : AreBeside s W x) (timely : IsTimely W) where
+module _ (s : WireView) (right : IsWireSchedule s) (W : bytes.ByteWorld) (x : AppWorld) (beside : Simulates s W x) (timely : IsTimely W) where
   abbrev v : ItemWorld
   v = beside.items
 
-  module _ (place n : ℕ) (b : Wire) (d : DeviceState) (found : slice_get W.wires place ≡ Some b) (device : slice_get W.devices b.device ≡ Some d) (here : d.here ≡ Some place) where
+  module _ (position n : ℕ) (b : Wire) (d : DeviceState) (found : slice_get W.wires position ≡ Some b) (device : slice_get W.devices b.device ≡ Some d) (here : d.here ≡ Some position) where
     abbrev piece : List ℕ
     piece = take n b.down.bytes
 
@@ -217,57 +217,57 @@ module _ (s : WireView) (right : IsWireSchedule s) (W : bytes.World) (x : World)
     nothing_told : b.down.bytes ≡ [] → AllByRecursion IsFair (told_on n b d)
     nothing_told none = subst (λ bs. AllByRecursion IsFair (bytes_step in_bytes (devices.silent d.client) bs).turn.out.events) (sym (ap (take n) none ∙ take-nil n)) (by d.client.framer)
       where
-        by : (f : Option State) → AllByRecursion IsFair (bytes_in in_bytes (devices.silent_turn d.client) f []).turn.out.events
+        by : (f : Option State) → AllByRecursion IsFair (bytes_in in_bytes (devices.silent_client_step d.client) f []).turn.out.events
         by None = tt
-        by (Some f) = fault_fair (devices.silent_turn d.client) f.fault tt
+        by (Some f) = fault_fair (devices.silent_client_step d.client) f.fault tt
 
-    module _ (p : ItemWire) (e : ItemDevice) (found_item : slice_get v.wires place ≡ Some p) (item_device : slice_get v.devices b.device ≡ Some e) (at : WireAt UpFits DownFits W v place b p) (h : DeviceImage ClientFits d e)
-        (f : State) (framer : d.client.framer ≡ Some f) (y : IsDownHanded UpFits DownFits cores.up_limits cores.down_limits (framer_at (number_at place) W.server.framers) f (writer_at (number_at place) v.server) b p n) where
+    module _ (p : ItemWire) (e : ItemDevice) (found_item : slice_get v.wires position ≡ Some p) (item_device : slice_get v.devices b.device ≡ Some e) (at : WireAt UpFits DownFits W v position b p) (h : DeviceEncodes ClientFits d e)
+        (f : State) (framer : d.client.framer ≡ Some f) (y : IsDownHanded UpFits DownFits cores.up_limits cores.down_limits (framer_at (number_at position) W.server.framers) f (writer_at (number_at position) v.server) b p n) where
       abbrev taken : List ItemOut
       taken = take y.count p.down.items
 
-      abbrev t : Turn ItemOut ItemOut
-      t = items_run in_items (silent_turn e.client) (map read_of taken)
+      abbrev t : ClientStep ItemOut ItemOut
+      t = items_run in_items (silent_client_step e.client) (map read_of taken)
 
-      items_told : IsFine t
+      items_told : IsBounded t
       items_told =
-          let coming : AreComing s place beside.says v x p e (taken ++ drop y.count p.down.items) = record {
+          let coming : AreComing s position beside.says v x p e (taken ++ drop y.count p.down.items) = record {
             runs = widened s beside.says v x beside.runs;
-            timely = subst (λ m. m ≤ last_moment) beside.image.moment timely;
+            timely = subst (λ m. m ≤ last_moment) beside.encodes.moment timely;
             there = found_item;
             has = subst (λ k. slice_get v.devices k ≡ Some e) at.device item_device;
             here = sym h.here ∙ here;
             items_are = sym (take-append-drop y.count p.down.items);
             few = λ one there. inl (beside.runs.asked p.device one there);
           } in
-          items_fine s right place taken (drop y.count p.down.items) beside.says v x p e (silent_turn e.client) coming refl tt
+          items_bounded s right position taken (drop y.count p.down.items) beside.says v x p e (silent_client_step e.client) coming refl tt
 
-      run_is : items_run in_bytes (devices.silent_turn d.client) y.first ≡ written t
+      run_is : items_run in_bytes (devices.silent_client_step d.client) y.first ≡ written t
       run_is =
-          ap (λ u. items_run in_bytes u y.first) (silent_is UpFits DownFits (StandingHalls HallFits) ClientFits cores d e h) ∙ run_unplaced y.first (written (silent_turn e.client))
-          ∙ ap (items_run in_bytes (written (silent_turn e.client))) y.read ∙ items_turned bytes_turned (map read_of taken) (silent_turn e.client)
+          ap (λ u. items_run in_bytes u y.first) (silent_is UpFits DownFits (StandingServers ServerFits) ClientFits cores d e h) ∙ run_unplaced y.first (written (silent_client_step e.client))
+          ∙ ap (items_run in_bytes (written (silent_client_step e.client))) y.read ∙ items_rendered bytes_rendered (map read_of taken) (silent_client_step e.client)
 
       some_told : AllByRecursion IsFair (told_on n b d)
       some_told =
-          subst (λ o. AllByRecursion IsFair (bytes_in in_bytes (devices.silent_turn d.client) o piece).turn.out.events) (sym framer)
-          (subst (λ (u : framing.Turn). AreFair (with_fault (items_run in_bytes (devices.silent_turn d.client) u.items) u.state.fault)) (sym y.run_is)
-          (fault_fair (items_run in_bytes (devices.silent_turn d.client) y.first) y.now.fault (subst AreFair (sym run_is) items_told)))
+          subst (λ o. AllByRecursion IsFair (bytes_in in_bytes (devices.silent_client_step d.client) o piece).turn.out.events) (sym framer)
+          (subst (λ (u : framing.Turn). AreFair (with_fault (items_run in_bytes (devices.silent_client_step d.client) u.items) u.state.fault)) (sym y.run_is)
+          (fault_fair (items_run in_bytes (devices.silent_client_step d.client) y.first) y.now.fault (subst AreFair (sym run_is) items_told)))
 
     all_told : AllByRecursion IsFair (told_on n b d)
     all_told =
-        let wire = found_both (WireAt UpFits DownFits W v place) b (slice_get W.wires place) (slice_get v.wires place) found (beside.image.wires place) in
-        let of = found_both (DeviceImage ClientFits) d (slice_get W.devices b.device) (slice_get v.devices b.device) device (beside.image.devices b.device) in
+        let wire = found_both (WireAt UpFits DownFits W v position) b (slice_get W.wires position) (slice_get v.wires position) found (beside.encodes.wires position) in
+        let of = found_both (DeviceEncodes ClientFits) d (slice_get W.devices b.device) (slice_get v.devices b.device) device (beside.encodes.devices b.device) in
         elim wire.holds.down.carried [
           | over o ↦ nothing_told o.no_bytes
           | standing f reader st ↦
               let framer : d.client.framer ≡ Some f = sym reader_is ∙ reader in
               some_told wire.other of.other wire.is of.is wire.holds of.holds f framer
-              (wire_down UpFits DownFits cores.up_limits cores.down_limits (framer_at (number_at place) W.server.framers) f (writer_at (number_at place) v.server) b wire.other n st
-              (subst (λ r. WireImage UpFits DownFits (framer_at (number_at place) W.server.framers) r (writer_at (number_at place) v.server) b wire.other) reader wire.holds))
+              (wire_down UpFits DownFits cores.up_limits cores.down_limits (framer_at (number_at position) W.server.framers) f (writer_at (number_at position) v.server) b wire.other n st
+              (subst (λ r. WireEncodes UpFits DownFits (framer_at (number_at position) W.server.framers) r (writer_at (number_at position) v.server) b wire.other) reader wire.holds))
         ]
       where
-        reader_is : framer_here place (slice_get W.devices b.device) ≡ d.client.framer
-        reader_is = ap (framer_here place) device ∙ ap (λ o. cond (has_wire place o) d.client.framer None) here ∙ ap (λ (c : Bool). cond c d.client.framer None) (eq-eqb place place refl)
+        reader_is : framer_here position (slice_get W.devices b.device) ≡ d.client.framer
+        reader_is = ap (framer_here position) device ∙ ap (λ o. cond (has_wire position o) d.client.framer None) here ∙ ap (λ (c : Bool). cond c d.client.framer None) (eq-eqb position position refl)
 
   pub told_fair : EachTells IsFair W
-  told_fair place n wire d = all_told place n wire d
+  told_fair position n wire d = all_told position n wire d

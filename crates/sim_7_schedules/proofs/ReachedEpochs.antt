@@ -4,7 +4,7 @@ use Rattle.std.proofs.lemmas.Bool.{cases_Bool, leb-false, leb-true}
 use Rattle.std.proofs.lemmas.Option.{none-some, same_Some}
 use Rattle.sim_2_links.proofs.Entries.{Entry, New, Old, altered, at_other, entry, has_is, has_same, was}
 use Rattle.sim_2_links.proofs.Seen.{run_seen}
-use Rattle.sim_2_links.specs.Events.{Bound, Counted, Dropped, Ended, Event, Follows, Handled, Heard, Known, Learned, May, Named, Said, Seen, SeenSession, Served, after, new_session, seen}
+use Rattle.sim_2_links.specs.Events.{Bound, Counted, Dropped, Ended, Follows, Handled, Heard, Known, Learned, LinkEvent, May, Named, Said, Seen, SeenSession, Served, after, new_session, seen}
 use Rattle.sim_2_links.specs.Machine.{LinkReached, nothing_yet}
 use Rattle.sim_2_links.specs.Views.{Table, View, alter, has}
 
@@ -41,9 +41,9 @@ module _ {A : Type 0} where
       | inl before ↦
           let x = are.each e low (leb-true e s.epoch before) in
           (x.0, naming x.0 x.1, altered naming s.sessions x.0 x.1 x.2, by x.0 x.1 x.2 x.3 (has (Some m) x.0) refl)
-      | inr behind ↦
+      | inr following ↦
           let t = may.1 in
-          let above = leb-false e s.epoch behind in
+          let above = leb-false e s.epoch following in
           let same : s.epoch + 1 ≡ e = omega (arith, high, above) in
           (m, naming m t.0, altered naming s.sessions m t.0 t.1, ap (λ b. cond b (Some (s.epoch + 1)) t.0.epoch) (has_same m) ∙ ap Some same)
     ]
@@ -69,7 +69,7 @@ module _ {A : Type 0} where
 
   -- ---- each event
 
-  after_reached : (e : Event A) (s : Seen A) → May e s → AreReached s.epoch s.sessions → AreReached (after e s).epoch (after e s).sessions
+  after_reached : (e : LinkEvent A) (s : Seen A) → May e s → AreReached s.epoch s.sessions → AreReached (after e s).epoch (after e s).sessions
   after_reached (Bound m) s may are = record {
     each = λ e low high.
         let x = are.each e low high in
@@ -87,7 +87,7 @@ module _ {A : Type 0} where
   after_reached (Heard p z) s may are = altered_reached s.epoch s.sessions (λ q t. record t { down_got = cond (has (Some p) q) (t.down_got ++ z ∷ []) t.down_got }) (λ q t. refl) are
   after_reached (Learned p n) s may are = altered_reached s.epoch s.sessions (λ q t. record t { acked = cond (has (Some p) q) n t.acked }) (λ q t. refl) are
 
-  along : (es : List (Event A)) (s last : Seen A) → Follows es s last → AreReached s.epoch s.sessions → AreReached last.epoch last.sessions
+  along : (es : List (LinkEvent A)) (s last : Seen A) → Follows es s last → AreReached s.epoch s.sessions → AreReached last.epoch last.sessions
   along [] s last is are = subst (λ (u : Seen A). AreReached u.epoch u.sessions) (sym is) are
   along (e ∷ es) s last follows are = along es (after e s) last follows.1 (after_reached e s follows.0 are)
 

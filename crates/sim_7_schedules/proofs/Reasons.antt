@@ -1,7 +1,7 @@
 -- For which reasons the server ended the streams of a device.
 use Rattle.std.proofs.Common.{◌≡◌, ℕ, Bool, true, false, List, [], ◌∷◌, Some, map, refl, sym, subst}
 use Rattle.std.specs.List.{AllByRecursion, slice_get}
-use Rattle.sim_3_items.specs.Deeds.{awaits}
+use Rattle.sim_3_items.specs.Labels.{awaits}
 use Rattle.sim_2_links.proofs.Reached.{link_kept}
 use Rattle.sim_2_links.proofs.WithPremises.{prompt_runs}
 use Rattle.sim_2_links.specs.Links.{IsFair, LinkKept}
@@ -15,9 +15,9 @@ use Rattle.cmd_schedule.specs.Contents.{Owned}
 use Rattle.cmd_schedule.specs.Schedules.{WireView}
 use Rattle.sim_1_applications.specs.Devices as sessions
 use Rattle.sim_1_applications.specs.Runs.{owned_of}
-use Rattle.sim_7_schedules.specs.Besides.{AreBeside}
+use Rattle.sim_7_schedules.specs.Simulation.{Simulates}
 use Rattle.sim_7_schedules.specs.Faults.{HasWords, IsForReason}
-use Rattle.cmd_world.specs.Worlds.{World}
+use Rattle.cmd_world.specs.Worlds.{ByteWorld}
 use Rattle.xml_writer.specs.Items.{ItemOut}
 
 -- ---- of the words of a connection only those behind its row are errors
@@ -68,16 +68,16 @@ each_word v kept k c is =
     subst (AreForReason works) (sym conn.at.down)
     (all_append (IsForReason works) (down_of conn.stage) (tail_of c.ending) (of_row works conn.stage) (of_end works c.ending conn.piped.fair))
 
-pub words_here : (s : WireView) (W : World) (x : sessions.World) → AreBeside s W x → (i : ℕ) (o : Owned) → slice_get (owned_of s) i ≡ Some o → HasWords s W i o
+pub words_here : (s : WireView) (W : ByteWorld) (x : sessions.AppWorld) → Simulates s W x → (i : ℕ) (o : Owned) → slice_get (owned_of s) i ≡ Some o → HasWords s W i o
 words_here s W x beside i o owned =
     let dr = beside.runs.devices i o owned in
     let reached : LinkReached dr.view = prompt_runs awaits dr.view dr.prompt in
     record {
       items = beside.items;
-      image = beside.image;
+      encodes = beside.encodes;
       logins = dr.logins;
       view = dr.view;
       reached = reached;
-      shows = dr.shows;
+      represents = dr.represents;
       words = each_word dr.view (link_kept dr.view reached);
     }

@@ -4,8 +4,8 @@ use Rattle.std.proofs.lemmas.Bool.{cases_eq}
 use Rattle.std.proofs.lemmas.List.Concat.{flat_map-append}
 use Rattle.std.proofs.lemmas.Option.{same_Some}
 use Rattle.std.specs.List.{slice_get}
-use Rattle.sim_5_devices.proofs.AllDrifts.{reaches_both}
-use Rattle.sim_3_images.specs.ItemRuns.{IsServed, downs, moved_where, ups}
+use Rattle.sim_5_devices.proofs.AllSessionSteps.{reaches_both}
+use Rattle.sim_3_images.specs.ItemRuns.{AreServedUps, downs, moved_where, ups}
 use Rattle.sim_3_images.specs.Fitting.{MayItem}
 use Rattle.sim_3_items.specs.ItemMoves.{ItemMove, Down, DownEnd, Tick, Up, UpEnd, all_moved, moved}
 use Rattle.sim_3_items.specs.ItemPipes.{ItemWire}
@@ -13,65 +13,65 @@ use Rattle.sim_3_items.specs.ItemWorlds.{ItemWorld}
 use Rattle.cmd_schedule.specs.Schedules.{WireView}
 use Rattle.sim_1_applications.specs.Counts.{IsUnanswered}
 use Rattle.sim_1_applications.proofs.Said.{was_there}
-use Rattle.sim_1_applications.specs.Devices.{Device, World}
-use Rattle.sim_1_applications.specs.Events.{Event, Reaches}
+use Rattle.sim_1_applications.specs.Devices.{AppWorld, Device}
+use Rattle.sim_1_applications.specs.Events.{AppEvent, Reaches}
 use Rattle.sim_1_applications.specs.Histories.{Spoken, spoken_by, spoken_in}
-use Rattle.sim_5_moves.specs.Running.{IsAskedBy, IsAskedOnce, IsInBounds, MoveRuns, WorldRuns, spoken_by_move}
-use Rattle.sim_7_schedules.specs.Besides.{EachMoveRuns, bounds}
-use Rattle.sim_7_schedules.proofs.Places.{MakesNone, here_at, here_of, up_makes, up_end_makes, tick_makes, down_makes, down_end_makes}
+use Rattle.sim_5_moves.specs.Running.{IsAskedBy, IsAskedOnce, IsInBounds, MoveSimulates, WorldSimulates, spoken_by_move}
+use Rattle.sim_7_schedules.specs.Simulation.{EachMoveSimulates, bounds}
+use Rattle.sim_7_schedules.proofs.Positions.{MakesNone, here_at, here_of, up_makes, up_end_makes, tick_makes, down_makes, down_end_makes}
 use Rattle.law_payloads.specs.AsRead.{last_moment}
 use Rattle.sim_7_schedules.proofs.Wires.{down_moment}
-use Rattle.sim_7_schedules.proofs.Places as places
+use Rattle.sim_7_schedules.proofs.Positions as positions
 
 -- ---- states
 
 -- each device has asked for so many pages at most
-abbrev pub AtMost : ℕ → World → Type 0
+abbrev pub AtMost : ℕ → AppWorld → Type 0
 AtMost n x = (i : ℕ) (d : Device) → slice_get x.devices i ≡ Some d → d.reading.asked ≤ n
 
 -- or for one more, where its connection was passed already
-abbrev pub IsInRound : ℕ → ℕ → ItemWorld → World → Type 0
-IsInRound n place w x = (i : ℕ) (d : Device) → slice_get x.devices i ≡ Some d → (d.reading.asked ≤ n + 1) × ((h : ℕ) → here_at i w ≡ Some h → place ≤ h → d.reading.asked ≤ n)
+abbrev pub IsInRound : ℕ → ℕ → ItemWorld → AppWorld → Type 0
+IsInRound n position w x = (i : ℕ) (d : Device) → slice_get x.devices i ≡ Some d → (d.reading.asked ≤ n + 1) × ((h : ℕ) → here_at i w ≡ Some h → position ≤ h → d.reading.asked ≤ n)
 
 -- while items of one are handed over
-pub record IsHanded (n place : ℕ) (w : ItemWorld) (i : ℕ) (d : Device) : Type 0 where
+pub record IsHanded (n position : ℕ) (w : ItemWorld) (i : ℕ) (d : Device) : Type 0 where
   pub most : d.reading.asked ≤ n + 1
-  pub here : here_at i w ≡ Some place → (d.reading.asked ≤ n) ⊎ IsUnanswered d
-  pub later : (h : ℕ) → here_at i w ≡ Some h → place + 1 ≤ h → d.reading.asked ≤ n
+  pub here : here_at i w ≡ Some position → (d.reading.asked ≤ n) ⊎ IsUnanswered d
+  pub later : (h : ℕ) → here_at i w ≡ Some h → position + 1 ≤ h → d.reading.asked ≤ n
 
-abbrev pub AreHanded : ℕ → ℕ → ItemWorld → World → Type 0
-AreHanded n place w x = (i : ℕ) (d : Device) → slice_get x.devices i ≡ Some d → IsHanded n place w i d
+abbrev pub AreHanded : ℕ → ℕ → ItemWorld → AppWorld → Type 0
+AreHanded n position w x = (i : ℕ) (d : Device) → slice_get x.devices i ≡ Some d → IsHanded n position w i d
 
-pub round_of : (n place : ℕ) (w : ItemWorld) (x : World) → AtMost n x → IsInRound n place w x
-round_of n place w x most i d at = let low = most i d at in (omega arith, λ h here above. low)
+pub round_of : (n position : ℕ) (w : ItemWorld) (x : AppWorld) → AtMost n x → IsInRound n position w x
+round_of n position w x most i d at = let low = most i d at in (omega arith, λ h here above. low)
 
-pub handed_of : (n place : ℕ) (w : ItemWorld) (x : World) → IsInRound n place w x → AreHanded n place w x
-handed_of n place w x round i d at =
+pub handed_of : (n position : ℕ) (w : ItemWorld) (x : AppWorld) → IsInRound n position w x → AreHanded n position w x
+handed_of n position w x round i d at =
     let known = round i d at in
-    record { most = known.0; here = λ here. inl (known.1 place here (omega arith)); later = λ h here above. known.1 h here (omega arith) }
+    record { most = known.0; here = λ here. inl (known.1 position here (omega arith)); later = λ h here above. known.1 h here (omega arith) }
 
-pub round_behind : (n place : ℕ) (w : ItemWorld) (x : World) → AreHanded n place w x → IsInRound n (place + 1) w x
-round_behind n place w x handed i d at = let known = handed i d at in (known.most, known.later)
+pub round_after : (n position : ℕ) (w : ItemWorld) (x : AppWorld) → AreHanded n position w x → IsInRound n (position + 1) w x
+round_after n position w x handed i d at = let known = handed i d at in (known.most, known.later)
 
-pub most_behind : (n place : ℕ) (w : ItemWorld) (x : World) → IsInRound n place w x → AtMost (n + 1) x
-most_behind n place w x round i d at = (round i d at).0
+pub most_after : (n position : ℕ) (w : ItemWorld) (x : AppWorld) → IsInRound n position w x → AtMost (n + 1) x
+most_after n position w x round i d at = (round i d at).0
 
 -- ---- events, silently
 
 -- Events lead on, by which nobody says anything.
-pub record Goes (schedule : WireView) (says : ℕ) (w2 : ItemWorld) (x : World) (Post : World → Type 0) : Type 0 where
-  pub events : List Event
-  pub next : World
+pub record Goes (schedule : WireView) (says : ℕ) (w2 : ItemWorld) (x : AppWorld) (Post : AppWorld → Type 0) : Type 0 where
+  pub events : List AppEvent
+  pub next : AppWorld
   pub led : Reaches events x next
   pub silent : spoken_in events ≡ []
   pub post : Post next
-  pub runs : WorldRuns schedule bounds says w2 next
+  pub runs : WorldSimulates schedule bounds says w2 next
 
-pub stays : (schedule : WireView) (says : ℕ) (w2 : ItemWorld) (x : World) (Post : World → Type 0) → WorldRuns schedule bounds says w2 x → Post x → Goes schedule says w2 x Post
+pub stays : (schedule : WireView) (says : ℕ) (w2 : ItemWorld) (x : AppWorld) (Post : AppWorld → Type 0) → WorldSimulates schedule bounds says w2 x → Post x → Goes schedule says w2 x Post
 stays schedule says w2 x Post runs post = record { events = []; next = x; led = refl; silent = refl; post = post; runs = runs }
 
-pub then : (schedule : WireView) (says : ℕ) (w1 w2 : ItemWorld) (x : World) (Mid Post : World → Type 0) → Goes schedule says w1 x Mid →
-    ((y : World) → WorldRuns schedule bounds says w1 y → Mid y → Goes schedule says w2 y Post) → Goes schedule says w2 x Post
+pub then : (schedule : WireView) (says : ℕ) (w1 w2 : ItemWorld) (x : AppWorld) (Mid Post : AppWorld → Type 0) → Goes schedule says w1 x Mid →
+    ((y : AppWorld) → WorldSimulates schedule bounds says w1 y → Mid y → Goes schedule says w2 y Post) → Goes schedule says w2 x Post
 then schedule says w1 w2 x Mid Post first second =
     let rest = second first.next first.runs first.post in
     record {
@@ -84,8 +84,8 @@ then schedule says w1 w2 x Mid Post first second =
     }
 
 -- a move by which nothing is said
-pub of_move : (schedule : WireView) (says : ℕ) (m : ItemMove) (w : ItemWorld) (x : World) (Post : World → Type 0) → MoveRuns schedule bounds says m w x → spoken_by_move m w ≡ [] →
-    ((next : World) → ((i : ℕ) (d e : Device) → slice_get x.devices i ≡ Some d → slice_get next.devices i ≡ Some e → IsAskedBy m w i d e) → ((i : ℕ) (e : Device) → slice_get next.devices i ≡ Some e → (d : Device) × (slice_get x.devices i ≡ Some d)) → Post next) →
+pub of_move : (schedule : WireView) (says : ℕ) (m : ItemMove) (w : ItemWorld) (x : AppWorld) (Post : AppWorld → Type 0) → MoveSimulates schedule bounds says m w x → spoken_by_move m w ≡ [] →
+    ((next : AppWorld) → ((i : ℕ) (d e : Device) → slice_get x.devices i ≡ Some d → slice_get next.devices i ≡ Some e → IsAskedBy m w i d e) → ((i : ℕ) (e : Device) → slice_get next.devices i ≡ Some e → (d : Device) × (slice_get x.devices i ≡ Some d)) → Post next) →
     Goes schedule says (moved m w) x Post
 of_move schedule says m w x Post r none post = record {
   events = r.events;
@@ -93,95 +93,95 @@ of_move schedule says m w x Post r none post = record {
   led = r.reaches;
   silent = r.spoken ∙ none;
   post = post r.next r.asked (λ i e at. was_there r.events x r.next i e r.reaches at);
-  runs = subst (λ k. WorldRuns schedule bounds k (moved m w) r.next) (ap (λ (l : List Spoken). says + length l) none ∙ (let same : says + 0 ≡ says = omega arith in same)) r.runs;
+  runs = subst (λ k. WorldSimulates schedule bounds k (moved m w) r.next) (ap (λ (l : List Spoken). says + length l) none ∙ (let same : says + 0 ≡ says = omega arith in same)) r.runs;
 }
 
 -- ---- moves of a connection
 
-module _ (schedule : WireView) (each : EachMoveRuns schedule) where
+module _ (schedule : WireView) (each : EachMoveSimulates schedule) where
   -- a move that leaves what was asked, and makes no connection
-  quiet : (says : ℕ) (m : ItemMove) (w : ItemWorld) (x : World) (n place : ℕ) → MayItem m → spoken_by_move m w ≡ [] → IsInBounds bounds says m w x → MakesNone w (moved m w) →
-      ((i : ℕ) (d e : Device) → IsAskedBy m w i d e → e.reading.asked ≡ d.reading.asked) → WorldRuns schedule bounds says w x → IsInRound n place w x → Goes schedule says (moved m w) x (IsInRound n place (moved m w))
-  quiet says m w x n place may none within makes same runs round =
-      of_move schedule says m w x (IsInRound n place (moved m w)) (each m says w x may runs within) none (λ next asked was i e at.
+  quiet : (says : ℕ) (m : ItemMove) (w : ItemWorld) (x : AppWorld) (n position : ℕ) → MayItem m → spoken_by_move m w ≡ [] → IsInBounds bounds says m w x → MakesNone w (moved m w) →
+      ((i : ℕ) (d e : Device) → IsAskedBy m w i d e → e.reading.asked ≡ d.reading.asked) → WorldSimulates schedule bounds says w x → IsInRound n position w x → Goes schedule says (moved m w) x (IsInRound n position (moved m w))
+  quiet says m w x n position may none within makes same runs round =
+      of_move schedule says m w x (IsInRound n position (moved m w)) (each m says w x may runs within) none (λ next asked was i e at.
       let d = was i e at in
       let is = same i d.0 e (asked i d.0 e d.1 at) in
       let known = round i d.0 d.1 in
       ((let most = known.0 in omega arith), λ h here above. let low = known.1 h (makes i h here) above in omega arith))
 
-  up_goes : (says place : ℕ) (w : ItemWorld) (x : World) (n p : ℕ) → WorldRuns schedule bounds says w x → IsInRound n p w x → Goes schedule says (moved (Up place) w) x (IsInRound n p (moved (Up place) w))
-  up_goes says place w x n p runs round = quiet says (Up place) w x n p tt refl tt (up_makes place w) (λ i d e same. same) runs round
+  up_goes : (says position : ℕ) (w : ItemWorld) (x : AppWorld) (n p : ℕ) → WorldSimulates schedule bounds says w x → IsInRound n p w x → Goes schedule says (moved (Up position) w) x (IsInRound n p (moved (Up position) w))
+  up_goes says position w x n p runs round = quiet says (Up position) w x n p tt refl tt (up_makes position w) (λ i d e same. same) runs round
 
-  up_end_goes : (says place : ℕ) (w : ItemWorld) (x : World) (n p : ℕ) → WorldRuns schedule bounds says w x → IsInRound n p w x → Goes schedule says (moved (UpEnd place) w) x (IsInRound n p (moved (UpEnd place) w))
-  up_end_goes says place w x n p runs round = quiet says (UpEnd place) w x n p tt refl tt (up_end_makes place w) (λ i d e same. same) runs round
+  up_end_goes : (says position : ℕ) (w : ItemWorld) (x : AppWorld) (n p : ℕ) → WorldSimulates schedule bounds says w x → IsInRound n p w x → Goes schedule says (moved (UpEnd position) w) x (IsInRound n p (moved (UpEnd position) w))
+  up_end_goes says position w x n p runs round = quiet says (UpEnd position) w x n p tt refl tt (up_end_makes position w) (λ i d e same. same) runs round
 
-  tick_goes : (says ms : ℕ) (w : ItemWorld) (x : World) (n p : ℕ) → WorldRuns schedule bounds says w x → IsInRound n p w x → Goes schedule says (moved (Tick ms) w) x (IsInRound n p (moved (Tick ms) w))
+  tick_goes : (says ms : ℕ) (w : ItemWorld) (x : AppWorld) (n p : ℕ) → WorldSimulates schedule bounds says w x → IsInRound n p w x → Goes schedule says (moved (Tick ms) w) x (IsInRound n p (moved (Tick ms) w))
   tick_goes says ms w x n p runs round = quiet says (Tick ms) w x n p tt refl tt (tick_makes ms w) (λ i d e same. same) runs round
 
-  down_end_goes : (says place : ℕ) (w : ItemWorld) (x : World) (n p : ℕ) → WorldRuns schedule bounds says w x → IsInRound n p w x → Goes schedule says (moved (DownEnd place) w) x (IsInRound n p (moved (DownEnd place) w))
-  down_end_goes says place w x n p runs round = quiet says (DownEnd place) w x n p tt refl tt (down_end_makes place w) (λ i d e same. same) runs round
+  down_end_goes : (says position : ℕ) (w : ItemWorld) (x : AppWorld) (n p : ℕ) → WorldSimulates schedule bounds says w x → IsInRound n p w x → Goes schedule says (moved (DownEnd position) w) x (IsInRound n p (moved (DownEnd position) w))
+  down_end_goes says position w x n p runs round = quiet says (DownEnd position) w x n p tt refl tt (down_end_makes position w) (λ i d e same. same) runs round
 
   -- so many items go to the server
-  ups_go : (says place count : ℕ) (w : ItemWorld) (x : World) (n p : ℕ) → WorldRuns schedule bounds says w x → IsInRound n p w x →
-      Goes schedule says (all_moved (ups place count) w) x (IsInRound n p (all_moved (ups place count) w))
-  ups_go says place zero w x n p runs round = stays schedule says w x (IsInRound n p w) runs round
-  ups_go says place (suc count) w x n p runs round =
-      then schedule says (moved (Up place) w) (all_moved (ups place count) (moved (Up place) w)) x (IsInRound n p (moved (Up place) w)) _ (up_goes says place w x n p runs round)
-      (λ y here mid. ups_go says place count (moved (Up place) w) y n p here mid)
+  ups_go : (says position count : ℕ) (w : ItemWorld) (x : AppWorld) (n p : ℕ) → WorldSimulates schedule bounds says w x → IsInRound n p w x →
+      Goes schedule says (all_moved (ups position count) w) x (IsInRound n p (all_moved (ups position count) w))
+  ups_go says position zero w x n p runs round = stays schedule says w x (IsInRound n p w) runs round
+  ups_go says position (suc count) w x n p runs round =
+      then schedule says (moved (Up position) w) (all_moved (ups position count) (moved (Up position) w)) x (IsInRound n p (moved (Up position) w)) _ (up_goes says position w x n p runs round)
+      (λ y here mid. ups_go says position count (moved (Up position) w) y n p here mid)
 
-  served_goes : (says place : ℕ) (first : List ItemMove) (w : ItemWorld) (x : World) (n p : ℕ) → IsServed place first → WorldRuns schedule bounds says w x → IsInRound n p w x →
+  served_goes : (says position : ℕ) (first : List ItemMove) (w : ItemWorld) (x : AppWorld) (n p : ℕ) → AreServedUps position first → WorldSimulates schedule bounds says w x → IsInRound n p w x →
       Goes schedule says (all_moved first w) x (IsInRound n p (all_moved first w))
-  served_goes says place first w x n p (inl none) runs round =
+  served_goes says position first w x n p (inl none) runs round =
       subst (λ ms. Goes schedule says (all_moved ms w) x (IsInRound n p (all_moved ms w))) (sym none) (stays schedule says w x (IsInRound n p w) runs round)
-  served_goes says place first w x n p (inr some) runs round =
+  served_goes says position first w x n p (inr some) runs round =
       subst (λ ms. Goes schedule says (all_moved ms w) x (IsInRound n p (all_moved ms w))) (sym some.1)
-      (then schedule says (moved (Tick 0) w) (all_moved (ups place some.0) (moved (Tick 0) w)) x (IsInRound n p (moved (Tick 0) w)) _ (tick_goes says 0 w x n p runs round)
-      (λ y here mid. ups_go says place some.0 (moved (Tick 0) w) y n p here mid))
+      (then schedule says (moved (Tick 0) w) (all_moved (ups position some.0) (moved (Tick 0) w)) x (IsInRound n p (moved (Tick 0) w)) _ (tick_goes says 0 w x n p runs round)
+      (λ y here mid. ups_go says position some.0 (moved (Tick 0) w) y n p here mid))
 
   -- moves, and then others
   all_joined : (first second : List ItemMove) (w : ItemWorld) → all_moved (first ++ second) w ≡ all_moved second (all_moved first w)
   all_joined [] second w = refl
   all_joined (m ∷ first) second w = all_joined first second (moved m w)
 
-  pub up_line : (says place : ℕ) (first : List ItemMove) (ended : Bool) (w : ItemWorld) (x : World) (n p : ℕ) → IsServed place first → WorldRuns schedule bounds says w x → IsInRound n p w x →
-      Goes schedule says (all_moved (first ++ moved_where (UpEnd place) ended) w) x (IsInRound n p (all_moved (first ++ moved_where (UpEnd place) ended) w))
-  up_line says place first ended w x n p is runs round =
-      subst (λ v. Goes schedule says v x (IsInRound n p v)) (sym (all_joined first (moved_where (UpEnd place) ended) w))
-      (then schedule says (all_moved first w) (all_moved (moved_where (UpEnd place) ended) (all_moved first w)) x (IsInRound n p (all_moved first w)) _ (served_goes says place first w x n p is runs round)
+  pub up_line : (says position : ℕ) (first : List ItemMove) (ended : Bool) (w : ItemWorld) (x : AppWorld) (n p : ℕ) → AreServedUps position first → WorldSimulates schedule bounds says w x → IsInRound n p w x →
+      Goes schedule says (all_moved (first ++ moved_where (UpEnd position) ended) w) x (IsInRound n p (all_moved (first ++ moved_where (UpEnd position) ended) w))
+  up_line says position first ended w x n p is runs round =
+      subst (λ v. Goes schedule says v x (IsInRound n p v)) (sym (all_joined first (moved_where (UpEnd position) ended) w))
+      (then schedule says (all_moved first w) (all_moved (moved_where (UpEnd position) ended) (all_moved first w)) x (IsInRound n p (all_moved first w)) _ (served_goes says position first w x n p is runs round)
       (λ y here mid. by ended (all_moved first w) y here mid))
     where
-      by : (b : Bool) (v : ItemWorld) (y : World) → WorldRuns schedule bounds says v y → IsInRound n p v y → Goes schedule says (all_moved (moved_where (UpEnd place) b) v) y (IsInRound n p (all_moved (moved_where (UpEnd place) b) v))
-      by true v y here mid = up_end_goes says place v y n p here mid
+      by : (b : Bool) (v : ItemWorld) (y : AppWorld) → WorldSimulates schedule bounds says v y → IsInRound n p v y → Goes schedule says (all_moved (moved_where (UpEnd position) b) v) y (IsInRound n p (all_moved (moved_where (UpEnd position) b) v))
+      by true v y here mid = up_end_goes says position v y n p here mid
       by false v y here mid = stays schedule says v y (IsInRound n p v) here mid
 
   -- one item goes to a device
-  down_goes : (says place : ℕ) (w : ItemWorld) (x : World) (n : ℕ) → n ≤ 200000 → w.moment ≤ last_moment → WorldRuns schedule bounds says w x → AreHanded n place w x → Goes schedule says (moved (Down place) w) x (AreHanded n place (moved (Down place) w))
-  down_goes says place w x n few timely runs handed = by (places.reaches place w)
+  down_goes : (says position : ℕ) (w : ItemWorld) (x : AppWorld) (n : ℕ) → n ≤ 200000 → w.moment ≤ last_moment → WorldSimulates schedule bounds says w x → AreHanded n position w x → Goes schedule says (moved (Down position) w) x (AreHanded n position (moved (Down position) w))
+  down_goes says position w x n few timely runs handed = by (positions.reaches position w)
     where
-      by : places.Reaches place w → Goes schedule says (moved (Down place) w) x (AreHanded n place (moved (Down place) w))
-      by (places.Nobody none) = subst (λ v. Goes schedule says v x (AreHanded n place v)) (sym none) (stays schedule says w x (AreHanded n place w) runs handed)
-      by (places.Device wire d at found is_here) =
-          of_move schedule says (Down place) w x (AreHanded n place (moved (Down place) w)) (each (Down place) says w x tt runs within) refl (λ next asked was i e there.
+      by : positions.Reaches position w → Goes schedule says (moved (Down position) w) x (AreHanded n position (moved (Down position) w))
+      by (positions.Nobody none) = subst (λ v. Goes schedule says v x (AreHanded n position v)) (sym none) (stays schedule says w x (AreHanded n position w) runs handed)
+      by (positions.Device wire d at found is_here) =
+          of_move schedule says (Down position) w x (AreHanded n position (moved (Down position) w)) (each (Down position) says w x tt runs within) refl (λ next asked was i e there.
           let old = was i e there in
           let known = handed i old.0 old.1 in
           let once = asked i old.0 e old.1 there in
           elim (cases_eq wire.device i) [
             | inl same ↦
-                let here : here_at i w ≡ Some place = ap (λ k. here_at k w) (sym same) ∙ ap here_of found ∙ is_here in
+                let here : here_at i w ≡ Some position = ap (λ k. here_at k w) (sym same) ∙ ap here_of found ∙ is_here in
                 this i old.0 e known once.0 here
             | inr other ↦ let both = once.1 wire at other in another i old.0 e known both.0 both.1
           ])
         where
-          within : IsInBounds bounds says (Down place) w x
+          within : IsInBounds bounds says (Down position) w x
           within = (
             λ wire2 dev at2 there.
                 let same : wire2 ≡ wire = same_Some wire2 wire (sym at2 ∙ at) in
-                let here : here_at wire2.device w ≡ Some place = ap (λ (y : ItemWire). here_at y.device w) same ∙ ap here_of found ∙ is_here in
+                let here : here_at wire2.device w ≡ Some position = ap (λ (y : ItemWire). here_at y.device w) same ∙ ap here_of found ∙ is_here in
                 elim ((handed wire2.device dev there).here here) [ inl low ↦ inl (omega arith) | inr none ↦ inr none ],
             timely,
           )
 
-          this : (i : ℕ) (o e : Device) → IsHanded n place w i o → IsAskedOnce o e → here_at i w ≡ Some place → IsHanded n place (moved (Down place) w) i e
+          this : (i : ℕ) (o e : Device) → IsHanded n position w i o → IsAskedOnce o e → here_at i w ≡ Some position → IsHanded n position (moved (Down position) w) i e
           this i o e known once here = record {
             most = elim (known.here here) [
               | inl low ↦ elim once.1 [ inl same ↦ omega arith | inr more ↦ let one = more.0 in omega arith ]
@@ -192,33 +192,33 @@ module _ (schedule : WireView) (each : EachMoveRuns schedule) where
               | inr none ↦ inr (once.0 none).1
             ];
             later = λ h still above.
-                let place_is : place ≡ h = same_Some place h (sym here ∙ down_makes place w i h still) in
+                let position_is : position ≡ h = same_Some position h (sym here ∙ down_makes position w i h still) in
                 absurd (omega arith);
           }
 
-          another : (i : ℕ) (o e : Device) → IsHanded n place w i o → e.reading.asked ≡ o.reading.asked → (IsUnanswered o → IsUnanswered e) → IsHanded n place (moved (Down place) w) i e
+          another : (i : ℕ) (o e : Device) → IsHanded n position w i o → e.reading.asked ≡ o.reading.asked → (IsUnanswered o → IsUnanswered e) → IsHanded n position (moved (Down position) w) i e
           another i o e known same none = record {
             most = let most = known.most in omega arith;
-            here = λ still. elim (known.here (down_makes place w i place still)) [ inl low ↦ inl (omega arith) | inr was ↦ inr (none was) ];
-            later = λ h still above. let low = known.later h (down_makes place w i h still) above in omega arith;
+            here = λ still. elim (known.here (down_makes position w i position still)) [ inl low ↦ inl (omega arith) | inr was ↦ inr (none was) ];
+            later = λ h still above. let low = known.later h (down_makes position w i h still) above in omega arith;
           }
 
-  downs_go : (says place count : ℕ) (w : ItemWorld) (x : World) (n : ℕ) → n ≤ 200000 → w.moment ≤ last_moment → WorldRuns schedule bounds says w x → AreHanded n place w x →
-      Goes schedule says (all_moved (downs place count) w) x (AreHanded n place (all_moved (downs place count) w))
-  downs_go says place zero w x n few timely runs handed = stays schedule says w x (AreHanded n place w) runs handed
-  downs_go says place (suc count) w x n few timely runs handed =
-      then schedule says (moved (Down place) w) (all_moved (downs place count) (moved (Down place) w)) x (AreHanded n place (moved (Down place) w)) _ (down_goes says place w x n few timely runs handed)
-      (λ y here mid. downs_go says place count (moved (Down place) w) y n few (subst (λ k. k ≤ last_moment) (sym (down_moment place w)) timely) here mid)
+  downs_go : (says position count : ℕ) (w : ItemWorld) (x : AppWorld) (n : ℕ) → n ≤ 200000 → w.moment ≤ last_moment → WorldSimulates schedule bounds says w x → AreHanded n position w x →
+      Goes schedule says (all_moved (downs position count) w) x (AreHanded n position (all_moved (downs position count) w))
+  downs_go says position zero w x n few timely runs handed = stays schedule says w x (AreHanded n position w) runs handed
+  downs_go says position (suc count) w x n few timely runs handed =
+      then schedule says (moved (Down position) w) (all_moved (downs position count) (moved (Down position) w)) x (AreHanded n position (moved (Down position) w)) _ (down_goes says position w x n few timely runs handed)
+      (λ y here mid. downs_go says position count (moved (Down position) w) y n few (subst (λ k. k ≤ last_moment) (sym (down_moment position w)) timely) here mid)
 
   -- all that is handed to the device of a connection
-  pub down_line : (says place count : ℕ) (ended : Bool) (w : ItemWorld) (x : World) (n : ℕ) → n ≤ 200000 → w.moment ≤ last_moment → WorldRuns schedule bounds says w x → IsInRound n place w x →
-      Goes schedule says (all_moved (downs place count ++ moved_where (DownEnd place) ended) w) x (IsInRound n (place + 1) (all_moved (downs place count ++ moved_where (DownEnd place) ended) w))
-  down_line says place count ended w x n few timely runs round =
-      subst (λ v. Goes schedule says v x (IsInRound n (place + 1) v)) (sym (all_joined (downs place count) (moved_where (DownEnd place) ended) w))
-      (then schedule says (all_moved (downs place count) w) (all_moved (moved_where (DownEnd place) ended) (all_moved (downs place count) w)) x (AreHanded n place (all_moved (downs place count) w)) _
-      (downs_go says place count w x n few timely runs (handed_of n place w x round))
-      (λ y here mid. by ended (all_moved (downs place count) w) y here (round_behind n place (all_moved (downs place count) w) y mid)))
+  pub down_line : (says position count : ℕ) (ended : Bool) (w : ItemWorld) (x : AppWorld) (n : ℕ) → n ≤ 200000 → w.moment ≤ last_moment → WorldSimulates schedule bounds says w x → IsInRound n position w x →
+      Goes schedule says (all_moved (downs position count ++ moved_where (DownEnd position) ended) w) x (IsInRound n (position + 1) (all_moved (downs position count ++ moved_where (DownEnd position) ended) w))
+  down_line says position count ended w x n few timely runs round =
+      subst (λ v. Goes schedule says v x (IsInRound n (position + 1) v)) (sym (all_joined (downs position count) (moved_where (DownEnd position) ended) w))
+      (then schedule says (all_moved (downs position count) w) (all_moved (moved_where (DownEnd position) ended) (all_moved (downs position count) w)) x (AreHanded n position (all_moved (downs position count) w)) _
+      (downs_go says position count w x n few timely runs (handed_of n position w x round))
+      (λ y here mid. by ended (all_moved (downs position count) w) y here (round_after n position (all_moved (downs position count) w) y mid)))
     where
-      by : (b : Bool) (v : ItemWorld) (y : World) → WorldRuns schedule bounds says v y → IsInRound n (place + 1) v y → Goes schedule says (all_moved (moved_where (DownEnd place) b) v) y (IsInRound n (place + 1) (all_moved (moved_where (DownEnd place) b) v))
-      by true v y here mid = down_end_goes says place v y n (place + 1) here mid
-      by false v y here mid = stays schedule says v y (IsInRound n (place + 1) v) here mid
+      by : (b : Bool) (v : ItemWorld) (y : AppWorld) → WorldSimulates schedule bounds says v y → IsInRound n (position + 1) v y → Goes schedule says (all_moved (moved_where (DownEnd position) b) v) y (IsInRound n (position + 1) (all_moved (moved_where (DownEnd position) b) v))
+      by true v y here mid = down_end_goes says position v y n (position + 1) here mid
+      by false v y here mid = stays schedule says v y (IsInRound n (position + 1) v) here mid

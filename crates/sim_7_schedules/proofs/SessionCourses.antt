@@ -14,7 +14,7 @@ use Rattle.cmd_schedule.specs.WireGrammar.{IsWireSchedule}
 use Rattle.im_requests.specs.Sessions.{available_item, carbons_item}
 use Rattle.sim_1_applications.specs.Devices as sessions
 use Rattle.sim_1_applications.specs.Devices.{Session}
-use Rattle.sim_1_applications.specs.Events.{Event, Reaches}
+use Rattle.sim_1_applications.specs.Events.{AppEvent, Reaches}
 use Rattle.sim_1_applications.specs.Runs.{begins, owned_of}
 use Rattle.sim_1_applications.specs.Stanzas.{Carbons, Message, Presence, Query, Up}
 use Rattle.sim_2_events.specs.Lists.{IsSession}
@@ -23,37 +23,37 @@ use Rattle.sim_2_links.proofs.WithPremises.{prompt_runs}
 use Rattle.sim_2_links.specs.Events.{seen_as, seen_session}
 use Rattle.sim_2_links.specs.Machine.{LinkReached}
 use Rattle.sim_2_links.specs.Views as links
-use Rattle.sim_3_images.specs.Kept.{IsKept}
+use Rattle.sim_3_images.specs.Kept.{IsWorldKept}
 use Rattle.sim_3_items.specs.Built.{IsUp, IsUpAs}
-use Rattle.sim_3_items.specs.Deeds.{awaits}
+use Rattle.sim_3_items.specs.Labels.{awaits}
 use Rattle.sim_3_items.specs.Downs.{down_stanza}
 use Rattle.sim_3_items.specs.Items.{stanzas_read}
 use Rattle.sim_3_items.specs.Meant.{requested, submitted}
 use Rattle.sim_3_items.specs.Ups.{up_stanza}
-use Rattle.sim_5_moves.specs.Running.{DeviceRuns}
+use Rattle.sim_5_moves.specs.Running.{DeviceSimulates}
 use Rattle.sim_7_schedules.proofs.Chains.{Chain, chain_of}
 use Rattle.sim_7_schedules.proofs.FurtherSessions.{Further, further_along}
 use Rattle.sim_7_schedules.proofs.ReachedEpochs.{all_reached}
 use Rattle.sim_7_schedules.proofs.SessionMessages.{of_an_epoch, told_here}
 use Rattle.sim_7_schedules.proofs.SessionPairs.{found_pair, has_epoch, pair_of, pairs_are, pairs_here}
-use Rattle.sim_7_schedules.proofs.WorldsBeside.{HasBeside, kept_at}
-use Rattle.sim_7_schedules.specs.Besides.{AreBeside}
+use Rattle.sim_7_schedules.proofs.WorldsSimulated.{HasBeside, kept_at}
+use Rattle.sim_7_schedules.specs.Simulation.{Simulates}
 use Rattle.sim_7_schedules.specs.Courses.{GoOn, GoesOn, HasCourse, IsFurther}
 use Rattle.sim_7_schedules.specs.Messages.{AreTold}
 use Rattle.sim_7_schedules.specs.Pairs.{HasPairs, Pair}
 use Rattle.cmd_world.specs.Histories.{history_of}
-use Rattle.cmd_world.specs.Worlds.{World}
+use Rattle.cmd_world.specs.Worlds.{ByteWorld}
 use Rattle.xml_writer.specs.Items.{ItemOut}
 
 -- ---- one world of a chain, and the next
 
-abbrev pub world_at : (s : WireView) (Ws : List World) (x : sessions.World) (j : ℕ) (W : World) → Chain s x Ws → slice_get Ws j ≡ Some W → HasBeside s W
+abbrev pub world_at : (s : WireView) (Ws : List ByteWorld) (x : sessions.AppWorld) (j : ℕ) (W : ByteWorld) → Chain s x Ws → slice_get Ws j ≡ Some W → HasBeside s W
 world_at s [] x j W chain at = absurd (none-some W at)
-world_at s (V ∷ Ws) x zero W chain at = (chain.0, subst (λ U. AreBeside s U chain.0) (same_Some V W at) chain.3)
+world_at s (V ∷ Ws) x zero W chain at = (chain.0, subst (λ U. Simulates s U chain.0) (same_Some V W at) chain.3)
 world_at s (V ∷ Ws) x (suc j) W chain at = world_at s Ws chain.0 j W chain.4 at
 
-events_between : (s : WireView) (Ws : List World) (x : sessions.World) (j : ℕ) (V W : World) (chain : Chain s x Ws) (one : slice_get Ws j ≡ Some V) (two : slice_get Ws (suc j) ≡ Some W) →
-    (es : List Event) × Reaches es (world_at s Ws x j V chain one).0 (world_at s Ws x (suc j) W chain two).0
+events_between : (s : WireView) (Ws : List ByteWorld) (x : sessions.AppWorld) (j : ℕ) (V W : ByteWorld) (chain : Chain s x Ws) (one : slice_get Ws j ≡ Some V) (two : slice_get Ws (suc j) ≡ Some W) →
+    (es : List AppEvent) × Reaches es (world_at s Ws x j V chain one).0 (world_at s Ws x (suc j) W chain two).0
 events_between s [] x j V W chain one two = absurd (none-some V one)
 events_between s (U ∷ []) x zero V W chain one two = absurd (none-some W two)
 events_between s (U ∷ T ∷ Ws) x zero V W chain one two = (chain.4.1, chain.4.2)
@@ -99,7 +99,7 @@ pair_there o u at = ap (option_map pair_of) at
 
 -- ---- a session of two worlds
 
-module _ (s : WireView) (i : ℕ) (o : Owned) (V W : World) (x y : sessions.World) (before : AreBeside s V x) (behind : AreBeside s W y) (old : DeviceRuns s before.items x i o) (new : DeviceRuns s behind.items y i o)
+module _ (s : WireView) (i : ℕ) (o : Owned) (V W : ByteWorld) (x y : sessions.AppWorld) (before : Simulates s V x) (following : Simulates s W y) (old : DeviceSimulates s before.items x i o) (new : DeviceSimulates s following.items y i o)
     (t : links.Session ItemOut) (u : links.Session ItemOut) (m n : ℕ) (here : old.view.sessions m ≡ Some t) (there : new.view.sessions n ≡ Some u) (a b : Session) (one : IsSession stanzas_read (seen_session t) a) (two : IsSession stanzas_read (seen_session u) b) (further : Further a b) where
   built_here : All (IsUp o) t.up.put
   built_here = (old.built m (seen_session t) (ap seen_as here)).up
@@ -137,12 +137,12 @@ module _ (s : WireView) (i : ℕ) (o : Owned) (V W : World) (x y : sessions.Worl
 
 -- ---- all sessions
 
-module _ (s : WireView) (right : IsWireSchedule s) (i : ℕ) (o : Owned) (owned : slice_get (owned_of s) i ≡ Some o) (V W : World) (x y : sessions.World) (kept_V : IsKept s V) (kept_W : IsKept s W) (before : AreBeside s V x) (behind : AreBeside s W y) (es : List Event) (reaches : Reaches es x y) where
-  abbrev old : DeviceRuns s before.items x i o
+module _ (s : WireView) (right : IsWireSchedule s) (i : ℕ) (o : Owned) (owned : slice_get (owned_of s) i ≡ Some o) (V W : ByteWorld) (x y : sessions.AppWorld) (kept_V : IsWorldKept s V) (kept_W : IsWorldKept s W) (before : Simulates s V x) (following : Simulates s W y) (es : List AppEvent) (reaches : Reaches es x y) where
+  abbrev old : DeviceSimulates s before.items x i o
   old = before.runs.devices i o owned
 
-  abbrev new : DeviceRuns s behind.items y i o
-  new = behind.runs.devices i o owned
+  abbrev new : DeviceSimulates s following.items y i o
+  new = following.runs.devices i o owned
 
   -- the session of an epoch is at its place in the next world too
   record Next (e : ℕ) (a : Session) : Type 0 where
@@ -180,9 +180,9 @@ module _ (s : WireView) (right : IsWireSchedule s) (i : ℕ) (o : Owned) (owned 
       let found = has_epoch new.view (link_kept new.view reached_new) e (all_reached new.view reached_new) low (omega (arith, within, long, known)) in
       let (u, there, is) = found_pair (new.view.sessions found.0) found.1 found.2 in
       let later = of_pair u found.1 e is found.3 in
-      let w = of_an_epoch s right W y kept_W behind i o owned found.0 e u there later in
+      let w = of_an_epoch s right W y kept_W following i o owned found.0 e u there later in
       let same : n.session ≡ w.session = same_there (new.device.sessions.past ++ new.device.sessions.now ∷ []) e n.session w.session n.at w.at in
-      (found.0, pair_of u, pair_there (new.view.sessions found.0) u there, later, goes_on s i o V W x y before behind old new t u number found.0 here there z.session w.session z.is w.is (subst (Further z.session) same n.further))
+      (found.0, pair_of u, pair_there (new.view.sessions found.0) u there, later, goes_on s i o V W x y before following old new t u number found.0 here there z.session w.session z.is w.is (subst (Further z.session) same n.further))
 
   pub go_on : GoOn pairs_old pairs_new
   go_on number e p at epoch =
@@ -192,18 +192,18 @@ module _ (s : WireView) (right : IsWireSchedule s) (i : ℕ) (o : Owned) (owned 
 -- ---- the course
 
 module _ (s : WireView) (right : IsWireSchedule s) (i : ℕ) (o : Owned) (owned : slice_get (owned_of s) i ≡ Some o) where
-  abbrev beside : (j : ℕ) (W : World) → slice_get (history_of s) j ≡ Some W → HasBeside s W
+  abbrev beside : (j : ℕ) (W : ByteWorld) → slice_get (history_of s) j ≡ Some W → HasBeside s W
   beside j W at = world_at s (history_of s) (begins s) j W (chain_of s right) at
 
-  abbrev pairs_at : (j : ℕ) (W : World) → slice_get (history_of s) j ≡ Some W → HasPairs s W i o
+  abbrev pairs_at : (j : ℕ) (W : ByteWorld) → slice_get (history_of s) j ≡ Some W → HasPairs s W i o
   pairs_at j W at = pairs_here s W (beside j W at).0 (beside j W at).1 i o owned
 
-  told_at : (j : ℕ) (W : World) (at : slice_get (history_of s) j ≡ Some W) → AreTold W i o (pairs_at j W at).pairs
-  told_at j W at =
+  info_at : (j : ℕ) (W : ByteWorld) (at : slice_get (history_of s) j ≡ Some W) → AreTold W i o (pairs_at j W at).pairs
+  info_at j W at =
       let b = beside j W at in
       subst (AreTold W i o) (sym (pairs_are s W b.0 b.1 i o owned)) (told_here s right W b.0 (kept_at s j W at) b.1 i o owned)
 
-  goes_at : (j : ℕ) (V W : World) (one : slice_get (history_of s) j ≡ Some V) (two : slice_get (history_of s) (suc j) ≡ Some W) → GoOn (pairs_at j V one).pairs (pairs_at (suc j) W two).pairs
+  goes_at : (j : ℕ) (V W : ByteWorld) (one : slice_get (history_of s) j ≡ Some V) (two : slice_get (history_of s) (suc j) ≡ Some W) → GoOn (pairs_at j V one).pairs (pairs_at (suc j) W two).pairs
   goes_at j V W one two =
       let a = beside j V one in
       let b = beside (suc j) W two in
@@ -213,4 +213,4 @@ module _ (s : WireView) (right : IsWireSchedule s) (i : ℕ) (o : Owned) (owned 
       (go_on s right i o owned V W a.0 b.0 (kept_at s j V one) (kept_at s (suc j) W two) a.1 b.1 e.0 e.1))
 
   pub course : HasCourse s i o
-  course = record { pairs = pairs_at; told = told_at; goes = goes_at }
+  course = record { pairs = pairs_at; told = info_at; goes = goes_at }

@@ -5,13 +5,13 @@ use Rattle.std.proofs.lemmas.Option.{same_Some}
 use Rattle.std.specs.List.{AllByRecursion, filter, flat_map, slice_get}
 use Rattle.std.specs.Option.{option_map}
 use Rattle.base_lemmas.proofs.Lists.{AllByRecursion-weaker}
-use Rattle.sim_3_images.specs.Mild.{ClientFits}
+use Rattle.sim_3_images.specs.Relayable.{ClientFits}
 use Rattle.cmd_network.specs.DeviceLines.{said_line}
 use Rattle.cmd_network.specs.Devices.{DeviceState}
 use Rattle.base_io.specs.Names.{is_among}
 use Rattle.sim_3_images.proofs.NetworkMoves.{found_both}
-use Rattle.sim_3_images.specs.WorldImages.{DeviceImage}
-use Rattle.sim_3_items.specs.Deeds.{awaits}
+use Rattle.sim_3_images.specs.WorldEncodings.{DeviceEncodes}
+use Rattle.sim_3_items.specs.Labels.{awaits}
 use Rattle.sim_3_items.specs.Items.{stanzas_read}
 use Rattle.sim_3_items.specs.ItemWorlds.{ItemDevice}
 use Rattle.sim_2_links.proofs.Reached.{link_kept}
@@ -31,7 +31,7 @@ use Rattle.cmd_schedule.specs.Contents.{Owned, accounts_of}
 use Rattle.cmd_schedule.specs.Schedules.{WireView, keep_of}
 use Rattle.cmd_schedule.specs.WireGrammar.{IsWireSchedule, nothing_above}
 use Rattle.cmd_schedule.specs.declared.schedule.Version.{Version}
-use Rattle.sim_7_schedules.specs.Besides.{AreBeside, bounds}
+use Rattle.sim_7_schedules.specs.Simulation.{Simulates, bounds}
 use Rattle.sim_1_applications.proofs.Later.{later_along}
 use Rattle.sim_1_applications.proofs.Runs.{taken_along, taken_beginning}
 use Rattle.sim_1_applications.specs.Devices as sessions
@@ -49,17 +49,17 @@ use Rattle.sim_7_schedules.proofs.ReachedEpochs.{all_reached}
 use Rattle.sim_7_schedules.proofs.SessionPairs.{found_pair, has_epoch, pair_of}
 use Rattle.sim_7_schedules.specs.Messages.{AreTold, HasMessages, Told, messages_in, of_epoch, said_lines, taken_of, told, told_said, told_taken}
 use Rattle.sim_7_schedules.specs.Pairs.{HasEpoch, Pair}
-use Rattle.cmd_world.specs.Worlds.{World}
-use Rattle.sim_3_images.specs.Kept.{IsKept}
-use Rattle.sim_5_moves.specs.Running.{DeviceRuns}
+use Rattle.cmd_world.specs.Worlds.{ByteWorld}
+use Rattle.sim_3_images.specs.Kept.{IsWorldKept}
+use Rattle.sim_5_moves.specs.Running.{DeviceSimulates}
 use Rattle.xml_writer.specs.Items.{ItemOut}
 
 told_same : (version : Version) (owned : List Owned) (ts : List sessions.Take) → map told_taken (map (take_line version) (map (take_of owned) ts)) ≡ map told (map said_in ts)
 told_same version owned [] = refl
 told_same version owned (t ∷ ts) = ap (λ l. told t.said ∷ l) (told_same version owned ts)
 
-module _ (s : WireView) (right : IsWireSchedule s) (W : World) (x : sessions.World) (kept : IsKept s W) (beside : AreBeside s W x) (i : ℕ) (o : Owned) (owned : slice_get (owned_of s) i ≡ Some o) where
-  abbrev pub here : DeviceRuns s beside.items x i o
+module _ (s : WireView) (right : IsWireSchedule s) (W : ByteWorld) (x : sessions.AppWorld) (kept : IsWorldKept s W) (beside : Simulates s W x) (i : ℕ) (o : Owned) (owned : slice_get (owned_of s) i ≡ Some o) where
+  abbrev pub here : DeviceSimulates s beside.items x i o
   here = beside.runs.devices i o owned
 
   taken : Taken x
@@ -91,8 +91,8 @@ module _ (s : WireView) (right : IsWireSchedule s) (W : World) (x : sessions.Wor
 
   said_are : (d : DeviceState) → slice_get W.devices i ≡ Some d → map said_line (all_said d.client.client.said) ≡ said_of here.device.sessions
   said_are d at =
-      let found = found_both (DeviceImage ClientFits) d (slice_get W.devices i) (slice_get beside.items.devices i) at (beside.image.devices i) in
-      let same : found.other ≡ here.shows.device = same_Some found.other here.shows.device (sym found.is ∙ here.shows.there) in
+      let found = found_both (DeviceEncodes ClientFits) d (slice_get W.devices i) (slice_get beside.items.devices i) at (beside.encodes.devices i) in
+      let same : found.other ≡ here.represents.device = same_Some found.other here.represents.device (sym found.is ∙ here.represents.there) in
       ap (λ c. map said_line (all_said c.said)) found.holds.client ∙ ap (λ (e : ItemDevice). map said_line (all_said e.client.said)) same ∙ here.submissions.said
 
   known : DeviceTaken x i here.device
@@ -125,7 +125,7 @@ module _ (s : WireView) (right : IsWireSchedule s) (W : World) (x : sessions.Wor
 
   takes_are : map told_taken (taken_of o.device W.takes) ≡ map told (map said_in (filter (is_of i) x.takes))
   takes_are =
-      let lines = (world.reported s bounds beside.says W beside.items x right small kept beside.image beside.runs).takes in
+      let lines = (world.reported s bounds beside.says W beside.items x right small kept beside.encodes beside.runs).takes in
       let differ = names_differ (steps_in s) (wire_stand [] nothing_above 2 s.lines refl right.lines) in
       ap (λ ls. map told_taken (taken_of o.device ls)) lines
       ∙ ap (map told_taken) (lines_of_device s.version (owned_of s) i o x.takes differ owned within)

@@ -5,20 +5,20 @@ use Rattle.std.specs.List.{slice_get}
 use Rattle.std.specs.Option.{option_map}
 use Rattle.sm_acks.proofs.Directions.{got_prefix, kept_reached}
 use Rattle.sm_acks.specs.Delivery.{IsPrefix}
-use Rattle.law_client.specs.Turned as client
-use Rattle.sim_3_images.specs.Mild.{ClientFits}
-use Rattle.srv_state.specs.State.{Hall}
-use Rattle.sim_3_images.specs.Devices.{account_place}
-use Rattle.sim_3_items.specs.Clients.{IsOwnShown}
-use Rattle.sim_3_items.specs.Deeds.{awaits}
-use Rattle.sim_3_items.specs.Servers.{IsRowShown}
+use Rattle.law_client.specs.Rendered as client
+use Rattle.sim_3_images.specs.Relayable.{ClientFits}
+use Rattle.srv_state.specs.State.{ServerState}
+use Rattle.sim_3_images.specs.Devices.{account_position}
+use Rattle.sim_3_items.specs.Clients.{IsOwnRepresented}
+use Rattle.sim_3_items.specs.Labels.{awaits}
+use Rattle.sim_3_items.specs.Servers.{IsRowRepresented}
 use Rattle.sim_3_items.specs.WordItems.{told_count}
 use Rattle.sim_3_images.proofs.NetworkMoves.{found_both}
-use Rattle.sim_3_images.specs.WorldImages.{DeviceImage}
+use Rattle.sim_3_images.specs.WorldEncodings.{DeviceEncodes}
 use Rattle.sim_3_items.specs.Items.{stanzas_read}
 use Rattle.sim_3_items.specs.ItemWorlds.{ItemDevice}
 use Rattle.sim_2_events.specs.Lists.{IsDevice, IsRow}
-use Rattle.sim_5_moves.specs.Running.{DeviceRuns}
+use Rattle.sim_5_moves.specs.Running.{DeviceSimulates}
 use Rattle.cmd_network.specs.Devices.{DeviceState}
 use Rattle.sim_2_links.proofs.Promised.{server_end}
 use Rattle.sim_2_links.proofs.Reached.{link_kept}
@@ -34,15 +34,15 @@ use Rattle.sm_outbox.specs.Sessions as outbox
 use Rattle.sm_resumption.specs.Previds.{previd_of}
 use Rattle.cmd_schedule.specs.Contents.{Owned, accounts_of}
 use Rattle.cmd_schedule.specs.Schedules.{WireView}
-use Rattle.sim_7_schedules.specs.Besides.{AreBeside}
-use Rattle.law_server.proofs.SessionsTurned.{named_turned}
-use Rattle.law_server.specs.Turned as server
+use Rattle.sim_7_schedules.specs.Simulation.{Simulates}
+use Rattle.law_server.proofs.SessionsRendered.{named_rendered}
+use Rattle.law_server.specs.Rendered as server
 use Rattle.sim_1_applications.specs.Devices as sessions
 use Rattle.sim_1_applications.specs.Runs.{owned_of}
 use Rattle.sim_7_schedules.proofs.ReachedEpochs.{AreReached, all_reached}
 use Rattle.sim_7_schedules.specs.Pairs.{HasEpoch, HasPairs, IsClientsEnd, IsPair, IsServersEnd, IsUnused, Pair}
 use Rattle.cmd_world.specs.Histories.{common_steps}
-use Rattle.cmd_world.specs.Worlds.{World}
+use Rattle.cmd_world.specs.Worlds.{ByteWorld}
 use Rattle.xml_writer.specs.Items.{ItemOut, written_item}
 
 abbrev pub pair_of : links.Session ItemOut → Pair
@@ -64,13 +64,13 @@ module _ (v : View ItemOut) (kept : LinkKept v) where
   abbrev ServersPair : live.Session (List ℕ) → Type 0
   ServersPair t = (p : Pair) × (pairs_of t.shown.number ≡ Some p) × IsServersEnd t p
 
-  server_by : (row : Option (Row ItemOut)) (found : Option (live.Session ItemOut)) (t : live.Session (List ℕ)) → v.row ≡ row → IsRowShown row found → option_map (server.session_turned written_item) found ≡ Some t → ServersPair t
+  server_by : (row : Option (Row ItemOut)) (found : Option (live.Session ItemOut)) (t : live.Session (List ℕ)) → v.row ≡ row → IsRowRepresented row found → option_map (server.session_rendered written_item) found ≡ Some t → ServersPair t
   server_by None None t row is at = absurd (none-some t at)
   server_by None (Some u) t row is at = absurd is
   server_by (Some r) None t row is at = absurd is
   server_by (Some r) (Some u) t row is at =
       let (s, there, end) = server_end v r kept row in
-      subst ServersPair (same_Some (server.session_turned written_item u) t at) (
+      subst ServersPair (same_Some (server.session_rendered written_item u) t at) (
         pair_of s,
         ap pairs_of is.number ∙ ap (option_map pair_of) there,
         record {
@@ -85,13 +85,13 @@ module _ (v : View ItemOut) (kept : LinkKept v) where
   abbrev ClientsPair : ℕ → outbox.SessionView (List ℕ) → Type 0
   ClientsPair epoch t = (number : ℕ) × (p : Pair) × (t.previd ≡ previd_of number) × (pairs_of number ≡ Some p) × (p.epoch ≡ Some epoch) × IsClientsEnd t p
 
-  client_by : (epoch : ℕ) → epoch ≡ v.epoch → (own : Option (Own ItemOut)) (found : Option (outbox.SessionView ItemOut)) (t : outbox.SessionView (List ℕ)) → v.own ≡ own → IsOwnShown own found → option_map (client.session_turned written_item) found ≡ Some t → ClientsPair epoch t
+  client_by : (epoch : ℕ) → epoch ≡ v.epoch → (own : Option (Own ItemOut)) (found : Option (outbox.SessionView ItemOut)) (t : outbox.SessionView (List ℕ)) → v.own ≡ own → IsOwnRepresented own found → option_map (client.session_rendered written_item) found ≡ Some t → ClientsPair epoch t
   client_by epoch same None None t own is at = absurd (none-some t at)
   client_by epoch same None (Some u) t own is at = absurd is
   client_by epoch same (Some o) None t own is at = absurd is
   client_by epoch same (Some o) (Some u) t own is at =
       let end = kept.own o own in
-      subst (ClientsPair epoch) (same_Some (client.session_turned written_item u) t at) (
+      subst (ClientsPair epoch) (same_Some (client.session_rendered written_item u) t at) (
         o.number,
         pair_of end.session,
         is.previd,
@@ -138,14 +138,14 @@ module _ (v : View ItemOut) (d : sessions.Sessions) (is : IsDevice stanzas_read 
       )
 
   -- the server has the session of the client's present epoch, or one of which the client hasn't read
-  newest_by : (epoch : ℕ) → epoch ≡ v.epoch → (row : Option (Row ItemOut)) (found : Option (live.Session ItemOut)) (t : live.Session (List ℕ)) (p : Pair) → v.row ≡ row → IsRowShown row found → option_map (server.session_turned written_item) found ≡ Some t →
+  newest_by : (epoch : ℕ) → epoch ≡ v.epoch → (row : Option (Row ItemOut)) (found : Option (live.Session ItemOut)) (t : live.Session (List ℕ)) (p : Pair) → v.row ≡ row → IsRowRepresented row found → option_map (server.session_rendered written_item) found ≡ Some t →
       pairs_in t.shown.number ≡ Some p → (p.epoch ≡ None) ⊎ (p.epoch ≡ Some epoch)
   newest_by epoch same None None t p row shown at pair = absurd (none-some t at)
   newest_by epoch same None (Some u) t p row shown at pair = absurd shown
   newest_by epoch same (Some r) None t p row shown at pair = absurd shown
   newest_by epoch same (Some r) (Some u) t p row shown at pair =
       let rowed : IsRow (seen v) d.row (Some r.number) = subst (λ (y : Option (Row ItemOut)). IsRow (seen v) d.row (row_number y)) row is.row in
-      let number : t.shown.number ≡ r.number = ap (λ (y : live.Session (List ℕ)). y.shown.number) (sym (same_Some (server.session_turned written_item u) t at)) ∙ shown.number in
+      let number : t.shown.number ≡ r.number = ap (λ (y : live.Session (List ℕ)). y.shown.number) (sym (same_Some (server.session_rendered written_item u) t at)) ∙ shown.number in
       let a = found_pair (v.sessions t.shown.number) p pair in
       let one : seen_session a.0 ≡ rowed.0 = same_Some (seen_session a.0) rowed.0 (sym (ap seen_as (ap v.sessions (sym number) ∙ a.1)) ∙ rowed.1) in
       let epochs : p.epoch ≡ rowed.0.epoch = ap (λ (x : Pair). x.epoch) (sym a.2) ∙ ap (λ (x : SeenSession ItemOut). x.epoch) one in
@@ -157,28 +157,28 @@ module _ (v : View ItemOut) (d : sessions.Sessions) (is : IsDevice stanzas_read 
       let one : a.0.epoch ≡ Some e = ap (λ (x : Pair). x.epoch) a.2 ∙ of in
       (are.some number e (seen_session a.0) (ap seen_as a.1) one, subst (λ n. e ≤ n) (sym same) (is.below number e (seen_session a.0) (ap seen_as a.1) one))
 
-module _ (s : WireView) (W : World) (x : sessions.World) (beside : AreBeside s W x) (i : ℕ) (o : Owned) (owned : slice_get (owned_of s) i ≡ Some o) where
-  abbrev dr : DeviceRuns s beside.items x i o
+module _ (s : WireView) (W : ByteWorld) (x : sessions.AppWorld) (beside : Simulates s W x) (i : ℕ) (o : Owned) (owned : slice_get (owned_of s) i ≡ Some o) where
+  abbrev dr : DeviceSimulates s beside.items x i o
   dr = beside.runs.devices i o owned
 
   abbrev reached : LinkReached dr.view
   reached = prompt_runs awaits dr.view dr.prompt
 
   -- the device of a world of bytes is that of items
-  device_is : (d : DeviceState) → slice_get W.devices i ≡ Some d → (e : ItemDevice) × (d.client.client ≡ client.client_turned written_item e.client) × (e ≡ dr.shows.device)
+  device_is : (d : DeviceState) → slice_get W.devices i ≡ Some d → (e : ItemDevice) × (d.client.client ≡ client.client_rendered written_item e.client) × (e ≡ dr.represents.device)
   device_is d here =
-      let found = found_both (DeviceImage ClientFits) d (slice_get W.devices i) (slice_get beside.items.devices i) here (beside.image.devices i) in
-      (found.other, found.holds.client, same_Some found.other dr.shows.device (sym found.is ∙ dr.shows.there))
+      let found = found_both (DeviceEncodes ClientFits) d (slice_get W.devices i) (slice_get beside.items.devices i) here (beside.encodes.devices i) in
+      (found.other, found.holds.client, same_Some found.other dr.represents.device (sym found.is ∙ dr.represents.there))
 
   pub epoch_is : (d : DeviceState) → slice_get W.devices i ≡ Some d → d.client.client.epoch ≡ dr.view.epoch
-  epoch_is d here = let e = device_is d here in ap (λ c. c.epoch) e.1 ∙ ap (λ (y : ItemDevice). y.client.epoch) e.2 ∙ dr.shows.client.epoch
+  epoch_is d here = let e = device_is d here in ap (λ c. c.epoch) e.1 ∙ ap (λ (y : ItemDevice). y.client.epoch) e.2 ∙ dr.represents.client.epoch
 
-  abbrev place : ℕ
-  place = account_place o.account (accounts_of (common_steps s))
+  abbrev position : ℕ
+  position = account_position o.account (accounts_of (common_steps s))
 
   -- and so is the server
-  turned : (t : live.Session (List ℕ)) → session_named place o.device W.server.hall.sessions ≡ Some t → option_map (server.session_turned written_item) (session_named place o.device beside.items.server.sessions) ≡ Some t
-  turned t at = sym (named_turned written_item place o.device beside.items.server.sessions) ∙ sym (ap (λ (h : Hall (List ℕ)). session_named place o.device h.sessions) beside.image.hall) ∙ at
+  rendered : (t : live.Session (List ℕ)) → session_named position o.device W.server.server_state.sessions ≡ Some t → option_map (server.session_rendered written_item) (session_named position o.device beside.items.server.sessions) ≡ Some t
+  rendered t at = sym (named_rendered written_item position o.device beside.items.server.sessions) ∙ sym (ap (λ (h : ServerState (List ℕ)). session_named position o.device h.sessions) beside.encodes.server_state) ∙ at
 
   pub pairs_here : HasPairs s W i o
   pairs_here =
@@ -186,19 +186,19 @@ module _ (s : WireView) (W : World) (x : sessions.World) (beside : AreBeside s W
       record {
         pairs = pairs_of dr.view kept;
         each = each_pair dr.view kept;
-        server = λ t at. server_by dr.view kept dr.view.row (session_named place o.device beside.items.server.sessions) t refl dr.shows.server.row (turned t at);
-        newest = λ d t p here at. newest_by dr.view dr.device.sessions dr.sessions d.client.client.epoch (epoch_is d here) dr.view.row (session_named place o.device beside.items.server.sessions) t p refl dr.shows.server.row (turned t at);
+        server = λ t at. server_by dr.view kept dr.view.row (session_named position o.device beside.items.server.sessions) t refl dr.represents.server.row (rendered t at);
+        newest = λ d t p here at. newest_by dr.view dr.device.sessions dr.sessions d.client.client.epoch (epoch_is d here) dr.view.row (session_named position o.device beside.items.server.sessions) t p refl dr.represents.server.row (rendered t at);
         client = λ d t here at.
             let e = device_is d here in
-            let written : option_map (client.session_turned written_item) e.0.client.session ≡ Some t = sym (ap (λ c. c.session) e.1) ∙ at in
-            client_by dr.view kept d.client.client.epoch (epoch_is d here) dr.view.own e.0.client.session t refl (subst (λ (y : ItemDevice). IsOwnShown dr.view.own y.client.session) (sym e.2) dr.shows.client.own) written;
+            let written : option_map (client.session_rendered written_item) e.0.client.session ≡ Some t = sym (ap (λ c. c.session) e.1) ∙ at in
+            client_by dr.view kept d.client.client.epoch (epoch_is d here) dr.view.own e.0.client.session t refl (subst (λ (y : ItemDevice). IsOwnRepresented dr.view.own y.client.session) (sym e.2) dr.represents.client.own) written;
         reached = λ d here e low high. has_epoch dr.view kept e (all_reached dr.view reached) low (subst (λ n. e ≤ n) (epoch_is d here) high);
         within = λ d here. within_by dr.view dr.device.sessions dr.sessions d.client.client.epoch (epoch_is d here) (all_reached dr.view reached);
         once = once_by dr.view dr.device.sessions dr.sessions;
         unread = unread_by dr.view dr.device.sessions dr.sessions;
       }
 
-pub pairs_are : (s : WireView) (W : World) (x : sessions.World) (beside : AreBeside s W x) (i : ℕ) (o : Owned) (owned : slice_get (owned_of s) i ≡ Some o) →
+pub pairs_are : (s : WireView) (W : ByteWorld) (x : sessions.AppWorld) (beside : Simulates s W x) (i : ℕ) (o : Owned) (owned : slice_get (owned_of s) i ≡ Some o) →
     (pairs_here s W x beside i o owned).pairs ≡ (λ number. option_map pair_of ((beside.runs.devices i o owned).view.sessions number))
 unfolding pairs_here
 pairs_are s W x beside i o owned = refl

@@ -10,20 +10,20 @@ use Rattle.std.specs.Str.{bytes_eq}
 use Rattle.mam_archive.specs.Entries.{EntryView, newest}
 use Rattle.base_lemmas.proofs.Bytes.{bytes_eq-self}
 use Rattle.cl_handlers.specs.Clients.{ClientView}
-use Rattle.sim_3_images.specs.Mild.{ClientFits, DownFits, HallFits, UpFits}
-use Rattle.srv_state.specs.State.{Hall, Kept}
+use Rattle.sim_3_images.specs.Relayable.{ClientFits, DownFits, ServerFits, UpFits}
+use Rattle.srv_state.specs.State.{Kept, ServerState}
 use Rattle.cmd_network.specs.Devices.{DeviceState}
 use Rattle.base_io.specs.Names.{is_among}
-use Rattle.sim_3_images.specs.Stands.{StandingHalls}
-use Rattle.sim_3_images.specs.WorldImages.{WorldImage}
+use Rattle.sim_3_images.specs.Stands.{StandingServers}
+use Rattle.sim_3_images.specs.WorldEncodings.{WorldEncodes}
 use Rattle.sim_3_items.specs.ItemWorlds.{ItemWorld}
 use Rattle.mam_log.specs.Views.{LogView}
 use Rattle.mam_log.specs.declared.log_entry.LogEntry.{LogEntry}
 use Rattle.mam_log.specs.declared.tile.Tile.{Tile}
-use Rattle.sim_5_devices.specs.Shown.{LogShows, page_shown, tile_shown}
+use Rattle.sim_5_devices.specs.Shown.{LogRepresents, page_shown, tile_shown}
 use Rattle.sim_7_schedules.proofs.AccountLines.{archive_of_name}
 use Rattle.sim_7_schedules.proofs.Ground.{exist, keeps}
-use Rattle.sim_7_schedules.proofs.Settled.{device_image}
+use Rattle.sim_7_schedules.proofs.Settled.{device_encodes}
 use Rattle.sim_7_schedules.proofs.WorldTold.{archive_is}
 use Rattle.sim_7_schedules.specs.ShownWorlds.{asked_in, entries_for, log_named, pages_cut, pages_in, shown_of, underway}
 use Rattle.cmd_schedule.specs.Contents.{Owned}
@@ -36,9 +36,9 @@ use Rattle.sim_1_applications.proofs.Owners.{Differ, name_other, names_differ, n
 use Rattle.sim_1_applications.proofs.WireSteps.{wire_stand}
 use Rattle.sim_1_applications.specs.Reported.{IsShown, history_at}
 use Rattle.sim_1_applications.specs.Runs.{owned_of, steps_in}
-use Rattle.cmd_world.specs.Worlds.{World}
-use Rattle.sim_3_images.specs.Kept.{IsKept, owned_by}
-use Rattle.sim_5_moves.specs.Running.{Bounds, DeviceRuns, WorldRuns, keep_in}
+use Rattle.cmd_world.specs.Worlds.{ByteWorld}
+use Rattle.sim_3_images.specs.Kept.{IsWorldKept, owned_by}
+use Rattle.sim_5_moves.specs.Running.{Bounds, DeviceSimulates, WorldSimulates, keep_in}
 use Rattle.sim_5_moves.specs.Running as running
 
 -- ---- archives
@@ -84,17 +84,17 @@ asked_by history b (Some page) = refl
 
 -- ---- a world
 
-module _ (schedule : WireView) (b : Bounds) (says : ℕ) (w : World) (v : ItemWorld) (x : sessions.World) (right : IsWireSchedule schedule) (kept : IsKept schedule w) (image : WorldImage UpFits DownFits (StandingHalls HallFits) ClientFits w v)
-    (runs : WorldRuns schedule b says v x) where
+module _ (schedule : WireView) (b : Bounds) (says : ℕ) (w : ByteWorld) (v : ItemWorld) (x : sessions.AppWorld) (right : IsWireSchedule schedule) (kept : IsWorldKept schedule w) (encodes : WorldEncodes UpFits DownFits (StandingServers ServerFits) ClientFits w v)
+    (runs : WorldSimulates schedule b says v x) where
   differ : Differ (names_of (owned_of schedule))
   differ = names_differ (steps_in schedule) (wire_stand [] nothing_above 2 schedule.lines refl right.lines)
 
-  archive_shown : (account : List ℕ) → is_among account x.accounts ≡ true → entries_for account w.accounts w.server.hall.archives ≡ newest x.keep (history_at (owned_of schedule) x.takes account)
+  archive_shown : (account : List ℕ) → is_among account x.accounts ≡ true → entries_for account w.accounts w.server.server_state.archives ≡ newest x.keep (history_at (owned_of schedule) x.takes account)
   archive_shown account is =
       let history = history_at (owned_of schedule) x.takes in
-      let many : length w.server.hall.archives ≡ length (running.names_of schedule) = ap (λ (h : Hall (List ℕ)). length h.archives) image.hall ∙ runs.server.many in
-      ap (λ names. entries_for account names w.server.hall.archives) kept.accounts
-      ∙ entries_found (keep_in schedule) history account (running.names_of schedule) w.server.hall.archives many (archive_is schedule b says w v x image runs)
+      let many : length w.server.server_state.archives ≡ length (running.names_of schedule) = ap (λ (h : ServerState (List ℕ)). length h.archives) encodes.server_state ∙ runs.server.many in
+      ap (λ names. entries_for account names w.server.server_state.archives) kept.accounts
+      ∙ entries_found (keep_in schedule) history account (running.names_of schedule) w.server.server_state.archives many (archive_is schedule b says w v x encodes runs)
       (subst (λ names. is_among account names ≡ true) (exist schedule right b says v x runs) is)
       ∙ ap (λ keep. newest keep (history account)) (sym (keeps schedule right b says v x runs))
 
@@ -102,17 +102,17 @@ module _ (schedule : WireView) (b : Bounds) (says : ℕ) (w : World) (v : ItemWo
   record HasLog (o : Owned) (d : Device) : Type 0 where
     log : LogView
     found : log_named o.device w.devices ≡ Some log
-    shows : LogShows (keep_in schedule) (running.history_for schedule x.takes o) log d.reading
+    represents : LogRepresents (keep_in schedule) (running.history_for schedule x.takes o) log d.reading
 
   has_log : (i : ℕ) (o : Owned) (d : Device) → slice_get (owned_of schedule) i ≡ Some o → slice_get x.devices i ≡ Some d → HasLog o d
   has_log i o d owner at =
       let one = runs.devices i o owner in
       let there = found_device i o owner in
-      let client = (device_image schedule w v x image kept i o one there.0 there.1).client in
+      let client = (device_encodes schedule w v x encodes kept i o one there.0 there.1).client in
       record {
-        log = one.shows.device.client.log;
+        log = one.represents.device.client.log;
         found = log_found (owned_of schedule) w.devices i o there.0 kept.owners differ owner there.1 ∙ ap (λ (c : ClientView (List ℕ)). Some c.log) client;
-        shows = subst (λ (e : Device). LogShows (keep_in schedule) (running.history_for schedule x.takes o) one.shows.device.client.log e.reading) (same_Some one.device d (sym one.there ∙ at)) one.log;
+        represents = subst (λ (e : Device). LogRepresents (keep_in schedule) (running.history_for schedule x.takes o) one.represents.device.client.log e.reading) (same_Some one.device d (sym one.there ∙ at)) one.log;
       }
     where
       found_by : (ds : List DeviceState) (i : ℕ) (o : Owned) → slice_get (map owned_by ds) i ≡ Some o → (e : DeviceState) × (slice_get ds i ≡ Some e)
@@ -128,11 +128,11 @@ module _ (schedule : WireView) (b : Bounds) (says : ℕ) (w : World) (v : ItemWo
     archive = archive_shown;
     pages = λ i o d owner at.
         let has = has_log i o d owner at in
-        ap (λ found. length (pages_in found)) has.found ∙ pages_many has.log.tiles has.log.entries ∙ ap (λ (ts : List Tile). length ts) has.shows.tiles ∙ length-map d.reading.tiles (tile_shown (keep_in schedule));
+        ap (λ found. length (pages_in found)) has.found ∙ pages_many has.log.tiles has.log.entries ∙ ap (λ (ts : List Tile). length ts) has.represents.tiles ∙ length-map d.reading.tiles (tile_shown (keep_in schedule));
     asked = λ i o d owner at.
         let has = has_log i o d owner at in
         ap asked_in has.found
-        ∙ ap (λ n. n + underway has.log.page) (ap (λ (ts : List Tile). length ts) has.shows.tiles ∙ length-map d.reading.tiles (tile_shown (keep_in schedule)))
-        ∙ ap (λ page. length d.reading.tiles + underway page) has.shows.page
+        ∙ ap (λ n. n + underway has.log.page) (ap (λ (ts : List Tile). length ts) has.represents.tiles ∙ length-map d.reading.tiles (tile_shown (keep_in schedule)))
+        ∙ ap (λ page. length d.reading.tiles + underway page) has.represents.page
         ∙ asked_by (running.history_for schedule x.takes o) d.reading d.reading.page;
   }

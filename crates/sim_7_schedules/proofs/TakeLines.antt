@@ -9,7 +9,7 @@ use Rattle.std.specs.List.{AllByRecursion, after_first, before_first, list_all}
 use Rattle.std.specs.Option.{unwrap_or}
 use Rattle.std.specs.Str.Parse.{AllDigits}
 use Rattle.base_lemmas.proofs.Lists.{list_all-weaker}
-use Rattle.sim_3_images.specs.WorldImages.{line_told}
+use Rattle.sim_3_images.specs.WorldEncodings.{line_reported}
 use Rattle.im_jid.specs.Cuts.{is_at, is_slash}
 use Rattle.im_payload.proofs.Numbers.{written_number}
 use Rattle.cmd_report.specs.Addresses.{bare_address, domain, full_address, origin_of}
@@ -18,7 +18,7 @@ use Rattle.cmd_report.specs.declared.report.TakeLine.{TakeLine}
 use Rattle.cmd_schedule.specs.Contents.{Owned}
 use Rattle.cmd_schedule.specs.Grammar.{is_digit, is_lower, is_name}
 use Rattle.cmd_schedule.specs.declared.schedule.Version.{Version}
-use Rattle.sim_3_items.specs.Served.{take_told}
+use Rattle.sim_3_items.specs.Served.{take_reported}
 use Rattle.sim_1_applications.specs.Devices.{Take}
 use Rattle.sim_1_applications.specs.Reported.{name_at, take_of}
 use Rattle.cmd_network.specs.Takes.{is_dot, number_spelled}
@@ -100,24 +100,24 @@ module _ (owned : List Owned) (t : Take) (is : IsTellable owned t) where
   epoch_plain : list_all (λ b. not (is_dot b)) (decimal t.said.epoch) ≡ true
   epoch_plain = undotted (decimal t.said.epoch) (decimal_is_IsNumeral t.said.epoch is.epoch).0.1
 
-  epoch_told : number_spelled (before_first is_dot (after_first is_dot (origin_of (name_at owned t.device) t.said.epoch t.said.n))) ≡ t.said.epoch
-  epoch_told =
+  epoch_of_id : number_spelled (before_first is_dot (after_first is_dot (origin_of (name_at owned t.device) t.said.epoch t.said.n))) ≡ t.said.epoch
+  epoch_of_id =
       ap (λ text. number_spelled (before_first is_dot text)) numbers_told
       ∙ ap number_spelled (before_first-joined is_dot (decimal t.said.epoch) 46 (decimal t.said.n) epoch_plain refl)
       ∙ spelled t.said.epoch is.epoch
 
-  n_told : number_spelled (after_first is_dot (after_first is_dot (origin_of (name_at owned t.device) t.said.epoch t.said.n))) ≡ t.said.n
-  n_told =
+  number_of_id : number_spelled (after_first is_dot (after_first is_dot (origin_of (name_at owned t.device) t.said.epoch t.said.n))) ≡ t.said.n
+  number_of_id =
       ap (λ text. number_spelled (after_first is_dot text)) numbers_told
       ∙ ap number_spelled (after_first-joined is_dot (decimal t.said.epoch) 46 (decimal t.said.n) epoch_plain refl)
       ∙ spelled t.said.n is.n
 
-  take_line_told : (version : Version) → line_told version (take_told owned t) ≡ take_line version (take_of owned t)
+  take_line_told : (version : Version) → line_reported version (take_reported owned t) ≡ take_line version (take_of owned t)
   take_line_told version =
       let line : TakeLine = take_line version (take_of owned t) in
-      ap₂ (λ device account. record (line_told version (take_told owned t)) { device = device; account = account }) device_told account_told
-      ∙ ap₂ (λ epoch n. record line { epoch = epoch; n = n }) epoch_told n_told
+      ap₂ (λ device account. record (line_reported version (take_reported owned t)) { device = device; account = account }) device_told account_told
+      ∙ ap₂ (λ epoch n. record line { epoch = epoch; n = n }) epoch_of_id number_of_id
 
-pub take_lines_told : (owned : List Owned) (version : Version) (takes : List Take) → AllByRecursion (IsTellable owned) takes → map (line_told version) (map (take_told owned) takes) ≡ map (take_line version) (map (take_of owned) takes)
+pub take_lines_told : (owned : List Owned) (version : Version) (takes : List Take) → AllByRecursion (IsTellable owned) takes → map (line_reported version) (map (take_reported owned) takes) ≡ map (take_line version) (map (take_of owned) takes)
 take_lines_told owned version [] all = refl
 take_lines_told owned version (t ∷ takes) all = ap₂ (λ line lines. line ∷ lines) (take_line_told owned t all.0 version) (take_lines_told owned version takes all.1)

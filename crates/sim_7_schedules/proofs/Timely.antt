@@ -12,42 +12,42 @@ use Rattle.sim_7_schedules.proofs.LineMoments.{asked, closed, dialed, down_still
 use Rattle.cmd_world.specs.Histories.{history_of, world_at_start, worlds_along, worlds_by}
 use Rattle.cmd_world.specs.Lines.{moves_of, stepped}
 use Rattle.cmd_world.specs.Moves.{CatchUp, Close, Cut, Dial, Down, Forget, Move, Say, Tick, Up, all_moved, moved}
-use Rattle.cmd_world.specs.Worlds.{World}
+use Rattle.cmd_world.specs.Worlds.{ByteWorld}
 
 -- no move turns the clock back
-grows : (m : Move) (w : World) → w.moment ≤ (moved m w).moment
+grows : (m : Move) (w : ByteWorld) → w.moment ≤ (moved m w).moment
 grows (Dial i) w = let same = dialed i (slice_get w.devices i) w in omega (arith, same)
 grows (Forget i) w = let same = forgot i (slice_get w.devices i) w in omega (arith, same)
 grows (Close i) w = let same = closed i (slice_get w.devices i) w in omega (arith, same)
 grows (Say i line to text private) w = let same = said i line to text private (slice_get w.devices i) w in omega (arith, same)
 grows (CatchUp i line most) w = let same = asked i line most (slice_get w.devices i) w in omega (arith, same)
 grows (Tick milliseconds) w = omega arith
-grows (Up place count) w = let same = up_still place count w in omega (arith, same)
-grows (Down place count) w = let same = down_still place count w in omega (arith, same)
-grows (Cut place up down) w = omega arith
+grows (Up position count) w = let same = up_still position count w in omega (arith, same)
+grows (Down position count) w = let same = down_still position count w in omega (arith, same)
+grows (Cut position up down) w = omega arith
 
-all_grow : (ms : List Move) (w : World) → w.moment ≤ (all_moved ms w).moment
+all_grow : (ms : List Move) (w : ByteWorld) → w.moment ≤ (all_moved ms w).moment
 all_grow [] w = omega arith
 all_grow (m ∷ ms) w = let one = grows m w in let more = all_grow ms (moved m w) in omega (arith, one, more)
 
 -- so the moment within a line is at most the one behind it
-within : (ms : List Move) (w : World) (most : ℕ) → (all_moved ms w).moment ≤ most → AllByRecursion (λ (v : World). v.moment ≤ most) (worlds_by ms w)
+within : (ms : List Move) (w : ByteWorld) (most : ℕ) → (all_moved ms w).moment ≤ most → AllByRecursion (λ (v : ByteWorld). v.moment ≤ most) (worlds_by ms w)
 within [] w most last = tt
 within (m ∷ ms) w most last = ((let more = all_grow ms (moved m w) in omega (arith, more, last)), within ms (moved m w) most last)
 
-timely_all : (vs : List World) (number : ℕ) → number ≤ 100000 → AllByRecursion (λ (v : World). v.moment ≤ (number + 1) * 1000000000) vs → AllByRecursion IsTimely vs
+timely_all : (vs : List ByteWorld) (number : ℕ) → number ≤ 100000 → AllByRecursion (λ (v : ByteWorld). v.moment ≤ (number + 1) * 1000000000) vs → AllByRecursion IsTimely vs
 timely_all [] number few all = tt
 timely_all (v ∷ vs) number few all = ((let low = all.0 in let far : v.moment ≤ 253402207200000 = omega (arith, few, low) in far), timely_all vs number few all.1)
 
-lines_timely : (lines : List WireLine) (above : WireAbove) (number : ℕ) (w : World) → AreWireLines above number lines → w.moment ≤ number * 1000000000 → AllByRecursion IsTimely (worlds_along lines w)
+lines_timely : (lines : List WireLine) (above : WireAbove) (number : ℕ) (w : ByteWorld) → AreWireLines above number lines → w.moment ≤ number * 1000000000 → AllByRecursion IsTimely (worlds_along lines w)
 lines_timely [] above number w are low = tt
 lines_timely (line ∷ lines) above number w are low =
     let soon = line_moment w.names (length w.wires) line.number w above line.step are.2 in
-    let behind : (stepped line w).moment ≤ (number + 1) * 1000000000 = omega (arith, low, soon) in
-    all_append IsTimely (worlds_by (moves_of line w) w) (worlds_along lines (stepped line w)) (timely_all (worlds_by (moves_of line w) w) number are.1 (within (moves_of line w) w ((number + 1) * 1000000000) behind))
-    (lines_timely lines (above_by line.step above) (number + 1) (stepped line w) are.4 behind)
+    let following : (stepped line w).moment ≤ (number + 1) * 1000000000 = omega (arith, low, soon) in
+    all_append IsTimely (worlds_by (moves_of line w) w) (worlds_along lines (stepped line w)) (timely_all (worlds_by (moves_of line w) w) number are.1 (within (moves_of line w) w ((number + 1) * 1000000000) following))
+    (lines_timely lines (above_by line.step above) (number + 1) (stepped line w) are.4 following)
 
-pub timely_at : (s : WireView) → IsWireSchedule s → (j : ℕ) (w : World) → slice_get (history_of s) j ≡ Some w → IsTimely w
+pub timely_at : (s : WireView) → IsWireSchedule s → (j : ℕ) (w : ByteWorld) → slice_get (history_of s) j ≡ Some w → IsTimely w
 timely_at s right j w at =
     let all : AllByRecursion IsTimely (history_of s) = (omega arith, lines_timely s.lines nothing_above 2 (world_at_start s) right.lines (omega arith)) in
     subst (λ o. IfSome o IsTimely) at (all_at IsTimely (history_of s) j all)

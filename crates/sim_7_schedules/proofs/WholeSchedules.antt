@@ -10,12 +10,12 @@ use Rattle.sim_7_schedules.proofs.LinesDone.{lines_done}
 use Rattle.cmd_schedule.specs.Schedules.{WireView}
 use Rattle.cmd_schedule.specs.WireGrammar.{IsWireSchedule, nothing_above}
 use Rattle.sim_7_schedules.proofs.FirstLinesBeginning.{first}
-use Rattle.sim_7_schedules.specs.Besides.{EachMoveRuns, ScheduleRuns, bounds}
+use Rattle.sim_7_schedules.specs.Simulation.{EachMoveSimulates, ScheduleSimulates, bounds}
 use Rattle.sim_1_applications.specs.Devices.{Device, new_device}
 use Rattle.sim_1_applications.specs.Events.{devices_of}
 use Rattle.sim_1_applications.specs.Runs.{begins, owned_of}
 use Rattle.cmd_world.specs.Histories.{world_at_start}
-use Rattle.sim_5_moves.specs.Running.{WorldRuns}
+use Rattle.sim_5_moves.specs.Running.{WorldSimulates}
 
 -- ---- the beginning
 
@@ -26,7 +26,7 @@ none_asked (home ∷ homes) (suc i) d at = none_asked homes i d at
 
 module _ (s : WireView) where
   -- no event led here, so nobody has said anything
-  anew : (says : ℕ) (w : ItemWorld) → WorldRuns s bounds says w (begins s) → WorldRuns s bounds 0 w (begins s)
+  anew : (says : ℕ) (w : ItemWorld) → WorldSimulates s bounds says w (begins s) → WorldSimulates s bounds 0 w (begins s)
   anew says w r = record {
     led = record { events = []; reaches = refl; spoken = refl };
     said = omega arith;
@@ -52,7 +52,7 @@ module _ (s : WireView) where
         says = 0;
         pages = 0;
         items = f.items;
-        image = f.image;
+        encodes = f.encodes;
         runs = anew f.says f.items f.runs;
         most = λ i d at. none_asked _ i d at;
         said = omega arith;
@@ -65,7 +65,7 @@ module _ (s : WireView) where
 
 -- ---- all lines
 
-pub schedule_runs : (s : WireView) → IsWireSchedule s → EachMoveRuns s → ScheduleRuns s
+pub schedule_runs : (s : WireView) → IsWireSchedule s → EachMoveSimulates s → ScheduleSimulates s
 schedule_runs s right each =
     let all = lines_go s each s.lines nothing_above 2 (world_at_start s) (begins s) right.lines (before_first s right) in
     record {

@@ -1,7 +1,7 @@
 -- What is on its way up on a connection on which the server has no session: one word, and perhaps the footer behind it.
 use Rattle.std.proofs.Common.{◌≡◌, ℕ, Bool, true, false, List, [], ◌∷◌, ◌++◌, None, Some, append-nil, map, refl, sym, ap, subst, ◌∙◌, ◌⊎◌, inl, inr}
 use Rattle.std.proofs.lemmas.Option.{none-some}
-use Rattle.srv_state.specs.State.{Hall}
+use Rattle.srv_state.specs.State.{ServerState}
 use Rattle.sim_3_items.specs.Counted.{IsForServer}
 use Rattle.sim_3_items.specs.Identities.{Identity, Login}
 use Rattle.sim_3_items.specs.WordItems.{up_item}
@@ -71,7 +71,7 @@ by_stage (Runs p ups downs) footed word rest lost off e = absurd (off p refl)
 abbrev pub IsDone : List ItemOut → Type 0
 IsDone items = (items ≡ []) ⊎ (items ≡ Closing ∷ [])
 
-module _ (who : Identity) (logins : ℕ → Login) (h : Hall ItemOut) (wires : Table ItemWire) (v : View ItemOut) (k : ℕ) (word : UpWord ItemOut) (p : IsFirst who logins h wires v k word) where
+module _ (who : Identity) (logins : ℕ → Login) (h : ServerState ItemOut) (wires : Table ItemWire) (v : View ItemOut) (k : ℕ) (word : UpWord ItemOut) (p : IsFirst who logins h wires v k word) where
   module _ (none : session_at k h.sessions ≡ None) where
     stands : (p.conn.ending ≡ Stands) × (p.conn.gone ≡ false)
     stands = stands_at v k p.conn (kept_here who logins h wires v k word p) p.is word p.rest p.first
@@ -83,7 +83,7 @@ module _ (who : Identity) (logins : ℕ → Login) (h : Hall ItemOut) (wires : T
     off q at =
         let a = ((kept_here who logins h wires v k word p).conns k p.conn p.is).attached q (on q at) in
         let l = live_of who logins h v a.0 p.server a.1 in
-        none-some l.session (sym none ∙ found_on h.next k who.account who.resource h.sessions l.session p.server.hall.sessions l.named (l.row.conn ∙ a.3))
+        none-some l.session (sym none ∙ found_on h.next k who.account who.resource h.sessions l.session p.server.server_state.sessions l.named (l.row.conn ∙ a.3))
 
     pub outside : IsOutside word × IsBare p.rest
     outside =
@@ -95,12 +95,12 @@ module _ (who : Identity) (logins : ℕ → Login) (h : Hall ItemOut) (wires : T
   items_are = (wire_here who logins h wires v k word p).up ∙ ap (map (up_item who (logins k))) p.first
 
 -- behind a word that comes there
-pub done_behind : (who : Identity) (x : Login) (rest : List (UpWord ItemOut)) → IsBare rest → IsDone (map (up_item who x) rest)
-done_behind who x rest (inl none) = inl (ap (map (up_item who x)) none)
-done_behind who x rest (inr foot) = inr (ap (map (up_item who x)) foot)
+pub done_after : (who : Identity) (x : Login) (rest : List (UpWord ItemOut)) → IsBare rest → IsDone (map (up_item who x) rest)
+done_after who x rest (inl none) = inl (ap (map (up_item who x)) none)
+done_after who x rest (inr foot) = inr (ap (map (up_item who x)) foot)
 
 -- the footer is that of no other word
-pub closes : (who : Identity) (logins : ℕ → Login) (h : Hall ItemOut) (wires : Table ItemWire) (v : View ItemOut) (k : ℕ) (word : UpWord ItemOut) → IsFirst who logins h wires v k word → up_item who (logins k) word ≡ Closing → IsOutside word
+pub closes : (who : Identity) (logins : ℕ → Login) (h : ServerState ItemOut) (wires : Table ItemWire) (v : View ItemOut) (k : ℕ) (word : UpWord ItemOut) → IsFirst who logins h wires v k word → up_item who (logins k) word ≡ Closing → IsOutside word
 closes who logins h wires v k Hdr p is = tt
 closes who logins h wires v k Auth p is = tt
 closes who logins h wires v k Resp p is = tt

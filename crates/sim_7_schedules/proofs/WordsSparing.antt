@@ -3,7 +3,7 @@ use Rattle.std.proofs.Common.{◌≡◌, ℕ, ◌+◌, Bool, true, false, List, 
 use Rattle.std.proofs.lemmas.Option.{none-some, same_Some}
 use Rattle.std.specs.Option.{option_map}
 use Rattle.std.specs.Result.{result_ok}
-use Rattle.srv_state.specs.State.{Hall, Step, full_address, with_sessions}
+use Rattle.srv_state.specs.State.{ServerState, Step, full_address, with_sessions}
 use Rattle.srv_state.specs.Steps.{Act, Ask, Close, Say, acted}
 use Rattle.srv_state.specs.Streams.{parting_where, standing_of}
 use Rattle.srv_state.specs.Words.{is_long}
@@ -50,25 +50,25 @@ IsOutside Enable = ⊥
 IsOutside (Up t) = ⊥
 IsOutside w = Unit {0}
 
-module _ (who : Identity) (logins : ℕ → Login) (h : Hall ItemOut) (wires : Table ItemWire) (v : View ItemOut) (k : ℕ) where
+module _ (who : Identity) (logins : ℕ → Login) (h : ServerState ItemOut) (wires : Table ItemWire) (v : View ItemOut) (k : ℕ) where
   abbrev Left : Step ItemOut → Type 0
   Left s = Spares who.account who.resource h s
 
   -- the connection of the device's session
   former_away : (p : UpWord ItemOut) → IsFirst who logins h wires v k p → (s : Session ItemOut) → session_named who.account who.resource h.sessions ≡ Some s → (f : ℕ) → s.shown.conn ≡ Some f → NotAt who.account who.resource f h.sessions
   former_away w p s named f on =
-      let seat = found_on h.next f who.account who.resource h.sessions s p.server.hall.sessions named on in
-      not_at who.account who.resource h p.server.hall.sessions f
+      let seat = found_on h.next f who.account who.resource h.sessions s p.server.server_state.sessions named on in
+      not_at who.account who.resource h p.server.server_state.sessions f
       (λ t at. subst (λ u. is_named who.account who.resource u ≡ true) (same_Some s t (sym seat ∙ at)) (found_is (is_named who.account who.resource) h.sessions s named))
 
   its_number : (p : UpWord ItemOut) → IsFirst who logins h wires v k p → (s : Session ItemOut) → session_named who.account who.resource h.sessions ≡ Some s → NotOf who.account who.resource s.shown.number h.sessions
   its_number w p s named =
-      not_of who.account who.resource h p.server.hall.sessions s (numbered_here (is_named who.account who.resource) h.next 1 h.sessions s p.server.hall.sessions.ascending named)
+      not_of who.account who.resource h p.server.server_state.sessions s (numbered_here (is_named who.account who.resource) h.next 1 h.sessions s p.server.server_state.sessions.ascending named)
       (found_is (is_named who.account who.resource) h.sessions s named)
 
   -- whatever session is on the connection is the device's
   here_away : (w : UpWord ItemOut) → IsFirst who logins h wires v k w → NotAt who.account who.resource k h.sessions
-  here_away w p = not_at who.account who.resource h p.server.hall.sessions k (λ s at. p.server.seated k p.conn s p.is at)
+  here_away w p = not_at who.account who.resource h p.server.server_state.sessions k (λ s at. p.server.seated k p.conn s p.is at)
 
   -- ---- a login, and a footer
 
@@ -116,7 +116,7 @@ module _ (who : Identity) (logins : ℕ → Login) (h : Hall ItemOut) (wires : T
         subst Left (sym bind_step)
         (then_sparing who.account who.resource h (parting_where itself (former_of (option_map ended_of o)) (error_item stream.Conflict) (Say k (bound_item (codes "bind") (full_address who.account who.resource h)) ∷ []))
         (parting_spares who.account who.resource h (former_of (option_map ended_of o)) (error_item stream.Conflict) (Say k (bound_item (codes "bind") (full_address who.account who.resource h)) ∷ []) (former o refl) tt)
-        (record { hall = record h { sessions = less o h.sessions ++ fresh h.next who.account who.resource k ∷ []; next = h.next + 1 }; outs = [] })
+        (record { server_state = record h { sessions = less o h.sessions ++ fresh h.next who.account who.resource k ∷ []; next = h.next + 1 }; outs = [] })
         (record { archives = refl; others = fresh_others who.account who.resource h.next k (less o h.sessions) ∙ less_others o refl }))
 
   -- ---- a resumption
@@ -147,7 +147,7 @@ module _ (who : Identity) (logins : ℕ → Login) (h : Hall ItemOut) (wires : T
           either false = changed_others who.account who.resource t.shown.number (resumes hh k) (λ u. refl) h.sessions of_t
 
       abbrev first : Step ItemOut
-      first = record { hall = with_sessions (after_resume hh k (session_resumed (previd_of q) who.account h.sessions) h.sessions) h; outs = [] }
+      first = record { server_state = with_sessions (after_resume hh k (session_resumed (previd_of q) who.account h.sessions) h.sessions) h; outs = [] }
 
       first_spares : Left first
       first_spares = record { archives = refl; others = resumed_others (session_resumed (previd_of q) who.account h.sessions) found }

@@ -7,7 +7,7 @@ use Rattle.cmd_schedule.specs.Schedules.{WireView}
 use Rattle.sim_7_schedules.specs.Messages.{AreTold}
 use Rattle.sim_7_schedules.specs.Pairs.{HasPairs, Pair}
 use Rattle.cmd_world.specs.Histories.{history_of}
-use Rattle.cmd_world.specs.Worlds.{World}
+use Rattle.cmd_world.specs.Worlds.{ByteWorld}
 use Rattle.xml_writer.specs.Items.{ItemOut}
 
 -- What was put stays, in its order, and so does what was handled, as `f` tells the stanzas; more may come behind.
@@ -28,6 +28,6 @@ GoOn pairs next = (number e : ℕ) (p : Pair) → pairs number ≡ Some p → p.
 -- One assignment of pairs to all worlds of a history, by their numbers: in each world they are those of its sessions, with
 -- the messages that its report tells, and in the next one each goes on.
 pub record HasCourse (s : WireView) (i : ℕ) (o : Owned) : Type 0 where
-  pub pairs : (j : ℕ) (w : World) → slice_get (history_of s) j ≡ Some w → HasPairs s w i o
-  pub told : (j : ℕ) (w : World) (at : slice_get (history_of s) j ≡ Some w) → AreTold w i o (pairs j w at).pairs
-  pub goes : (j : ℕ) (v w : World) (at : slice_get (history_of s) j ≡ Some v) (next : slice_get (history_of s) (suc j) ≡ Some w) → GoOn (pairs j v at).pairs (pairs (suc j) w next).pairs
+  pub pairs : (j : ℕ) (w : ByteWorld) → slice_get (history_of s) j ≡ Some w → HasPairs s w i o
+  pub told : (j : ℕ) (w : ByteWorld) (at : slice_get (history_of s) j ≡ Some w) → AreTold w i o (pairs j w at).pairs
+  pub goes : (j : ℕ) (v w : ByteWorld) (at : slice_get (history_of s) j ≡ Some v) (next : slice_get (history_of s) (suc j) ≡ Some w) → GoOn (pairs j v at).pairs (pairs (suc j) w next).pairs

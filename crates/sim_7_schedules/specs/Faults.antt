@@ -8,7 +8,7 @@ use Rattle.cl_handlers.specs.declared.events.Event.TheVariants.{CatchUpRefused, 
 use Rattle.cl_handlers.specs.declared.events.PeerFault.{PeerFault}
 use Rattle.cl_handlers.specs.declared.events.PeerFault.TheVariants as peer
 use Rattle.sim_3_items.specs.Identities.{Login}
-use Rattle.sim_3_items.specs.Shows.{Shows}
+use Rattle.sim_3_items.specs.Represents.{Represents}
 use Rattle.cmd_network.specs.Devices.{DeviceState, silent}
 use Rattle.sim_3_images.specs.Devices.{identity_at}
 use Rattle.sim_3_items.specs.ItemWorlds.{ItemWorld}
@@ -19,9 +19,9 @@ use Rattle.sim_2_links.specs.Wires.{down_whole}
 use Rattle.sim_2_links.specs.Words.{Cause, Conflict, Constraint, DownWord, Err, TooHigh}
 use Rattle.cmd_schedule.specs.Contents.{Owned}
 use Rattle.cmd_schedule.specs.Schedules.{WireView}
-use Rattle.sim_7_schedules.specs.Besides.{IsImage}
+use Rattle.sim_7_schedules.specs.Simulation.{IsEncoded}
 use Rattle.cmd_network.specs.declared.wire.Wire.{Wire}
-use Rattle.cmd_world.specs.Worlds.{World}
+use Rattle.cmd_world.specs.Worlds.{ByteWorld}
 use Rattle.xml_writer.specs.Items.{ItemOut}
 
 -- ---- what a client tells its user
@@ -32,8 +32,8 @@ told_on n wire d = (bytes_step in_bytes (silent d.client) (take n wire.down.byte
 
 -- However many bytes are handed to a device on the connection that it has, each event that its client then tells is of this
 -- kind.
-abbrev pub EachTells : (Event → Type 0) → World → Type 0
-EachTells P w = (place n : ℕ) (wire : Wire) (d : DeviceState) → slice_get w.wires place ≡ Some wire → slice_get w.devices wire.device ≡ Some d → d.here ≡ Some place
+abbrev pub EachTells : (Event → Type 0) → ByteWorld → Type 0
+EachTells P w = (position n : ℕ) (wire : Wire) (d : DeviceState) → slice_get w.wires position ≡ Some wire → slice_get w.devices wire.device ≡ Some d → d.here ≡ Some position
     → AllByRecursion P (told_on n wire d)
 
 -- no `CatchUpFault`
@@ -66,12 +66,12 @@ IsForReason works (Err cause) = MayCause works cause
 IsForReason works _ = Unit {0}
 
 -- The connections of a device in a world of bytes: the words that the server put on each, that are under way or were lost. The
--- world is the image of one of items, whose pipes hold the words that are under way.
-pub record HasWords (schedule : WireView) (w : World) (i : ℕ) (o : Owned) : Type 0 where
+-- world encodes one of items, whose pipes hold the words that are under way.
+pub record HasWords (schedule : WireView) (w : ByteWorld) (i : ℕ) (o : Owned) : Type 0 where
   pub items : ItemWorld
-  pub image : IsImage w items
+  pub encodes : IsEncoded w items
   pub logins : ℕ → Login
   pub view : View ItemOut
   pub reached : LinkReached view
-  pub shows : Shows (identity_at schedule i o) logins items view
+  pub represents : Represents (identity_at schedule i o) logins items view
   pub words : (k : ℕ) (c : Conn ItemOut) → view.conns k ≡ Some c → AllByRecursion (IsForReason (has view.here k)) (down_whole c.wires)

@@ -1,6 +1,6 @@
 pub use Rattle.base_io.specs.Listed
 -- law: a schedule's history beside events of the two applications
-pub mod Besides
+pub mod Simulation
 pub use Rattle.sim_1_applications.specs.Runs
 -- law: what the devices of a wire schedule refused
 pub mod Refusals

@@ -11,7 +11,7 @@ use Rattle.cmd_report.specs.declared.report.TakeLine.{TakeLine}
 use Rattle.cmd_schedule.specs.Contents.{Owned}
 use Rattle.sim_1_applications.specs.Stanzas.{Submission, messages}
 use Rattle.sim_7_schedules.specs.Pairs.{HasEpoch, Pair}
-use Rattle.cmd_world.specs.Worlds.{World}
+use Rattle.cmd_world.specs.Worlds.{ByteWorld}
 use Rattle.xml_writer.specs.Items.{ItemOut}
 
 -- a message: its epoch, its number there, and the account that it is for
@@ -46,13 +46,13 @@ taken_of name lines = filter (λ (line : TakeLine). bytes_eq name line.device) l
 
 -- Of the session of an epoch: what its client put are the messages of the device's `said` lines of that epoch; and what
 -- the server handled of them, to accounts that exist, are those of the `take` lines of that epoch.
-pub record HasMessages (w : World) (i : ℕ) (o : Owned) (e : ℕ) (p : Pair) : Type 0 where
+pub record HasMessages (w : ByteWorld) (i : ℕ) (o : Owned) (e : ℕ) (p : Pair) : Type 0 where
   pub put : (d : DeviceState) → slice_get w.devices i ≡ Some d → map told (messages_in p.up.put) ≡ of_epoch e (map told_said (said_lines d))
   pub handled : map told (filter (λ (m : Submission). is_among m.to w.accounts) (messages_in p.up.got)) ≡ of_epoch e (map told_taken (taken_of o.device w.takes))
 
 -- The same of each session of a device that its client read of; and each `said` line of the device, and each `take` line
 -- that names it, is of the epoch of such a session.
-pub record AreTold (w : World) (i : ℕ) (o : Owned) (pairs : ℕ → Option Pair) : Type 0 where
+pub record AreTold (w : ByteWorld) (i : ℕ) (o : Owned) (pairs : ℕ → Option Pair) : Type 0 where
   pub each : (number e : ℕ) (p : Pair) → pairs number ≡ Some p → p.epoch ≡ Some e → HasMessages w i o e p
   pub said : (d : DeviceState) → slice_get w.devices i ≡ Some d → AllByRecursion (λ (line : SaidLine). HasEpoch pairs line.epoch) (said_lines d)
   pub taken : AllByRecursion (λ (line : TakeLine). HasEpoch pairs line.epoch) (taken_of o.device w.takes)

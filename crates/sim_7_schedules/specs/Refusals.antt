@@ -14,7 +14,7 @@ use Rattle.sim_1_applications.specs.Runs.{LineRun, Refusal}
 use Rattle.cmd_world.specs.Lines.{moves_of, stepped}
 use Rattle.cmd_world.specs.Moves as moves
 use Rattle.cmd_world.specs.Moves.{Move, moved}
-use Rattle.cmd_world.specs.Worlds.{World}
+use Rattle.cmd_world.specs.Worlds.{ByteWorld}
 
 -- ---- what devices have refused
 
@@ -27,7 +27,7 @@ abbrev pub noted_of : DeviceState → Noted
 noted_of d = record { name = d.name; refused = d.refused }
 
 -- of all devices, in their order
-abbrev pub noted_in : World → List Noted
+abbrev pub noted_in : ByteWorld → List Noted
 noted_in w = map noted_of w.devices
 
 abbrev pub with_more : List RefusedLine → Noted → Noted
@@ -35,9 +35,9 @@ with_more lines n = record { name = n.name; refused = n.refused ++ lines }
 
 -- one of them, by its place, with more lines
 abbrev pub more_at : ℕ → List RefusedLine → List Noted → List Noted
-more_at place lines [] = []
+more_at position lines [] = []
 more_at zero lines (n ∷ ns) = with_more lines n ∷ ns
-more_at (suc place) lines (n ∷ ns) = n ∷ more_at place lines ns
+more_at (suc position) lines (n ∷ ns) = n ∷ more_at position lines ns
 
 -- ---- why
 
@@ -72,10 +72,10 @@ lines_at number whys = map (λ reason. record { line = number; why = reason }) w
 -- ---- a move
 
 -- What the devices have refused behind a move: only where its user says something, or asks for the archive, does a device refuse.
-abbrev pub noted_behind : Move → World → List Noted
-noted_behind (moves.Say place number to text private) w = more_at place (lines_at number (say_whys text (slice_get w.devices place))) (noted_in w)
-noted_behind (moves.CatchUp place number most) w = more_at place (lines_at number (catch_up_whys (slice_get w.devices place))) (noted_in w)
-noted_behind _ w = noted_in w
+abbrev pub noted_after : Move → ByteWorld → List Noted
+noted_after (moves.Say position number to text private) w = more_at position (lines_at number (say_whys text (slice_get w.devices position))) (noted_in w)
+noted_after (moves.CatchUp position number most) w = more_at position (lines_at number (catch_up_whys (slice_get w.devices position))) (noted_in w)
+noted_after _ w = noted_in w
 
 -- the same as refusals of a run
 abbrev pub refusals_of : List ℕ → ℕ → List RefusedWhy → List Refusal
@@ -85,23 +85,23 @@ abbrev pub refusals_at : ℕ → Option DeviceState → List RefusedWhy → List
 refusals_at number None whys = []
 refusals_at number (Some d) whys = refusals_of d.name number whys
 
-abbrev pub move_refusals : Move → World → List Refusal
-move_refusals (moves.Say place number to text private) w = refusals_at number (slice_get w.devices place) (say_whys text (slice_get w.devices place))
-move_refusals (moves.CatchUp place number most) w = refusals_at number (slice_get w.devices place) (catch_up_whys (slice_get w.devices place))
+abbrev pub move_refusals : Move → ByteWorld → List Refusal
+move_refusals (moves.Say position number to text private) w = refusals_at number (slice_get w.devices position) (say_whys text (slice_get w.devices position))
+move_refusals (moves.CatchUp position number most) w = refusals_at number (slice_get w.devices position) (catch_up_whys (slice_get w.devices position))
 move_refusals _ w = []
 
-abbrev pub all_refusals : List Move → World → List Refusal
+abbrev pub all_refusals : List Move → ByteWorld → List Refusal
 all_refusals [] w = []
 all_refusals (m ∷ ms) w = move_refusals m w ++ all_refusals ms (moved m w)
 
 -- ---- lines
 
 -- what was refused at a line
-abbrev pub IsLineRefused : World → WireLine → List Refusal → Type 0
+abbrev pub IsLineRefused : ByteWorld → WireLine → List Refusal → Type 0
 IsLineRefused w line refused = refused ≡ all_refusals (moves_of line w) w
 
 -- the runs are of these lines, and each has what was refused at its line, from a world on
-abbrev pub AreLinesRefused : List WireLine → List LineRun → World → Type 0
+abbrev pub AreLinesRefused : List WireLine → List LineRun → ByteWorld → Type 0
 AreLinesRefused [] [] w = Unit {0}
 AreLinesRefused (line ∷ lines) (r ∷ rs) w = (r.line ≡ line) × IsLineRefused w line r.refused × AreLinesRefused lines rs (stepped line w)
 AreLinesRefused _ _ w = ⊥

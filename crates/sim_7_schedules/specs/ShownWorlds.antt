@@ -10,7 +10,7 @@ use Rattle.mam_log.specs.Views.{LogView, OpenPage}
 use Rattle.mam_log.specs.declared.log_entry.LogEntry.{LogEntry}
 use Rattle.mam_log.specs.declared.tile.Tile.{Tile}
 use Rattle.cmd_report.specs.Worlds as report
-use Rattle.cmd_world.specs.Worlds.{World}
+use Rattle.cmd_world.specs.Worlds.{ByteWorld}
 
 -- ---- archives
 
@@ -47,9 +47,9 @@ asked_in (Some log) = length log.tiles + underway log.page
 
 -- ---- a world
 
-abbrev pub shown_of : World → report.World
+abbrev pub shown_of : ByteWorld → report.ReportWorld
 shown_of w = record {
-  archive = λ account. entries_for account w.accounts w.server.hall.archives;
+  archive = λ account. entries_for account w.accounts w.server.server_state.archives;
   pages = λ device. pages_in (log_named device w.devices);
   asked = λ device. asked_in (log_named device w.devices);
 }

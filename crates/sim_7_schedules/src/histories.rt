@@ -11,7 +11,7 @@ ghost use Rattle.sim_7_schedules.specs.Pairs.{IsPair, Pair};
 ghost use Rattle.sim_7_schedules.specs.Untouched.{IsShutAt, IsUntouched};
 ghost use Rattle.cmd_world.specs.Histories.{history_of};
 ghost use Rattle.cmd_world.specs.Moves.{Up, moved};
-ghost use Rattle.cmd_world.specs.Worlds.{World};
+ghost use Rattle.cmd_world.specs.Worlds.{ByteWorld};
 
 /// A law: in each world of a wire schedule's history each device has pairs of directions of acknowledged delivery
 /// (XEP-0198, sections 4 and 5), one of each epoch that its client has reached. The session that the server has of it and
@@ -32,5 +32,5 @@ pub fn sessions_are_pairs()
 /// A law: in each world of such a history, where the server has no connection at a place, as behind one that it shut
 /// (RFC 6120, section 4.4), what is handed to it there changes nothing but what is under way on that connection.
 pub fn what_is_shut_changes_nothing()
-    ensures { (s : WireView) → IsWireSchedule s → (j : ℕ) (w : World) → slice_get (history_of s) j ≡ Some w → (place : ℕ) → IsShutAt place w → (count : Count) → IsUntouched place w (moved (Up place count) w) }
+    ensures { (s : WireView) → IsWireSchedule s → (j : ℕ) (w : ByteWorld) → slice_get (history_of s) j ≡ Some w → (position : ℕ) → IsShutAt position w → (count : Count) → IsUntouched position w (moved (Up position count) w) }
 {}

@@ -14,9 +14,7 @@ mod lines;
 mod refused_lines;
 mod reports_of_worlds;
 
-pub use binds::{
-    nothing_older_is_taken_behind_a_bind, nothing_older_is_taken_behind_a_handled_bind,
-};
+pub use binds::{nothing_older_is_taken_after_a_bind, nothing_older_is_taken_after_a_handled_bind};
 pub use each_move::each_move_runs;
 pub use faults::{no_page_fails, streams_end_for_few_reasons};
 pub use first_lines::schedules_begin;
@@ -29,4 +27,4 @@ pub use lawful::{
 pub use laws_kept::schedules_that_run_are_lawful;
 pub use lines::lines_run;
 pub use refused_lines::{lines_are_answered, lines_are_refused, moves_leave_refused};
-pub use reports_of_worlds::{reports_run, worlds_show};
+pub use reports_of_worlds::{reports_run, worlds_represent};

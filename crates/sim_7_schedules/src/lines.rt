@@ -1,12 +1,12 @@
 //! The law.
 ghost use Rattle.cmd_schedule.specs.Schedules.{WireView};
 ghost use Rattle.cmd_schedule.specs.WireGrammar.{IsWireSchedule};
-ghost use Rattle.sim_7_schedules.specs.Besides.{EachMoveRuns, ScheduleRuns};
+ghost use Rattle.sim_7_schedules.specs.Simulation.{EachMoveSimulates, ScheduleSimulates};
 
-/// A law: where each move of a world of items, within the bounds of a schedule, is events of the two applications, the whole
-/// history of a wire schedule goes beside a run of these, line by line (`ScheduleRuns`). At each line the device that it
-/// names says its message, or refuses the line, and no other says anything; and what was refused is what the report of the
-/// schedule's last world has.
+/// A law: where each move of a world of items, within the bounds of a schedule, is events of the two applications, the
+/// whole history of a wire schedule goes beside a run of these, line by line (`ScheduleSimulates`). At each line the
+/// device that it names says its message, or refuses the line, and no other says anything; and what was refused is what
+/// the report of the schedule's last world has.
 pub fn lines_run()
-    ensures { (s : WireView) → IsWireSchedule s → EachMoveRuns s → ScheduleRuns s }
+    ensures { (s : WireView) → IsWireSchedule s → EachMoveSimulates s → ScheduleSimulates s }
 {}

@@ -2,7 +2,7 @@
 ghost use Rattle.std.specs.List.{AllByRecursion};
 ghost use Rattle.std.specs.Prelude.{◌≡◌, List};
 ghost use Rattle.sim_7_schedules.specs.Answered.{AreAnswered};
-ghost use Rattle.sim_7_schedules.specs.Refusals.{AreLinesRefused, noted_behind, noted_in};
+ghost use Rattle.sim_7_schedules.specs.Refusals.{AreLinesRefused, noted_after, noted_in};
 ghost use Rattle.cmd_report.specs.Reports.{DeviceView};
 ghost use Rattle.cmd_schedule.specs.Schedules.{WireView};
 ghost use Rattle.cmd_schedule.specs.WireGrammar.{IsWireSchedule};
@@ -10,12 +10,12 @@ ghost use Rattle.sim_1_applications.specs.Runs.{LineRun, owned_of, refused_by};
 ghost use Rattle.cmd_world.specs.Histories.{world_at_start, world_of};
 ghost use Rattle.cmd_world.specs.Moves.{Move, moved};
 ghost use Rattle.cmd_world.specs.WorldReports.{report_of};
-ghost use Rattle.cmd_world.specs.Worlds.{World};
+ghost use Rattle.cmd_world.specs.Worlds.{ByteWorld};
 
 /// A law: what a move adds to the lines that devices have refused. The device whose user says something, or asks for the
 /// archive, notes the line where its client answers why not; no other move adds a line, and no device's name changes.
 pub fn moves_leave_refused()
-    ensures { (m : Move) (w : World) → noted_in (moved m w) ≡ noted_behind m w }
+    ensures { (m : Move) (w : ByteWorld) → noted_in (moved m w) ≡ noted_after m w }
 {}
 
 /// A law: where each line of a wire schedule has the refusals of its moves, the report of the schedule's world has for each

@@ -12,8 +12,8 @@ three_over_the_wrap = refl
 not_ahead : ahead 7 7 ≡ 0
 not_ahead = refl
 
-one_behind : ahead 6 7 ≡ 4294967295
-one_behind = refl
+one_after : ahead 6 7 ≡ 4294967295
+one_after = refl
 
 -- stanzas 10, 11 and 12 are put, two are handled and one of them is stated and acknowledged; the connection is lost
 -- with the third under way, a fourth is put, and the session is resumed

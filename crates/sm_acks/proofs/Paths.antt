@@ -17,19 +17,19 @@ use Rattle.sm_acks.specs.declared.nodes.Node.{Node}
 -- both have the same at each of these places
 abbrev pub Agree : Slots → Slots → List ℕ → Type 0
 Agree s t [] = Unit {0}
-Agree s t (p ∷ places) = (node_at t p ≡ node_at s p) × Agree s t places
+Agree s t (p ∷ positions) = (node_at t p ≡ node_at s p) × Agree s t positions
 
 path_agrees : (s t : Slots) (n at : ℕ) → Agree s t (path s n at) → path t n at ≡ path s n at
 path_agrees s t zero at a = refl
 path_agrees s t (suc n) at a = rw a.0 (ap (λ l. at ∷ l) (path_agrees s t n (next_in (node_at s at)) a.1))
 
-bytes_agree : (s t : Slots) (places : List ℕ) → Agree s t places → bytes_along t places ≡ bytes_along s places
+bytes_agree : (s t : Slots) (positions : List ℕ) → Agree s t positions → bytes_along t positions ≡ bytes_along s positions
 bytes_agree s t [] a = refl
-bytes_agree s t (p ∷ places) a = rw a.0 (ap (λ l. bytes_in (node_at s p) ∷ l) (bytes_agree s t places a.1))
+bytes_agree s t (p ∷ positions) a = rw a.0 (ap (λ l. bytes_in (node_at s p) ∷ l) (bytes_agree s t positions a.1))
 
-held_agree : (s t : Slots) (places : List ℕ) → Agree s t places → AreHeld s places → AreHeld t places
+held_agree : (s t : Slots) (positions : List ℕ) → Agree s t positions → AreHeld s positions → AreHeld t positions
 held_agree s t [] a h = tt
-held_agree s t (p ∷ places) a h = (rw a.0 h.0, held_agree s t places a.1 h.1)
+held_agree s t (p ∷ positions) a h = (rw a.0 h.0, held_agree s t positions a.1 h.1)
 
 -- ---- places
 
@@ -39,10 +39,10 @@ apart_parts (x ∷ xs) ys y a =
     let rest = apart_parts xs ys y a.1 in
     ((λ e. a.0.0 (sym e), rest.0), (a.0.1, rest.1))
 
-pub lacks_drop : (k n : ℕ) (places : List ℕ) → Lacks k places → Lacks k (drop n places)
-lacks_drop k zero places away = away
+pub lacks_drop : (k n : ℕ) (positions : List ℕ) → Lacks k positions → Lacks k (drop n positions)
+lacks_drop k zero positions away = away
 lacks_drop k (suc n) [] away = tt
-lacks_drop k (suc n) (p ∷ places) away = lacks_drop k n places away.1
+lacks_drop k (suc n) (p ∷ positions) away = lacks_drop k n positions away.1
 
 pub apart_drop : (n : ℕ) (xs ys : List ℕ) → AreApart xs ys → AreApart (drop n xs) ys
 apart_drop zero xs ys a = a
@@ -86,33 +86,33 @@ ends_append last [] y ys e = e
 ends_append last (x ∷ []) y ys e = e
 ends_append last (x ∷ z ∷ xs) y ys e = ends_append last (z ∷ xs) y ys e
 
-ends_tail : (last p : ℕ) (places : List ℕ) → EndsIn last (p ∷ places) → EndsIn last places
+ends_tail : (last p : ℕ) (positions : List ℕ) → EndsIn last (p ∷ positions) → EndsIn last positions
 ends_tail last p [] e = tt
-ends_tail last p (q ∷ places) e = e
+ends_tail last p (q ∷ positions) e = e
 
-not_last : (at last p : ℕ) (places : List ℕ) → Lacks at (p ∷ places) → EndsIn last (p ∷ places) → at ≢ last
+not_last : (at last p : ℕ) (positions : List ℕ) → Lacks at (p ∷ positions) → EndsIn last (p ∷ positions) → at ≢ last
 not_last at last p [] lacks ends = λ e. lacks.0 (e ∙ sym ends)
-not_last at last p (q ∷ places) lacks ends = not_last at last q places lacks.1 ends
+not_last at last p (q ∷ positions) lacks ends = not_last at last q positions lacks.1 ends
 
-held_last : (s : Slots) (last p : ℕ) (places : List ℕ) → AreHeld s (p ∷ places) → EndsIn last (p ∷ places) → IsSome (node_at s last)
+held_last : (s : Slots) (last p : ℕ) (positions : List ℕ) → AreHeld s (p ∷ positions) → EndsIn last (p ∷ positions) → IsSome (node_at s last)
 held_last s last p [] held ends = rw (← ends) held.0
-held_last s last p (q ∷ places) held ends = held_last s last q places held.1 ends
+held_last s last p (q ∷ positions) held ends = held_last s last q positions held.1 ends
 
 -- a place without a node is none of those that have one
-pub held_lacks : (s : Slots) (k : ℕ) (places : List ℕ) → AreHeld s places → node_at s k ≡ None → Lacks k places
+pub held_lacks : (s : Slots) (k : ℕ) (positions : List ℕ) → AreHeld s positions → node_at s k ≡ None → Lacks k positions
 held_lacks s k [] held none = tt
-held_lacks s k (p ∷ places) held none =
-    (λ e. let same : is_some (node_at s k) ≡ true = rw e held.0 in absurd (true≢false (sym same ∙ ap is_some none)), held_lacks s k places held.1 none)
+held_lacks s k (p ∷ positions) held none =
+    (λ e. let same : is_some (node_at s k) ≡ true = rw e held.0 in absurd (true≢false (sym same ∙ ap is_some none)), held_lacks s k positions held.1 none)
 
-agree_but : (s t : Slots) (k : ℕ) (places : List ℕ) → ((p : ℕ) → p ≢ k → node_at t p ≡ node_at s p) → Lacks k places → Agree s t places
+agree_but : (s t : Slots) (k : ℕ) (positions : List ℕ) → ((p : ℕ) → p ≢ k → node_at t p ≡ node_at s p) → Lacks k positions → Agree s t positions
 agree_but s t k [] same lacks = tt
-agree_but s t k (p ∷ places) same lacks = (same p (λ e. lacks.0 (sym e)), agree_but s t k places same lacks.1)
+agree_but s t k (p ∷ positions) same lacks = (same p (λ e. lacks.0 (sym e)), agree_but s t k positions same lacks.1)
 
-pub agree_apart : (s t : Slots) (own places : List ℕ) → ((p : ℕ) → IsSome (node_at s p) → Lacks p own → node_at t p ≡ node_at s p) → AreHeld s places → AreApart own places → Agree s t places
+pub agree_apart : (s t : Slots) (own positions : List ℕ) → ((p : ℕ) → IsSome (node_at s p) → Lacks p own → node_at t p ≡ node_at s p) → AreHeld s positions → AreApart own positions → Agree s t positions
 agree_apart s t own [] same held apart = tt
-agree_apart s t own (p ∷ places) same held apart =
-    let parts = apart_parts own places p apart in
-    (same p held.0 parts.0, agree_apart s t own places same held.1 parts.1)
+agree_apart s t own (p ∷ positions) same held apart =
+    let parts = apart_parts own positions p apart in
+    (same p held.0 parts.0, agree_apart s t own positions same held.1 parts.1)
 
 -- ---- a queue that keeps its nodes
 
@@ -175,13 +175,13 @@ relinked s t last first node is written =
       ];
     }
 
-bytes_same : (s t : Slots) (places : List ℕ) → ((p : ℕ) → bytes_in (node_at t p) ≡ bytes_in (node_at s p)) → bytes_along t places ≡ bytes_along s places
+bytes_same : (s t : Slots) (positions : List ℕ) → ((p : ℕ) → bytes_in (node_at t p) ≡ bytes_in (node_at s p)) → bytes_along t positions ≡ bytes_along s positions
 bytes_same s t [] same = refl
-bytes_same s t (p ∷ places) same = rw (same p) (ap (λ l. bytes_in (node_at s p) ∷ l) (bytes_same s t places same))
+bytes_same s t (p ∷ positions) same = rw (same p) (ap (λ l. bytes_in (node_at s p) ∷ l) (bytes_same s t positions same))
 
-held_same : (s t : Slots) (places : List ℕ) → ((p : ℕ) → IsSome (node_at s p) → IsSome (node_at t p)) → AreHeld s places → AreHeld t places
+held_same : (s t : Slots) (positions : List ℕ) → ((p : ℕ) → IsSome (node_at s p) → IsSome (node_at t p)) → AreHeld s positions → AreHeld t positions
 held_same s t [] same held = tt
-held_same s t (p ∷ places) same held = (same p held.0, held_same s t places same held.1)
+held_same s t (p ∷ positions) same held = (same p held.0, held_same s t positions same held.1)
 
 -- ---- a queue behind another
 
@@ -202,9 +202,9 @@ pub record IsJoined (s t : Slots) (e f g : Ends) : Type 0 where
   pub path : path_of t g ≡ path_of s e ++ path_of s f
   pub stanzas : stanzas_at t g ≡ stanzas_at s e ++ stanzas_at s f
 
-lacks_last : (last p : ℕ) (places others : List ℕ) → EndsIn last (p ∷ places) → AreApart (p ∷ places) others → Lacks last others
+lacks_last : (last p : ℕ) (positions others : List ℕ) → EndsIn last (p ∷ positions) → AreApart (p ∷ positions) others → Lacks last others
 lacks_last last p [] others ends apart = rw (← ends) apart.0
-lacks_last last p (q ∷ places) others ends apart = lacks_last last q places others ends apart.1
+lacks_last last p (q ∷ positions) others ends apart = lacks_last last q positions others ends apart.1
 
 -- the ends of a queue
 abbrev pub ends_as : ℕ → ℕ → ℕ → Ends
@@ -214,7 +214,7 @@ joined_ends : (s t : Slots) (n m at last first end : ℕ) → IsLinked s (ends_a
     → AreApart (path s (suc n) at) (path s (suc m) first) → IsRelinked s t last first
     → IsJoined s t (ends_as at last (suc n)) (ends_as first end (suc m)) (ends_as at end (suc n + suc m))
 unfolding stanzas_at
-joined_ends s t n m at last first end front behind apart h =
+joined_ends s t n m at last first end front following apart h =
     let xs = path s (suc n) at in
     let ys = path s (suc m) first in
     let away : Lacks last ys = lacks_last last at (path s n (next_in (node_at s at))) ys front.ended apart in
@@ -222,9 +222,9 @@ joined_ends s t n m at last first end front behind apart h =
     let whole : path t (suc n + suc m) at ≡ xs ++ ys = path_on s t n (suc m) at last first front.ended front.once h ∙ ap (λ l. xs ++ l) stays in
     record {
       linked = record {
-        held = rw whole (held_append t xs ys (held_same s t xs h.held front.held) (held_same s t ys h.held behind.held));
-        once = rw whole (once_append xs ys front.once behind.once apart);
-        ended = rw whole (ends_append end xs first (path s m (next_in (node_at s first))) behind.ended);
+        held = rw whole (held_append t xs ys (held_same s t xs h.held front.held) (held_same s t ys h.held following.held));
+        once = rw whole (once_append xs ys front.once following.once apart);
+        ended = rw whole (ends_append end xs first (path s m (next_in (node_at s first))) following.ended);
       };
       path = whole;
       stanzas = ap (bytes_along t) whole ∙ bytes_same s t (xs ++ ys) h.bytes ∙ map-append (λ p. bytes_in (node_at s p)) xs ys;
@@ -232,9 +232,9 @@ joined_ends s t n m at last first end front behind apart h =
 
 pub joined_from : (s t : Slots) (l k at last first end : ℕ) → l ≢ 0 → k ≢ 0 → IsLinked s (ends_as at last l) → IsLinked s (ends_as first end k)
     → AreApart (path s l at) (path s k first) → IsRelinked s t last first → IsJoined s t (ends_as at last l) (ends_as first end k) (ends_as at end (l + k))
-joined_from s t zero k at last first end some others front behind apart h = absurd (some refl)
-joined_from s t (suc n) zero at last first end some others front behind apart h = absurd (others refl)
-joined_from s t (suc n) (suc m) at last first end some others front behind apart h = joined_ends s t n m at last first end front behind apart h
+joined_from s t zero k at last first end some others front following apart h = absurd (some refl)
+joined_from s t (suc n) zero at last first end some others front following apart h = absurd (others refl)
+joined_from s t (suc n) (suc m) at last first end some others front following apart h = joined_ends s t n m at last first end front following apart h
 
 -- the last node of a queue that isn't empty
 pub last_held : (s : Slots) (l at last : ℕ) → l ≢ 0 → IsLinked s (ends_as at last l) → IsSome (node_at s last)
@@ -318,12 +318,12 @@ pub vacant_differs : (s : Slots) (k p : ℕ) → node_at s k ≡ None → IsSome
 vacant_differs s k p none some = λ e. let there : is_some (node_at s k) ≡ true = rw (← e) some in absurd (true≢false (sym there ∙ ap is_some none))
 
 -- the place of a node that is new is none of a queue's
-pub new_apart : (s : Slots) (k : ℕ) (places : List ℕ) → AreHeld s places → node_at s k ≡ None → AreApart (k ∷ []) places
-new_apart s k places held none = (held_lacks s k places held none, tt)
+pub new_apart : (s : Slots) (k : ℕ) (positions : List ℕ) → AreHeld s positions → node_at s k ≡ None → AreApart (k ∷ []) positions
+new_apart s k positions held none = (held_lacks s k positions held none, tt)
 
 -- a node more, and each other as it was
-pub agree_more : (s t : Slots) (k : ℕ) (places : List ℕ) → AreHeld s places → node_at s k ≡ None → ((p : ℕ) → p ≢ k → node_at t p ≡ node_at s p) → Agree s t places
-agree_more s t k places held none same = agree_but s t k places same (held_lacks s k places held none)
+pub agree_more : (s t : Slots) (k : ℕ) (positions : List ℕ) → AreHeld s positions → node_at s k ≡ None → ((p : ℕ) → p ≢ k → node_at t p ≡ node_at s p) → Agree s t positions
+agree_more s t k positions held none same = agree_but s t k positions same (held_lacks s k positions held none)
 
 -- ---- a walk along a path
 
@@ -332,10 +332,10 @@ path_step s zero at some = absurd (omega (arith, some))
 path_step s (suc n) at some =
     let less : suc n - 1 ≡ n = omega arith in rw less refl
 
-held_drop : (s : Slots) (k : ℕ) (places : List ℕ) → AreHeld s places → AreHeld s (drop k places)
-held_drop s zero places held = held
+held_drop : (s : Slots) (k : ℕ) (positions : List ℕ) → AreHeld s positions → AreHeld s (drop k positions)
+held_drop s zero positions held = held
 held_drop s (suc k) [] held = tt
-held_drop s (suc k) (p ∷ places) held = held_drop s k places held.1
+held_drop s (suc k) (p ∷ positions) held = held_drop s k positions held.1
 
 drop_tail : (k x : ℕ) (xs rest : List ℕ) → drop k xs ≡ x ∷ rest → drop (k + 1) xs ≡ rest
 drop_tail zero x [] rest is = cc
@@ -383,7 +383,7 @@ pub front_held : (s : Slots) (n at : ℕ) → 0 < n → AreHeld s (path s n at) 
 front_held s n at some held = rw (path_step s n at some) at held
 
 pub front_bytes : (s : Slots) (n at : ℕ) → 0 < n → concat (bytes_along s (path s n at)) ≡ bytes_in (node_at s at) ++ concat (bytes_along s (path s (n - 1) (next_in (node_at s at))))
-front_bytes s n at some = ap (λ places. concat (bytes_along s places)) (path_step s n at some)
+front_bytes s n at some = ap (λ positions. concat (bytes_along s positions)) (path_step s n at some)
 
 pub front_stanzas : (s : Slots) (n at : ℕ) → 0 < n → bytes_along s (path s n at) ≡ bytes_in (node_at s at) ∷ bytes_along s (path s (n - 1) (next_in (node_at s at)))
 front_stanzas s n at some = ap (bytes_along s) (path_step s n at some)

@@ -33,7 +33,7 @@ path_of slots ends = path slots ends.len ends.first
 
 -- the stanzas of a queue, the oldest first
 abbrev pub bytes_along : Slots → List ℕ → List (List ℕ)
-bytes_along slots places = map (λ at. bytes_in (node_at slots at)) places
+bytes_along slots positions = map (λ at. bytes_in (node_at slots at)) positions
 
 unfoldable pub stanzas_at : Slots → Ends → List (List ℕ)
 stanzas_at slots ends = bytes_along slots (path_of slots ends)
@@ -47,26 +47,26 @@ queues_in slots entries = map (λ e. record { id = e.0; stanzas = stanzas_at slo
 -- a place is none of these, no place stands twice, and no place stands in both
 abbrev pub Lacks : ℕ → List ℕ → Type 0
 Lacks at [] = Unit {0}
-Lacks at (p ∷ places) = (at ≢ p) × Lacks at places
+Lacks at (p ∷ positions) = (at ≢ p) × Lacks at positions
 
 abbrev pub AreOnce : List ℕ → Type 0
 AreOnce [] = Unit {0}
-AreOnce (p ∷ places) = Lacks p places × AreOnce places
+AreOnce (p ∷ positions) = Lacks p positions × AreOnce positions
 
 abbrev pub AreApart : List ℕ → List ℕ → Type 0
 AreApart [] others = Unit {0}
-AreApart (p ∷ places) others = Lacks p others × AreApart places others
+AreApart (p ∷ positions) others = Lacks p others × AreApart positions others
 
 -- each place has a node
 abbrev pub AreHeld : Slots → List ℕ → Type 0
 AreHeld slots [] = Unit {0}
-AreHeld slots (p ∷ places) = IsSome (node_at slots p) × AreHeld slots places
+AreHeld slots (p ∷ positions) = IsSome (node_at slots p) × AreHeld slots positions
 
 -- where there are places, this is the last
 abbrev pub EndsIn : ℕ → List ℕ → Type 0
 EndsIn last [] = Unit {0}
 EndsIn last (p ∷ []) = p ≡ last
-EndsIn last (p ∷ q ∷ places) = EndsIn last (q ∷ places)
+EndsIn last (p ∷ q ∷ positions) = EndsIn last (q ∷ positions)
 
 -- a queue's nodes are there, each once, up to the last
 pub record IsLinked (slots : Slots) (ends : Ends) : Type 0 where
@@ -75,8 +75,8 @@ pub record IsLinked (slots : Slots) (ends : Ends) : Type 0 where
   pub ended : EndsIn ends.last (path_of slots ends)
 
 -- each node but those at these places stays as it was, and there are as many
-pub record LeavesOthers (old new : Slab Node) (places : List ℕ) : Type 0 where
-  pub others : (at : ℕ) → Lacks at places → node_at new.slots at ≡ node_at old.slots at
+pub record LeavesOthers (old new : Slab Node) (positions : List ℕ) : Type 0 where
+  pub others : (at : ℕ) → Lacks at positions → node_at new.slots at ≡ node_at old.slots at
   pub len : slab_len new ≡ slab_len old
   pub capacity : new.capacity ≡ old.capacity
 

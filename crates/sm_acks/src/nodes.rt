@@ -61,27 +61,27 @@ impl Ends {
 
     /// Puts the nodes of another queue behind those of this one. Of all nodes only the last one of this queue changes, and
     /// no stanza moves.
-    pub(crate) fn join(&mut self, nodes: &mut Slab<Node>, behind: Ends)
+    pub(crate) fn join(&mut self, nodes: &mut Slab<Node>, following: Ends)
         requires linked { IsLinked nodes.old.slots self.old }
-        requires behind { IsLinked nodes.old.slots behind }
-        requires apart { AreApart (path_of nodes.old.slots self.old) (path_of nodes.old.slots behind) }
-        requires few { self.old.len + behind.len < 2 ^ 64 }
+        requires following { IsLinked nodes.old.slots following }
+        requires apart { AreApart (path_of nodes.old.slots self.old) (path_of nodes.old.slots following) }
+        requires few { self.old.len + following.len < 2 ^ 64 }
         ensures linked { IsLinked nodes.new.slots self.new }
-        ensures path { path_of nodes.new.slots self.new ≡ path_of nodes.old.slots self.old ++ path_of nodes.old.slots behind }
-        ensures stanzas { stanzas_at nodes.new.slots self.new ≡ stanzas_at nodes.old.slots self.old ++ stanzas_at nodes.old.slots behind }
-        ensures len { self.new.len ≡ self.old.len + behind.len }
+        ensures path { path_of nodes.new.slots self.new ≡ path_of nodes.old.slots self.old ++ path_of nodes.old.slots following }
+        ensures stanzas { stanzas_at nodes.new.slots self.new ≡ stanzas_at nodes.old.slots self.old ++ stanzas_at nodes.old.slots following }
+        ensures len { self.new.len ≡ self.old.len + following.len }
         ensures others { LeavesOthers nodes.old nodes.new (path_of nodes.old.slots self.old) }
     {
-        if behind.len == 0 {
+        if following.len == 0 {
             return;
         }
         if self.len == 0 {
-            *self = behind;
+            *self = following;
             return;
         }
-        link(nodes, self.last, behind.first);
-        self.last = behind.last;
-        self.len += behind.len;
+        link(nodes, self.last, following.first);
+        self.last = following.last;
+        self.len += following.len;
     }
 
     /// Takes the first node out, and gives its stanza.
@@ -120,7 +120,7 @@ impl Ends {
     }
 
     /// The place of a node, counted from 0.
-    pub(crate) fn place(&self, nodes: &Slab<Node>, i: usize) -> usize
+    pub(crate) fn position(&self, nodes: &Slab<Node>, i: usize) -> usize
         requires linked { IsLinked nodes.now.slots self.now }
         requires within { i < self.now.len }
         ensures { drop i (path_of nodes.now.slots self.now) ≡ path nodes.now.slots (self.now.len - i) result }

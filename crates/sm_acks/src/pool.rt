@@ -193,7 +193,7 @@ impl Pool {
         if ends.len as u64 <= i {
             return None;
         }
-        let at = ends.place(&self.nodes, i as usize);
+        let at = ends.position(&self.nodes, i as usize);
         Some(bytes_of(&self.nodes, at))
     }
 
@@ -208,7 +208,7 @@ impl Pool {
         if ends.len as u64 <= skip {
             return Ok(());
         }
-        let first = ends.place(&self.nodes, skip as usize);
+        let first = ends.position(&self.nodes, skip as usize);
         let count = ends.len - skip as usize;
         let len = bytes_len(&self.nodes, first, count);
         if len == usize::MAX {
@@ -234,7 +234,7 @@ impl Pool {
         if ends.len as u64 <= skip {
             return Ok(stanzas);
         }
-        let first = ends.place(&self.nodes, skip as usize);
+        let first = ends.position(&self.nodes, skip as usize);
         let count = ends.len - skip as usize;
         stanzas.reserve(count)?;
         copy_stanzas(alloc, &self.nodes, first, count, &mut stanzas)?;

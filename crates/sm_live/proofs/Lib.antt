@@ -1,4 +1,4 @@
 pub mod Directions
 mod Seen
-mod Seats
+mod Reservations
 mod Worked

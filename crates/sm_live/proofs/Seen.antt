@@ -8,8 +8,8 @@ use Rattle.sm_acks.specs.Counters.{AckView, ahead}
 use Rattle.sm_acks.specs.declared.end.TooHigh.{TooHigh as TooHighCount}
 use Rattle.sm_live.specs.Kept.{all_seen, seen_in}
 use Rattle.sm_live.specs.Rule.{IsRule, RisesTo}
-use Rattle.sm_live.specs.Sessions.{Session, acknowledged, after_resume, bound, fresh, is_at, is_expired, is_named, is_numbered, is_resumed_by, less, lost, number_of, parked, resent, resume_answer, resumes, session_at, session_of, session_resumed, told, told_of, unexpired, waits, with_session, without, without_at}
-use Rattle.sm_live.specs.declared.told.Told.{Told}
+use Rattle.sm_live.specs.Sessions.{Session, acknowledged, after_resume, bound, fresh, info_of, is_at, is_expired, is_named, is_numbered, is_resumed_by, less, lost, number_of, parked, resent, resume_answer, resumes, session_at, session_of, session_resumed, told, unexpired, waits, with_session, without, without_at}
+use Rattle.sm_live.specs.declared.told.SessionInfo.{SessionInfo}
 use Rattle.base_io.specs.Listed.{Listed}
 use Rattle.sm_acks.specs.Queues.{PoolView, list_of, stanzas_in, stanzas_of}
 use Rattle.sm_resumption.proofs.BindFacts.{parks}
@@ -146,21 +146,21 @@ session_number n s (t ∷ sessions) is =
       | inr other ↦ session_number n s sessions (rw other at is)
     ]
 
-pub same_told : (n : ℕ) (p : Session (List ℕ) → Bool) (o : Option Told) (sessions : List (Session (List ℕ))) → o ≡ told_of n sessions → session_of n sessions ≡ find p sessions →
+pub same_told : (n : ℕ) (p : Session (List ℕ) → Bool) (o : Option SessionInfo) (sessions : List (Session (List ℕ))) → o ≡ info_of n sessions → session_of n sessions ≡ find p sessions →
     IfSome o (λ t. session_of t.number sessions ≡ find p sessions)
 same_told n p None sessions is same = tt
 same_told n p (Some t) sessions is same =
     let (s, found, told_is) = option_map_some told (session_of n sessions) t (sym is) in
-    let number : t.number ≡ n = ap (λ (u : Told). u.number) (sym told_is) ∙ session_number n s sessions found in
+    let number : t.number ≡ n = ap (λ (u : SessionInfo). u.number) (sym told_is) ∙ session_number n s sessions found in
     ap (λ k. session_of k sessions) number ∙ same
 
 -- what is told of a session, by its row
-abbrev pub told_with : SessionView → ℕ → ℕ → Told
+abbrev pub told_with : SessionView → ℕ → ℕ → SessionInfo
 told_with v h w = record { number = v.number; account = v.account; conn = v.conn; available = v.available; priority = v.priority; carbons = v.carbons; counted = v.counted; asked = v.asked; handled = h; waiting = w }
 
-pub told_seen : (n : ℕ) (v : SessionView) (e : AckView) (h w : ℕ) (t : Told) (pool : PoolView) (rows : List Row) (sessions : List (Session (List ℕ))) → all_seen pool rows ≡ sessions →
+pub told_seen : (n : ℕ) (v : SessionView) (e : AckView) (h w : ℕ) (t : SessionInfo) (pool : PoolView) (rows : List Row) (sessions : List (Session (List ℕ))) → all_seen pool rows ≡ sessions →
     Some v ≡ option_map (λ r. r.shown) (row_of n rows) → Some e ≡ option_map (λ r. r.end) (row_of n rows) → h ≡ e.handled → w ≡ length (list_of e.queue pool) →
-    t ≡ told_with v h w → Some t ≡ told_of n sessions
+    t ≡ told_with v h w → Some t ≡ info_of n sessions
 told_seen n v e h w t pool rows sessions seen shown end handled waiting is =
     let (r, found, shown_is) = option_map_some (λ (r : Row). r.shown) (row_of n rows) v (sym shown) in
     let (s, also, was) = option_map_some (λ (r : Row). r.end) (row_of n rows) e (sym end) in

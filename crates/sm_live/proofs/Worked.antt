@@ -18,11 +18,11 @@ session number resource conn parked_at resumable acked waiting =
 abbrev phone : Session ℕ
 phone = session 1 (codes "phone") (Some 4) 0 true 4294967295 (10 ∷ 11 ∷ 12 ∷ [])
 
-abbrev desk : Session ℕ
-desk = session 3 (codes "desk") None 1000 true 0 []
+abbrev context : Session ℕ
+context = session 3 (codes "desk") None 1000 true 0 []
 
 abbrev two : List (Session ℕ)
-two = phone ∷ desk ∷ []
+two = phone ∷ context ∷ []
 
 -- a stanza joins behind the others
 joins : (waits 13 phone).waiting ≡ 10 ∷ 11 ∷ 12 ∷ 13 ∷ []
@@ -62,7 +62,7 @@ beside : map number_of (bound 4 7 (codes "pad") 9 two) ≡ 1 ∷ 3 ∷ 4 ∷ []
 beside = refl
 
 -- a lost connection, and the end of what was parked for 300,000 ms
-parks : lost 2000 (session_at 4 two) two ≡ session 1 (codes "phone") None 2000 true 4294967295 (10 ∷ 11 ∷ 12 ∷ []) ∷ desk ∷ []
+parks : lost 2000 (session_at 4 two) two ≡ session 1 (codes "phone") None 2000 true 4294967295 (10 ∷ 11 ∷ 12 ∷ []) ∷ context ∷ []
 parks = refl
 
 waits_still : map number_of (unexpired 300999 two) ≡ 1 ∷ 3 ∷ []

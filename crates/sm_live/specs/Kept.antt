@@ -2,7 +2,7 @@
 use Rattle.std.specs.Prelude.{◌≡◌, ℕ, ◌-◌, ◌^◌, ◌<◌, ◌≤◌, List, Option, Some, None, map}
 use Rattle.std.specs.Option.{option_map}
 use Rattle.sm_live.specs.Sessions.{Session}
-use Rattle.sm_live.specs.declared.seat.Seat.{Seat}
+use Rattle.sm_live.specs.declared.reservation.Reservation.{Reservation}
 use Rattle.sm_acks.specs.Queues.{PoolView, list_of}
 use Rattle.sm_resumption.specs.Housed.{IsFree}
 use Rattle.sm_resumption.specs.Rows.{Table}
@@ -14,7 +14,7 @@ pub record LiveView : Type 0 where
   pub sessions : List (Session (List ℕ))
   pub next : ℕ
   pub room : ℕ
-  pub seat : Option ℕ
+  pub reservation : Option ℕ
   pub queues : ℕ
 
 -- a row of the table, with the stanzas of its queue
@@ -24,22 +24,22 @@ seen_in pool r = record { shown = r.shown; acked = r.end.acked; handled = r.end.
 abbrev pub all_seen : PoolView → List Row → List (Session (List ℕ))
 all_seen pool rows = map (seen_in pool) rows
 
-abbrev pub view_of : Table → PoolView → Option Seat → ℕ → LiveView
-view_of table pool seat queues = record {
+abbrev pub view_of : Table → PoolView → Option Reservation → ℕ → LiveView
+view_of table pool reservation queues = record {
   sessions = all_seen pool table.rows;
   next = table.next;
   room = pool.spare;
-  seat = option_map (λ (s : Seat). s.account) seat;
+  reservation = option_map (λ (s : Reservation). s.account) reservation;
   queues = queues;
 }
 
 -- the table has room for a session of the account and a number for it, and the queue is empty and no session's
-pub record IsSeatIn (table : Table) (pool : PoolView) (s : Seat) : Type 0 where
+pub record IsReservationIn (table : Table) (pool : PoolView) (s : Reservation) : Type 0 where
   pub room : 1 ≤ table.spare
-  pub account : table.seat ≡ s.account
+  pub account : table.reservation ≡ s.account
   pub number : table.next < 2 ^ 64 - 1
   pub free : IsFree s.queue table.rows pool
 
-abbrev pub IsSeated : Table → PoolView → Option Seat → Type 0
-IsSeated table pool None = Unit {0}
-IsSeated table pool (Some s) = IsSeatIn table pool s
+abbrev pub IsReserved : Table → PoolView → Option Reservation → Type 0
+IsReserved table pool None = Unit {0}
+IsReserved table pool (Some s) = IsReservationIn table pool s

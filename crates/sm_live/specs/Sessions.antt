@@ -5,7 +5,7 @@ use Rattle.std.specs.Option.{option_map}
 use Rattle.std.specs.Str.{bytes_eq}
 use Rattle.sm_acks.specs.Counters.{ahead}
 use Rattle.sm_acks.specs.declared.end.TooHigh.{TooHigh as TooHighCount}
-use Rattle.sm_live.specs.declared.told.Told.{Told}
+use Rattle.sm_live.specs.declared.told.SessionInfo.{SessionInfo}
 use Rattle.sm_resumption.specs.Previds.{previd_of}
 use Rattle.sm_resumption.specs.Rows.{is_some_number}
 use Rattle.sm_resumption.specs.declared.answers.Ended.{Ended}
@@ -66,7 +66,7 @@ abbrev pub sessions_of : {A : Type 0} → ℕ → List (Session A) → List (Ses
 sessions_of account sessions = filter (is_of account) sessions
 
 -- what is told of a session
-abbrev pub told : {A : Type 0} → Session A → Told
+abbrev pub told : {A : Type 0} → Session A → SessionInfo
 told s = record {
   number = s.shown.number;
   account = s.shown.account;
@@ -80,8 +80,8 @@ told s = record {
   waiting = length s.waiting;
 }
 
-abbrev pub told_of : {A : Type 0} → ℕ → List (Session A) → Option Told
-told_of n sessions = option_map told (session_of n sessions)
+abbrev pub info_of : {A : Type 0} → ℕ → List (Session A) → Option SessionInfo
+info_of n sessions = option_map told (session_of n sessions)
 
 -- ---- what happens to one session
 

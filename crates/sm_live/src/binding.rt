@@ -12,21 +12,21 @@ impl Live {
     /// the account. An older session of the same account and resource, attached or parked, ends first (section 7.7.2.2),
     /// and is told. The new session gets the next number, which rises by 1. It moves the resource, and takes no memory.
     pub fn bind(&mut self, account: u32, resource: Text, conn: u64) -> Bound
-        requires seat { self.old.seat ≡ Some account }
+        requires reservation { self.old.reservation ≡ Some account }
         requires conn { session_at conn self.old.sessions ≡ None }
         ensures number { result.number ≡ self.old.next }
         ensures ended { result.ended ≡ option_map ended_of (session_named account resource self.old.sessions) }
         ensures sessions { self.new.sessions ≡ bound self.old.next account resource conn self.old.sessions }
         ensures next { self.new.next ≡ self.old.next + 1 }
         ensures room { self.old.room ≤ self.new.room }
-        ensures seat { self.new.seat ≡ None }
+        ensures reservation { self.new.reservation ≡ None }
         ensures queues { self.new.queues ≡ self.old.queues }
     {
         self.table.keeps_rule();
-        match self.seat.take() {
-            Some(seat) => self
+        match self.reservation.take() {
+            Some(reservation) => self
                 .table
-                .bind(&mut self.pool, account, resource, conn, seat.queue),
+                .bind(&mut self.pool, account, resource, conn, reservation.queue),
             None => unreachable!(),
         }
     }
@@ -38,7 +38,7 @@ impl Live {
         ensures sessions { self.new.sessions ≡ without number self.old.sessions }
         ensures next { self.new.next ≡ self.old.next }
         ensures room { self.old.room ≤ self.new.room }
-        ensures seat { self.new.seat ≡ self.old.seat }
+        ensures reservation { self.new.reservation ≡ self.old.reservation }
         ensures queues { self.new.queues ≡ self.old.queues }
     {
         self.table.keeps_rule();
@@ -52,7 +52,7 @@ impl Live {
         ensures sessions { self.new.sessions ≡ without_at conn self.old.sessions }
         ensures next { self.new.next ≡ self.old.next }
         ensures room { self.old.room ≤ self.new.room }
-        ensures seat { self.new.seat ≡ self.old.seat }
+        ensures reservation { self.new.reservation ≡ self.old.reservation }
         ensures queues { self.new.queues ≡ self.old.queues }
     {
         self.table.keeps_rule();
@@ -69,7 +69,7 @@ impl Live {
         ensures sessions { self.new.sessions ≡ lost now (session_at conn self.old.sessions) self.old.sessions }
         ensures next { self.new.next ≡ self.old.next }
         ensures room { self.old.room ≤ self.new.room }
-        ensures seat { self.new.seat ≡ self.old.seat }
+        ensures reservation { self.new.reservation ≡ self.old.reservation }
         ensures queues { self.new.queues ≡ self.old.queues }
     {
         self.table.keeps_rule();
@@ -82,7 +82,7 @@ impl Live {
         ensures sessions { self.new.sessions ≡ unexpired now self.old.sessions }
         ensures next { self.new.next ≡ self.old.next }
         ensures room { self.old.room ≤ self.new.room }
-        ensures seat { self.new.seat ≡ self.old.seat }
+        ensures reservation { self.new.reservation ≡ self.old.reservation }
         ensures queues { self.new.queues ≡ self.old.queues }
     {
         self.table.keeps_rule();

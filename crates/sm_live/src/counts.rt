@@ -16,7 +16,7 @@ impl Live {
         ensures sessions { self.new.sessions ≡ with_session number (waits bytes.items) self.old.sessions }
         ensures next { self.new.next ≡ self.old.next }
         ensures room { self.old.room ≤ self.new.room + 1 }
-        ensures seat { self.new.seat ≡ self.old.seat }
+        ensures reservation { self.new.reservation ≡ self.old.reservation }
         ensures queues { self.new.queues ≡ self.old.queues }
     {
         self.table.keeps_rule();
@@ -33,7 +33,7 @@ impl Live {
         ensures err { OnErr result (self.new.sessions ≡ self.old.sessions) }
         ensures next { self.new.next ≡ self.old.next }
         ensures room { self.old.room ≤ self.new.room }
-        ensures seat { self.new.seat ≡ self.old.seat }
+        ensures reservation { self.new.reservation ≡ self.old.reservation }
         ensures queues { self.new.queues ≡ self.old.queues }
     {
         self.table.keeps_rule();
@@ -49,7 +49,7 @@ impl Live {
         ensures err { OnErr result (self.new.sessions ≡ self.old.sessions) }
         ensures next { self.new.next ≡ self.old.next }
         ensures room { self.new.room ≡ self.old.room }
-        ensures seat { self.new.seat ≡ self.old.seat }
+        ensures reservation { self.new.reservation ≡ self.old.reservation }
         ensures queues { self.new.queues ≡ self.old.queues }
     {
         self.table.enable(number, resume)
@@ -61,7 +61,7 @@ impl Live {
         ensures sessions { self.new.sessions ≡ with_session number handles self.old.sessions }
         ensures next { self.new.next ≡ self.old.next }
         ensures room { self.new.room ≡ self.old.room }
-        ensures seat { self.new.seat ≡ self.old.seat }
+        ensures reservation { self.new.reservation ≡ self.old.reservation }
         ensures queues { self.new.queues ≡ self.old.queues }
     {
         self.table.count_handled(number);
@@ -74,7 +74,7 @@ impl Live {
         ensures sessions { self.new.sessions ≡ with_session number (asks on) self.old.sessions }
         ensures next { self.new.next ≡ self.old.next }
         ensures room { self.new.room ≡ self.old.room }
-        ensures seat { self.new.seat ≡ self.old.seat }
+        ensures reservation { self.new.reservation ≡ self.old.reservation }
         ensures queues { self.new.queues ≡ self.old.queues }
     {
         self.table.set_asked(number, on);
@@ -86,7 +86,7 @@ impl Live {
         ensures sessions { self.new.sessions ≡ with_session number (presents available priority) self.old.sessions }
         ensures next { self.new.next ≡ self.old.next }
         ensures room { self.new.room ≡ self.old.room }
-        ensures seat { self.new.seat ≡ self.old.seat }
+        ensures reservation { self.new.reservation ≡ self.old.reservation }
         ensures queues { self.new.queues ≡ self.old.queues }
     {
         self.table.set_presence(number, available, priority);
@@ -98,7 +98,7 @@ impl Live {
         ensures sessions { self.new.sessions ≡ with_session number (copies on) self.old.sessions }
         ensures next { self.new.next ≡ self.old.next }
         ensures room { self.new.room ≡ self.old.room }
-        ensures seat { self.new.seat ≡ self.old.seat }
+        ensures reservation { self.new.reservation ≡ self.old.reservation }
         ensures queues { self.new.queues ≡ self.old.queues }
     {
         self.table.set_carbons(number, on);

@@ -7,11 +7,11 @@ mod counts;
 mod laws;
 mod live;
 mod lookups;
+mod reservation;
 mod resuming;
-mod seat;
 mod told;
 
 pub use laws::{counts_are_moves, puts_are_moves, resumptions_are_moves};
 pub use live::Live;
-pub use seat::SeatFault;
-pub use told::Told;
+pub use reservation::ReservationFault;
+pub use told::SessionInfo;

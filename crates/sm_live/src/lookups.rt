@@ -1,19 +1,19 @@
 //! Look-ups of sessions: by number, by connection, by account and resource.
 ghost use Rattle.std.specs.Prelude.{◌≡◌, ◌≤◌, IfSome, map};
 ghost use Rattle.std.specs.Option.{option_copied, option_map};
-ghost use Rattle.sm_live.specs.Sessions.{number_of, session_at, session_named, session_of, sessions_of, told as told_by, told_of};
+ghost use Rattle.sm_live.specs.Sessions.{info_of, number_of, session_at, session_named, session_of, sessions_of, told as told_by};
 
 use crate::live::Live;
-use crate::told::Told;
+use crate::told::SessionInfo;
 use sm_acks::MOST_UNACKNOWLEDGED;
 use sm_resumption::SessionView;
 
-impl Told {
+impl SessionInfo {
     // What is told of a session, with how many stanzas of the peer were handled and how many of its own wait.
-    fn of(shown: &SessionView, handled: u32, waiting: u64) -> Told
+    fn of(shown: &SessionView, handled: u32, waiting: u64) -> SessionInfo
         ensures { result ≡ record { number = shown.now.number; account = shown.now.account; conn = shown.now.conn; available = shown.now.available; priority = shown.now.priority; carbons = shown.now.carbons; counted = shown.now.counted; asked = shown.now.asked; handled = handled; waiting = waiting } }
     {
-        Told {
+        SessionInfo {
             number: shown.number,
             account: shown.account,
             conn: shown.conn,
@@ -30,17 +30,17 @@ impl Told {
 
 impl Live {
     /// What is told of the session with a number. `None` exactly where it doesn't live.
-    pub fn told(&self, number: u64) -> Option<Told>
-        ensures told { result ≡ told_of number self.now.sessions }
+    pub fn told(&self, number: u64) -> Option<SessionInfo>
+        ensures told { result ≡ info_of number self.now.sessions }
         ensures few { IfSome result (λ t. t.waiting ≤ MOST_UNACKNOWLEDGED) }
     {
         let shown = self.table.view(number)?;
         let end = self.table.ack_end(number)?;
-        Some(Told::of(shown, end.handled(), self.pool.len(end.queue())))
+        Some(SessionInfo::of(shown, end.handled(), self.pool.len(end.queue())))
     }
 
     /// What is told of the session on a connection. `None` exactly where the connection has none.
-    pub fn told_at(&self, conn: u64) -> Option<Told>
+    pub fn info_at(&self, conn: u64) -> Option<SessionInfo>
         ensures told { result ≡ option_map told_by (session_at conn self.now.sessions) }
         ensures same { IfSome result (λ t. session_of t.number self.now.sessions ≡ session_at conn self.now.sessions) }
         ensures few { IfSome result (λ t. t.waiting ≤ MOST_UNACKNOWLEDGED) }
@@ -50,7 +50,7 @@ impl Live {
     }
 
     /// What is told of the session of an account with a resource. `None` exactly where there is none.
-    pub fn told_named(&self, account: u32, resource: &str) -> Option<Told>
+    pub fn info_named(&self, account: u32, resource: &str) -> Option<SessionInfo>
         ensures told { result ≡ option_map told_by (session_named account resource.now self.now.sessions) }
         ensures same { IfSome result (λ t. session_of t.number self.now.sessions ≡ session_named account resource.now self.now.sessions) }
         ensures few { IfSome result (λ t. t.waiting ≤ MOST_UNACKNOWLEDGED) }

@@ -39,26 +39,24 @@ impl Live {
         h: u32,
         conn: u64,
     ) -> Result<ResumeOk, ResumeFault>
-        requires seat { self.old.seat ≡ Some account }
+        requires reservation { self.old.reservation ≡ Some account }
         requires conn { session_at conn self.old.sessions ≡ None }
         ensures answer { result ≡ resume_answer h (session_resumed previd.now account self.old.sessions) }
         ensures sessions { self.new.sessions ≡ after_resume h conn (session_resumed previd.now account self.old.sessions) self.old.sessions }
         ensures next { self.new.next ≡ self.old.next }
         ensures room { self.old.room ≤ self.new.room }
-        ensures seat { OnOk result (self.new.seat ≡ None) }
-        ensures kept { OnErr result (self.new.seat ≡ self.old.seat) }
+        ensures reservation { OnOk result (self.new.reservation ≡ None) }
+        ensures kept { OnErr result (self.new.reservation ≡ self.old.reservation) }
         ensures queues { self.new.queues ≡ self.old.queues }
     {
         self.table.keeps_rule();
-        let seat = match self.seat {
-            Some(seat) => seat,
+        let reservation = match self.reservation {
+            Some(reservation) => reservation,
             None => unreachable!(),
         };
-        let answer = self
-            .table
-            .resume(&mut self.pool, previd, account, h, conn, seat.queue);
+        let answer = self.table.resume(&mut self.pool, previd, account, h, conn, reservation.queue);
         if answer.is_ok() {
-            self.seat = None;
+            self.reservation = None;
         }
         answer
     }

@@ -2,7 +2,7 @@
 
 /// What the rules for stanzas ask of a session. All else that is told of it `Live::view` has.
 #[derive(Clone, Copy)]
-pub struct Told {
+pub struct SessionInfo {
     /// Its number, which no other session ever gets.
     pub number: u64,
     /// Its account, by the account's place in the configuration.

@@ -4,9 +4,9 @@ mod Worked
 pub mod Directions
 pub mod QueuedSubmissions
 -- Steps of loops.
-pub mod SettledPlaces
+pub mod SettledPositions
 pub mod TakenKinds
 -- Look-ups.
 pub mod OriginIds
 pub mod NumberedSubmissions
-pub mod SearchedPlaces
+pub mod SearchedPositions

@@ -7,7 +7,7 @@ use Rattle.std.proofs.lemmas.Slice.Eq.{bytes_eq-Decides}
 use Rattle.std.specs.List.{list_any}
 use Rattle.sm_outbox.proofs.OriginIds.{origin_injective}
 use Rattle.sm_outbox.specs.Kept.{IsNumbered, SubmissionsView, numbers_of}
-use Rattle.sm_outbox.specs.Submissions.{all_said, in_state, is_submission, origin_of, place, place_of}
+use Rattle.sm_outbox.specs.Submissions.{all_said, in_state, is_submission, origin_of, position, position_of}
 use Rattle.sm_outbox.specs.declared.said.Said.{Said}
 use Rattle.sm_outbox.specs.declared.said.SaidState.{SaidState}
 
@@ -53,31 +53,31 @@ same_at m n e = grind (arith, nat_tests)
 clash : (m n : ℕ) → (m == n) ≡ false → m ≡ n → ⊥
 clash m n e same = grind (arith, nat_tests)
 
-one_test : (resource id : List ℕ) (epoch n : ℕ) (x : Said) → epoch < 2 ^ 64 → n < 2 ^ 64 → id ≡ origin_of resource epoch n → Fits (numbers_of x) → bytes_eq (origin_of resource x.epoch x.n) id ≡ (place_of x == place epoch n)
-one_test resource id epoch n x small fits is of = go (place_of x == place epoch n) refl
+one_test : (resource id : List ℕ) (epoch n : ℕ) (x : Said) → epoch < 2 ^ 64 → n < 2 ^ 64 → id ≡ origin_of resource epoch n → Fits (numbers_of x) → bytes_eq (origin_of resource x.epoch x.n) id ≡ (position_of x == position epoch n)
+one_test resource id epoch n x small fits is of = go (position_of x == position epoch n) refl
   where
-    here : (place_of x == place epoch n) ≡ true → bytes_eq (origin_of resource x.epoch x.n) id ≡ true
+    here : (position_of x == position epoch n) ≡ true → bytes_eq (origin_of resource x.epoch x.n) id ≡ true
     here e =
-        let at : x.epoch * 2 ^ 64 + x.n ≡ epoch * 2 ^ 64 + n = same_at (place_of x) (place epoch n) e in
+        let at : x.epoch * 2 ^ 64 + x.n ≡ epoch * 2 ^ 64 + n = same_at (position_of x) (position epoch n) e in
         let low : x.n < 2 ^ 64 = of.1 in
         let first : x.epoch ≡ epoch = omega arith in
         let last : x.n ≡ n = omega arith in
         (bytes_eq-Decides (origin_of resource x.epoch x.n) id).1 (ap₂ (origin_of resource) first last ∙ sym is)
 
-    apart : (place_of x == place epoch n) ≡ false → bytes_eq (origin_of resource x.epoch x.n) id ≡ false
+    apart : (position_of x == position epoch n) ≡ false → bytes_eq (origin_of resource x.epoch x.n) id ≡ false
     apart e = elim (cases_Bool (bytes_eq (origin_of resource x.epoch x.n) id)) [
       | inl hit ↦
           let numbers = origin_injective resource x.epoch x.n epoch n of.0 of.1 small fits ((bytes_eq-Decides (origin_of resource x.epoch x.n) id).0 hit ∙ is) in
-          absurd (clash (place_of x) (place epoch n) e (ap₂ place numbers.0 numbers.1))
+          absurd (clash (position_of x) (position epoch n) e (ap₂ position numbers.0 numbers.1))
       | inr miss ↦ miss
     ]
 
-    go : (b : Bool) → (place_of x == place epoch n) ≡ b → bytes_eq (origin_of resource x.epoch x.n) id ≡ (place_of x == place epoch n)
+    go : (b : Bool) → (position_of x == position epoch n) ≡ b → bytes_eq (origin_of resource x.epoch x.n) id ≡ (position_of x == position epoch n)
     go true e = here e ∙ sym e
     go false e = apart e ∙ sym e
 
 pub same_test : (resource id : List ℕ) (epoch n : ℕ) (items : List Said) → epoch < 2 ^ 64 → n < 2 ^ 64 → id ≡ origin_of resource epoch n → All (λ of. (of.0 < 2 ^ 64) × (of.1 < 2 ^ 64)) (map numbers_of items)
-    → list_any (λ said. bytes_eq (origin_of resource said.epoch said.n) id) items ≡ list_any (λ said. place_of said == place epoch n) items
+    → list_any (λ said. bytes_eq (origin_of resource said.epoch said.n) id) items ≡ list_any (λ said. position_of said == position epoch n) items
 same_test resource id epoch n [] small fits is all = refl
 same_test resource id epoch n (x ∷ xs) small fits is all =
     ap₂ (λ a b. a || b) (one_test resource id epoch n x small fits is (all 0 (numbers_of x) (omega arith))) (same_test resource id epoch n xs small fits is (λ k d below. all (suc k) d (omega arith)))
@@ -104,10 +104,10 @@ all_items : (items : List Said) (settled epoch n spare : ℕ) (now : Submissions
 all_items items settled epoch n spare now is = ap (λ (v : SubmissionsView). all_said v.said) (sym is) ∙ take-append-drop settled items
 
 pub found_all : (resource id : List ℕ) (e m at : ℕ) (r : Bool) (items shown : List Said) (settled epoch n spare : ℕ) (now : SubmissionsView) → kept items settled epoch n spare ≡ now → IsNumbered (map numbers_of items) epoch n → shown ≡ items
-    → (e < 2 ^ 64) × (m < 2 ^ 64) → id ≡ origin_of resource e m → at ≡ place e m → r ≡ list_any (λ said. place_of said == at) shown → r ≡ is_submission resource id now.said
-found_all resource id e m at r items shown settled epoch n spare now is numbered slice fits origin place_is found =
+    → (e < 2 ^ 64) × (m < 2 ^ 64) → id ≡ origin_of resource e m → at ≡ position e m → r ≡ list_any (λ said. position_of said == at) shown → r ≡ is_submission resource id now.said
+found_all resource id e m at r items shown settled epoch n spare now is numbered slice fits origin position_is found =
     found
-    ∙ ap₂ (λ k l. list_any (λ said. place_of said == k) l) place_is slice
+    ∙ ap₂ (λ k l. list_any (λ said. position_of said == k) l) position_is slice
     ∙ sym (same_test resource id e m items fits.0 fits.1 origin numbered.fit)
     ∙ sym (ap (list_any (λ (said : Said). bytes_eq (origin_of resource said.epoch said.n) id)) (all_items items settled epoch n spare now is))
 

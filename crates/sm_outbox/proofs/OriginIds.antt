@@ -50,11 +50,11 @@ same_cut (x ∷ xs) ys (u ∷ us) vs plain clear same =
 origin_cut : (resource : List ℕ) (epoch n : ℕ) → origin_of resource epoch n ≡ resource ++ (46 ∷ decimal epoch ++ 46 ∷ decimal n)
 origin_cut resource epoch n = append_assoc resource (46 ∷ decimal epoch) (46 ∷ decimal n)
 
-pub behind_resource : (resource id dotted : List ℕ) (epoch n : ℕ) → id ≡ resource ++ dotted → id ≡ origin_of resource epoch n → dotted ≡ 46 ∷ decimal epoch ++ 46 ∷ decimal n
-behind_resource resource id dotted epoch n cut is = append_cancel_left resource dotted (46 ∷ decimal epoch ++ 46 ∷ decimal n) (sym cut ∙ is ∙ origin_cut resource epoch n)
+pub after_resource : (resource id dotted : List ℕ) (epoch n : ℕ) → id ≡ resource ++ dotted → id ≡ origin_of resource epoch n → dotted ≡ 46 ∷ decimal epoch ++ 46 ∷ decimal n
+after_resource resource id dotted epoch n cut is = append_cancel_left resource dotted (46 ∷ decimal epoch ++ 46 ∷ decimal n) (sym cut ∙ is ∙ origin_cut resource epoch n)
 
-pub behind_dot : (resource id dotted numbers : List ℕ) (epoch n : ℕ) → id ≡ resource ++ dotted → dotted ≡ 46 ∷ numbers → id ≡ origin_of resource epoch n → numbers ≡ decimal epoch ++ 46 ∷ decimal n
-behind_dot resource id dotted numbers epoch n cut dot is = ap rest_of (sym dot ∙ behind_resource resource id dotted epoch n cut is)
+pub after_dot : (resource id dotted numbers : List ℕ) (epoch n : ℕ) → id ≡ resource ++ dotted → dotted ≡ 46 ∷ numbers → id ≡ origin_of resource epoch n → numbers ≡ decimal epoch ++ 46 ∷ decimal n
+after_dot resource id dotted numbers epoch n cut dot is = ap rest_of (sym dot ∙ after_resource resource id dotted epoch n cut is)
   where
     rest_of : List ℕ → List ℕ
     rest_of [] = []
@@ -62,7 +62,7 @@ behind_dot resource id dotted numbers epoch n cut dot is = ap rest_of (sym dot �
 
 pub origin_injective : (resource : List ℕ) (d m e n : ℕ) → d < 2 ^ 64 → m < 2 ^ 64 → e < 2 ^ 64 → n < 2 ^ 64 → origin_of resource d m ≡ origin_of resource e n → (d ≡ e) × (m ≡ n)
 origin_injective resource d m e n small_d small_m small_e small_n same =
-    let after : decimal d ++ 46 ∷ decimal m ≡ decimal e ++ 46 ∷ decimal n = behind_dot resource (origin_of resource d m) (46 ∷ decimal d ++ 46 ∷ decimal m) (decimal d ++ 46 ∷ decimal m) e n (origin_cut resource d m) refl same in
+    let after : decimal d ++ 46 ∷ decimal m ≡ decimal e ++ 46 ∷ decimal n = after_dot resource (origin_of resource d m) (46 ∷ decimal d ++ 46 ∷ decimal m) (decimal d ++ 46 ∷ decimal m) e n (origin_cut resource d m) refl same in
     let parts = same_cut (decimal d) (decimal m) (decimal e) (decimal n) (decimal_undotted d small_d) (decimal_undotted e small_e) after in
     (decimal_injective d e small_d small_e parts.0, decimal_injective m n small_m small_n parts.1)
 
@@ -82,4 +82,4 @@ pub no_numbers : {T : Type 0} (resource id dotted numbers : List ℕ) (r : Optio
     → IfNone r ((epoch n : ℕ) → epoch < 2 ^ 64 → n < 2 ^ 64 → numbers ≢ decimal epoch ++ 46 ∷ decimal n)
     → IfNone r ((epoch n : ℕ) → epoch < 2 ^ 64 → n < 2 ^ 64 → id ≢ origin_of resource epoch n)
 no_numbers resource id dotted numbers (Some x) cut dot none = tt
-no_numbers resource id dotted numbers None cut dot none = λ epoch n small fits is. none epoch n small fits (behind_dot resource id dotted numbers epoch n cut dot is)
+no_numbers resource id dotted numbers None cut dot none = λ epoch n small fits is. none epoch n small fits (after_dot resource id dotted numbers epoch n cut dot is)

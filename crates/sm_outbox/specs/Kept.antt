@@ -6,7 +6,7 @@ use Rattle.std.specs.declared.collections.VecDeque.{VecDeque}
 use Rattle.sm_acks.specs.Counters.{AckView}
 use Rattle.sm_acks.specs.declared.end.TheConstants.{MOST_UNACKNOWLEDGED}
 use Rattle.sm_outbox.specs.Sessions.{SessionView}
-use Rattle.sm_outbox.specs.Submissions.{SaidView, place}
+use Rattle.sm_outbox.specs.Submissions.{SaidView, position}
 use Rattle.sm_outbox.specs.Waiting.{Waiting}
 use Rattle.sm_outbox.specs.declared.said.Said.{Said}
 use Rattle.sm_acks.specs.Queues.{Lives, PoolView, list_of}
@@ -41,11 +41,11 @@ pub record IsHoused {A : Type 0} (end : AckView) (pool : PoolView) (kinds : VecD
 abbrev pub numbers_of : Said → ℕ × ℕ
 numbers_of said = (said.epoch, said.n)
 
-abbrev pub place_at : ℕ × ℕ → ℕ
-place_at of = place of.0 of.1
+abbrev pub position_at : ℕ × ℕ → ℕ
+position_at of = position of.0 of.1
 
 -- epochs and numbers fit 64 bits; and before the last epoch, behind which numbers come again, they ascend up to the last
 pub record IsNumbered (numbers : List (ℕ × ℕ)) (epoch n : ℕ) : Type 0 where
   pub fit : All (λ of. (of.0 < 2 ^ 64) × (of.1 < 2 ^ 64)) numbers
-  pub rise : epoch < 2 ^ 64 - 1 → IsNonDecreasingBy place_at numbers
-  pub low : epoch < 2 ^ 64 - 1 → All (λ of. place_at of ≤ place epoch n) numbers
+  pub rise : epoch < 2 ^ 64 - 1 → IsNonDecreasingBy position_at numbers
+  pub low : epoch < 2 ^ 64 - 1 → All (λ of. position_at of ≤ position epoch n) numbers

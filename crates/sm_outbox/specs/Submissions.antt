@@ -42,11 +42,11 @@ abbrev pub next_number : ℕ → ℕ
 next_number n = min (n + 1) (2 ^ 64 - 1)
 
 -- where the n-th submission of an epoch stands among all
-abbrev pub place : ℕ → ℕ → ℕ
-place epoch n = epoch * 2 ^ 64 + n
+abbrev pub position : ℕ → ℕ → ℕ
+position epoch n = epoch * 2 ^ 64 + n
 
-abbrev pub place_of : Said → ℕ
-place_of said = place said.epoch said.n
+abbrev pub position_of : Said → ℕ
+position_of said = position said.epoch said.n
 
 -- a submission behind the n-th one of its epoch
 abbrev pub said_of : ℕ → ℕ → List ℕ → List ℕ → Bool → Said

@@ -49,7 +49,7 @@ fn number_in(digits: &str) -> Option<u64>
 }
 
 // What stands in a text behind its front. `None` where it doesn't begin with that.
-fn behind<'a>(text: &'a str, front: &str) -> Option<&'a str>
+fn following<'a>(text: &'a str, front: &str) -> Option<&'a str>
     ensures { MatchOption result ((rest : List ℕ) → text.now ≢ front.now ++ rest) (λ rest. text.now ≡ front.now ++ rest.now) }
 {
     text.strip_prefix(front)
@@ -77,10 +77,10 @@ pub(crate) fn read_origin(resource: &str, id: &str) -> Option<(u64, u64)>
     ensures some { IfSome result (λ of. id.now ≡ origin_of resource.now of.0 of.1) }
     ensures none { IfNone result ((epoch n : ℕ) → epoch < 2 ^ 64 → n < 2 ^ 64 → id.now ≢ origin_of resource.now epoch n) }
 {
-    let Some(dotted) = behind(id, resource) else {
+    let Some(dotted) = following(id, resource) else {
         return None;
     };
-    let Some(numbers) = behind(dotted, ".") else {
+    let Some(numbers) = following(dotted, ".") else {
         return None;
     };
     numbers_in(numbers)

@@ -2,8 +2,8 @@
 ghost use Rattle.std.specs.Prelude.{◌≡◌, ◌-◌, ◌<◌, ◌≤◌, ◌^◌, ◌==◌, ◌++◌, drop, length, map, take, vec_capacity, vec_len, OnOk};
 ghost use Rattle.std.specs.List.{list_any};
 ghost use Rattle.std.specs.List.Sorted.{IsNonDecreasingBy};
-ghost use Rattle.sm_outbox.specs.Kept.{numbers_of, place_at};
-ghost use Rattle.sm_outbox.specs.Submissions.{acknowledged, all_said, in_state, is_submission, next_number, nothing_said, place, place_of, said_of, undecided, with_said};
+ghost use Rattle.sm_outbox.specs.Kept.{numbers_of, position_at};
+ghost use Rattle.sm_outbox.specs.Submissions.{acknowledged, all_said, in_state, is_submission, next_number, nothing_said, position, position_of, said_of, undecided, with_said};
 
 use crate::origins::read_origin;
 use crate::said::{Said, SaidState};
@@ -61,15 +61,15 @@ fn settle_part(items: &mut Vec<Said>, from: usize, to: usize, state: SaidState)
 }
 
 // The number behind another: they stay at 2^64 - 1 once there.
-fn number_behind(n: u64) -> u64
+fn number_after(n: u64) -> u64
     ensures { result ≡ next_number n }
 {
     n.saturating_add(1)
 }
 
 // Where a number of an epoch stands among all.
-fn place(epoch: u64, n: u64) -> u128
-    ensures value { result ≡ place epoch n }
+fn position(epoch: u64, n: u64) -> u128
+    ensures value { result ≡ position epoch n }
     ensures fits { (epoch < 2 ^ 64) × (n < 2 ^ 64) }
 {
     u128::from(epoch) * 18_446_744_073_709_551_616 + u128::from(n)
@@ -77,21 +77,21 @@ fn place(epoch: u64, n: u64) -> u128
 
 // Whether one of the submissions stands at a place, where they ascend.
 fn is_among(items: &[Said], at: u128) -> bool
-    requires { IsNonDecreasingBy place_at (map numbers_of items.now) }
-    ensures { result ≡ list_any (λ said. place_of said == at) items.now }
+    requires { IsNonDecreasingBy position_at (map numbers_of items.now) }
+    ensures { result ≡ list_any (λ said. position_of said == at) items.now }
 {
-    let first = items.partition_point(|said| place(said.epoch, said.n) < at);
+    let first = items.partition_point(|said| position(said.epoch, said.n) < at);
     match items.get(first) {
-        Some(said) => place(said.epoch, said.n) == at,
+        Some(said) => position(said.epoch, said.n) == at,
         None => false,
     }
 }
 
 // The same of submissions in any order.
 fn is_anywhere(items: &[Said], at: u128) -> bool
-    ensures { result ≡ list_any (λ said. place_of said == at) items.now }
+    ensures { result ≡ list_any (λ said. position_of said == at) items.now }
 {
-    items.iter().any(|said| place(said.epoch, said.n) == at)
+    items.iter().any(|said| position(said.epoch, said.n) == at)
 }
 
 impl Submissions {
@@ -120,7 +120,7 @@ impl Submissions {
     pub fn next_number(&self) -> u64
         ensures { result ≡ next_number self.now.n }
     {
-        number_behind(self.n)
+        number_after(self.n)
     }
 
     /// Begins the next epoch, in which submissions are numbered from 1 again. It takes no memory.
@@ -130,7 +130,7 @@ impl Submissions {
         ensures n { self.new.n ≡ 0 }
         ensures spare { self.new.spare ≡ self.old.spare }
     {
-        self.epoch = number_behind(self.epoch);
+        self.epoch = number_after(self.epoch);
         self.n = 0;
     }
 
@@ -152,7 +152,7 @@ impl Submissions {
         ensures epoch { self.new.epoch ≡ self.old.epoch }
         ensures n { self.new.n ≡ next_number self.old.n }
     {
-        let n = number_behind(self.n);
+        let n = number_after(self.n);
         self.n = n;
         let said = Said {
             epoch: self.epoch,
@@ -208,7 +208,7 @@ impl Submissions {
         let Some((epoch, n)) = read_origin(resource, id) else {
             return false;
         };
-        let at = place(epoch, n);
+        let at = position(epoch, n);
         // Behind the last epoch numbers come again, in any order.
         if self.epoch == u64::MAX {
             return is_anywhere(items, at);

@@ -12,9 +12,9 @@ use Rattle.std.proofs.lemmas.Bool.{cases_Bool, cases_eq, false≢true}
 use Rattle.std.proofs.lemmas.Bool.Decides.{nat_tests}
 use Rattle.std.proofs.lemmas.List.{take-append-drop}
 use Rattle.std.proofs.lemmas.Option.{none-some, same_Some}
-use Rattle.sm_resumption.proofs.RowFacts.{KeepsNumber, KeepsSession, eqb_other, eqb_same, filter_without, filters_commute, find_no, same_from_eqb, seats_push, seats_push_other, seats_with}
+use Rattle.sm_resumption.proofs.RowFacts.{KeepsNumber, KeepsSession, eqb_other, eqb_same, filter_without, filters_commute, find_no, reservations_push, reservations_push_other, reservations_with, same_from_eqb}
 use Rattle.sm_resumption.proofs.TableFacts.{FromPush, FromWith, from_push, from_with, from_without, not_at}
-use Rattle.sm_resumption.specs.Indexed.{AreApart, AreInOrder, HasFirst, IsFound, IsIndexed, KeepsParked, conn_in, is_parked_at, is_wait, seats_in, waits_in}
+use Rattle.sm_resumption.specs.Indexed.{AreApart, AreInOrder, HasFirst, IsFound, IsIndexed, KeepsParked, account_sessions, conn_in, is_parked_at, is_wait, waits_in}
 use Rattle.sm_resumption.specs.declared.index.Wait.{Wait}
 use Rattle.sm_resumption.specs.Moves.{HasExpired, attached, fresh_row, is_expired, number_of, parked}
 use Rattle.sm_resumption.specs.Rows.{IsTable, is_at, is_of, row_at, row_of, with_row, without}
@@ -29,8 +29,8 @@ found_still m (Some c) since i j waits conns found = conns c refl ∙ found
 pub waits_same : (s q : ℕ) (i j : Index) → j.waits ≡ i.waits → waits_in i s q ≡ true → waits_in j s q ≡ true
 waits_same s q i j waits has = ap (λ ws. waits_in (record i { waits = ws }) s q) waits ∙ has
 
-pub seats_same : (a : ℕ) (i j : Index) → j.seats ≡ i.seats → seats_in j a ≡ seats_in i a
-seats_same a i j seats = ap (λ ss. seats_in (record i { seats = ss }) a) seats
+pub reservations_same : (a : ℕ) (i j : Index) → j.sessions_by_account ≡ i.sessions_by_account → account_sessions j a ≡ account_sessions i a
+reservations_same a i j sessions_by_account = ap (λ ss. account_sessions (record i { sessions_by_account = ss }) a) sessions_by_account
 
 pub ordered_same : (i j : Index) → j.waits ≡ i.waits → AreInOrder i → AreInOrder j
 ordered_same i j waits ordered = subst (λ ws. AreInOrder (record i { waits = ws })) (sym waits) ordered
@@ -45,8 +45,8 @@ spared n m next r s i j rows table is was other conns waits found =
 -- a change of a row that keeps its name
 pub indexed_with : (n : ℕ) (f : Row → Row) (r : Row) (i j : Index) (rows : List Row) → KeepsNumber f → ((s : Row) → (f s).shown.account ≡ s.shown.account) →
     row_of n rows ≡ Some r → (j.whole ≡ true → i.whole ≡ true) → ((m : ℕ) (s : Row) → row_of m rows ≡ Some s → m ≢ n → IsFound i m s.shown.conn s.shown.parked_at → IsFound j m s.shown.conn s.shown.parked_at) →
-    (j.whole ≡ true → IsFound j n (f r).shown.conn (f r).shown.parked_at) → j.seats ≡ i.seats → AreInOrder j → IsIndexed i rows → IsIndexed j (with_row n f rows)
-indexed_with n f r i j rows keeps account is whole others mine seats ordered indexed = record { placed = placed; seated = seated; ordered = ordered }
+    (j.whole ≡ true → IsFound j n (f r).shown.conn (f r).shown.parked_at) → j.sessions_by_account ≡ i.sessions_by_account → AreInOrder j → IsIndexed i rows → IsIndexed j (with_row n f rows)
+indexed_with n f r i j rows keeps account is whole others mine sessions_by_account ordered indexed = record { placed = placed; reserved = reserved; ordered = ordered }
   where
     placed : j.whole ≡ true → (m : ℕ) (s : Row) → row_of m (with_row n f rows) ≡ Some s → IsFound j m s.shown.conn s.shown.parked_at
     placed w m s was =
@@ -63,8 +63,8 @@ indexed_with n f r i j rows keeps account is whole others mine seats ordered ind
               subst P (from.same other) (others m from.was from.found other (indexed.placed (whole w) m from.was from.found))
         ]
 
-    seated : (a : ℕ) → seats_in j a ≡ map number_of (filter (is_of a) (with_row n f rows))
-    seated a = seats_same a i j seats ∙ indexed.seated a ∙ sym (seats_with a n f rows keeps account)
+    reserved : (a : ℕ) → account_sessions j a ≡ map number_of (filter (is_of a) (with_row n f rows))
+    reserved a = reservations_same a i j sessions_by_account ∙ indexed.reserved a ∙ sym (reservations_with a n f rows keeps account)
 
 -- a change that keeps the connection and the moment too, and the index
 pub indexed_kept : (n : ℕ) (f : Row → Row) (r : Row) (i : Index) (rows : List Row) → KeepsSession f → row_of n rows ≡ Some r → IsIndexed i rows → IsIndexed i (with_row n f rows)
@@ -74,29 +74,29 @@ indexed_kept n f r i rows keeps is indexed =
 
 -- a session that is parked
 pub indexed_parked : (n next now : ℕ) (r : Row) (i j k : Index) (rows : List Row) → IsTable rows next → row_of n rows ≡ Some r → ((q : ℕ) → r.shown.conn ≢ Some q → conn_in j q ≡ conn_in i q) → j.waits ≡ i.waits → j.whole ≡ i.whole →
-    j.seats ≡ i.seats → k.conns ≡ j.conns → (k.whole ≡ true → waits_in k now n ≡ true) → ((s q : ℕ) → waits_in j s q ≡ true → waits_in k s q ≡ true) → (k.whole ≡ true → j.whole ≡ true) → k.seats ≡ j.seats → AreInOrder k →
+    j.sessions_by_account ≡ i.sessions_by_account → k.conns ≡ j.conns → (k.whole ≡ true → waits_in k now n ≡ true) → ((s q : ℕ) → waits_in j s q ≡ true → waits_in k s q ≡ true) → (k.whole ≡ true → j.whole ≡ true) → k.sessions_by_account ≡ j.sessions_by_account → AreInOrder k →
     IsIndexed i rows → IsIndexed k (with_row n (parked now) rows)
-indexed_parked n next now r i j k rows table is conns waits_j whole seats conns_k here waits whole_k seats_k ordered indexed =
+indexed_parked n next now r i j k rows table is conns waits_j whole sessions_by_account conns_k here waits whole_k reservations_k ordered indexed =
     indexed_with n (parked now) r i k rows (record { same = λ s. refl }) (λ s. refl) is (λ w. sym whole ∙ whole_k w)
     (λ m s was other found. found_still m s.shown.conn s.shown.parked_at j k (waits s.shown.parked_at m) (λ c on. ap (λ cs. conn_in (record j { conns = cs }) c) conns_k) (spared n m next r s i j rows table is was other conns waits_j found))
-    here (seats_k ∙ seats) ordered indexed
+    here (reservations_k ∙ sessions_by_account) ordered indexed
 
 -- a session that gets another connection
 pub indexed_attached : (n next conn queue : ℕ) (r : Row) (i j k : Index) (rows : List Row) → IsTable rows next → row_of n rows ≡ Some r → row_at conn rows ≡ None → ((q : ℕ) → r.shown.conn ≢ Some q → conn_in j q ≡ conn_in i q) →
-    j.waits ≡ i.waits → j.whole ≡ i.whole → j.seats ≡ i.seats → (k.whole ≡ true → conn_in k conn ≡ Some n) → ((q : ℕ) → q ≢ conn → conn_in k q ≡ conn_in j q) → k.waits ≡ j.waits → (k.whole ≡ true → j.whole ≡ true) →
-    k.seats ≡ j.seats → IsIndexed i rows → IsIndexed k (with_row n (attached conn queue) rows)
-indexed_attached n next conn queue r i j k rows table is free conns_j waits_j whole seats here conns waits whole_k seats_k indexed =
+    j.waits ≡ i.waits → j.whole ≡ i.whole → j.sessions_by_account ≡ i.sessions_by_account → (k.whole ≡ true → conn_in k conn ≡ Some n) → ((q : ℕ) → q ≢ conn → conn_in k q ≡ conn_in j q) → k.waits ≡ j.waits → (k.whole ≡ true → j.whole ≡ true) →
+    k.sessions_by_account ≡ j.sessions_by_account → IsIndexed i rows → IsIndexed k (with_row n (attached conn queue) rows)
+indexed_attached n next conn queue r i j k rows table is free conns_j waits_j whole sessions_by_account here conns waits whole_k reservations_k indexed =
     indexed_with n (attached conn queue) r i k rows (record { same = λ s. refl }) (λ s. refl) is (λ w. sym whole ∙ whole_k w)
     (λ m s was other found. found_still m s.shown.conn s.shown.parked_at j k (waits_same s.shown.parked_at m j k waits)
     (λ c on. conns c (λ same. not_at conn m s rows free was (on ∙ ap Some same))) (spared n m next r s i j rows table is was other conns_j waits_j found))
-    here (seats_k ∙ seats) (ordered_same i k (waits ∙ waits_j) indexed.ordered) indexed
+    here (reservations_k ∙ sessions_by_account) (ordered_same i k (waits ∙ waits_j) indexed.ordered) indexed
 
 -- a session that is gone
-pub indexed_without : (n next : ℕ) (r : Row) (i j k : Index) (rows : List Row) → IsTable rows next → row_of n rows ≡ Some r → ((q : ℕ) → r.shown.conn ≢ Some q → conn_in j q ≡ conn_in i q) → j.waits ≡ i.waits → j.whole ≡ i.whole → j.seats ≡ i.seats →
-    k.conns ≡ j.conns → k.waits ≡ j.waits → k.whole ≡ j.whole → seats_in k r.shown.account ≡ filter (λ m. not (m == n)) (seats_in j r.shown.account) →
-    ((q : ℕ) → q ≢ r.shown.account → seats_in k q ≡ seats_in j q) → IsIndexed i rows → IsIndexed k (without n rows)
-indexed_without n next r i j k rows table is conns waits whole seats conns_k waits_k whole_k mine others indexed =
-    record { placed = placed; seated = seated; ordered = ordered_same i k (waits_k ∙ waits) indexed.ordered }
+pub indexed_without : (n next : ℕ) (r : Row) (i j k : Index) (rows : List Row) → IsTable rows next → row_of n rows ≡ Some r → ((q : ℕ) → r.shown.conn ≢ Some q → conn_in j q ≡ conn_in i q) → j.waits ≡ i.waits → j.whole ≡ i.whole → j.sessions_by_account ≡ i.sessions_by_account →
+    k.conns ≡ j.conns → k.waits ≡ j.waits → k.whole ≡ j.whole → account_sessions k r.shown.account ≡ filter (λ m. not (m == n)) (account_sessions j r.shown.account) →
+    ((q : ℕ) → q ≢ r.shown.account → account_sessions k q ≡ account_sessions j q) → IsIndexed i rows → IsIndexed k (without n rows)
+indexed_without n next r i j k rows table is conns waits whole sessions_by_account conns_k waits_k whole_k mine others indexed =
+    record { placed = placed; reserved = reserved; ordered = ordered_same i k (waits_k ∙ waits) indexed.ordered }
   where
     placed : k.whole ≡ true → (m : ℕ) (s : Row) → row_of m (without n rows) ≡ Some s → IsFound k m s.shown.conn s.shown.parked_at
     placed w m s was =
@@ -104,14 +104,14 @@ indexed_without n next r i j k rows table is conns waits whole seats conns_k wai
         found_still m s.shown.conn s.shown.parked_at j k (waits_same s.shown.parked_at m j k waits_k) (λ c on. ap (λ cs. conn_in (record j { conns = cs }) c) conns_k)
         (spared n m next r s i j rows table is from.1 from.0 conns waits (indexed.placed (sym whole ∙ sym whole_k ∙ w) m s from.1))
 
-    before : (a : ℕ) → seats_in j a ≡ map number_of (filter (is_of a) rows)
-    before a = seats_same a i j seats ∙ indexed.seated a
+    before : (a : ℕ) → account_sessions j a ≡ map number_of (filter (is_of a) rows)
+    before a = reservations_same a i j sessions_by_account ∙ indexed.reserved a
 
-    seated : (a : ℕ) → seats_in k a ≡ map number_of (filter (is_of a) (without n rows))
-    seated a =
+    reserved : (a : ℕ) → account_sessions k a ≡ map number_of (filter (is_of a) (without n rows))
+    reserved a =
         elim (cases_eq a r.shown.account) [
           | inl same ↦
-              ap (seats_in k) same ∙ mine ∙ ap (λ q. filter (λ m. not (m == n)) (seats_in j q)) (sym same)
+              ap (account_sessions k) same ∙ mine ∙ ap (λ q. filter (λ m. not (m == n)) (account_sessions j q)) (sym same)
               ∙ ap (filter (λ m. not (m == n))) (before a) ∙ numbers_without n (filter (is_of a) rows) ∙ ap (map number_of) (filters_commute (λ s. not (s.shown.number == n)) (is_of a) rows)
           | inr other ↦
               let fails : is_of a r ≡ false = eqb_other r.shown.account a (λ same. other (sym same)) in
@@ -120,11 +120,11 @@ indexed_without n next r i j k rows table is conns waits whole seats conns_k wai
 
 -- a session more
 pub indexed_pushed : (next account conn queue : ℕ) (resource : List ℕ) (i j k : Index) (rows : List Row) → IsTable rows next → row_at conn rows ≡ None →
-    (j.whole ≡ true → conn_in j conn ≡ Some next) → ((q : ℕ) → q ≢ conn → conn_in j q ≡ conn_in i q) → j.waits ≡ i.waits → (j.whole ≡ true → i.whole ≡ true) → j.seats ≡ i.seats →
-    seats_in k account ≡ seats_in j account ++ next ∷ [] → ((q : ℕ) → q ≢ account → seats_in k q ≡ seats_in j q) → k.conns ≡ j.conns → k.waits ≡ j.waits → k.whole ≡ j.whole →
+    (j.whole ≡ true → conn_in j conn ≡ Some next) → ((q : ℕ) → q ≢ conn → conn_in j q ≡ conn_in i q) → j.waits ≡ i.waits → (j.whole ≡ true → i.whole ≡ true) → j.sessions_by_account ≡ i.sessions_by_account →
+    account_sessions k account ≡ account_sessions j account ++ next ∷ [] → ((q : ℕ) → q ≢ account → account_sessions k q ≡ account_sessions j q) → k.conns ≡ j.conns → k.waits ≡ j.waits → k.whole ≡ j.whole →
     IsIndexed i rows → IsIndexed k (rows ++ fresh_row next account resource conn queue ∷ [])
-indexed_pushed next account conn queue resource i j k rows table free here conns waits whole seats mine others conns_k waits_k whole_k indexed =
-    record { placed = placed; seated = seated; ordered = ordered_same i k (waits_k ∙ waits) indexed.ordered }
+indexed_pushed next account conn queue resource i j k rows table free here conns waits whole sessions_by_account mine others conns_k waits_k whole_k indexed =
+    record { placed = placed; reserved = reserved; ordered = ordered_same i k (waits_k ∙ waits) indexed.ordered }
   where
     placed : k.whole ≡ true → (m : ℕ) (s : Row) → row_of m (rows ++ fresh_row next account resource conn queue ∷ []) ≡ Some s → IsFound k m s.shown.conn s.shown.parked_at
     placed w m s was =
@@ -142,19 +142,19 @@ indexed_pushed next account conn queue resource i j k rows table free here conns
               (indexed.placed (whole before) m s (from.old other))
         ]
 
-    before : (a : ℕ) → seats_in j a ≡ map number_of (filter (is_of a) rows)
-    before a = seats_same a i j seats ∙ indexed.seated a
+    before : (a : ℕ) → account_sessions j a ≡ map number_of (filter (is_of a) rows)
+    before a = reservations_same a i j sessions_by_account ∙ indexed.reserved a
 
-    seated : (a : ℕ) → seats_in k a ≡ map number_of (filter (is_of a) (rows ++ fresh_row next account resource conn queue ∷ []))
-    seated a =
+    reserved : (a : ℕ) → account_sessions k a ≡ map number_of (filter (is_of a) (rows ++ fresh_row next account resource conn queue ∷ []))
+    reserved a =
         elim (cases_eq a account) [
           | inl same ↦
               let passes_ : is_of a (fresh_row next account resource conn queue) ≡ true = rw same (eqb_same account) in
-              ap (seats_in k) same ∙ mine ∙ ap (λ q. seats_in j q ++ next ∷ []) (sym same) ∙ ap (λ l. l ++ next ∷ []) (before a)
-              ∙ sym (seats_push a (fresh_row next account resource conn queue) rows passes_)
+              ap (account_sessions k) same ∙ mine ∙ ap (λ q. account_sessions j q ++ next ∷ []) (sym same) ∙ ap (λ l. l ++ next ∷ []) (before a)
+              ∙ sym (reservations_push a (fresh_row next account resource conn queue) rows passes_)
           | inr other ↦
               let fails : is_of a (fresh_row next account resource conn queue) ≡ false = eqb_other account a (λ same. other (sym same)) in
-              others a other ∙ before a ∙ sym (seats_push_other a (fresh_row next account resource conn queue) rows fails)
+              others a other ∙ before a ∙ sym (reservations_push_other a (fresh_row next account resource conn queue) rows fails)
         ]
 
 -- the number and the moment of an entry
@@ -277,20 +277,20 @@ expired_absent now next i get rows table indexed found whole fails =
     ])
 
 -- an index that has the same
-pub indexed_same : (i j : Index) (rows : List Row) → ((q : ℕ) → conn_in j q ≡ conn_in i q) → j.waits.items ≡ i.waits.items → j.whole ≡ i.whole → ((q : ℕ) → seats_in j q ≡ seats_in i q) → IsIndexed i rows → IsIndexed j rows
-indexed_same i j rows conns waits whole seats indexed =
+pub indexed_same : (i j : Index) (rows : List Row) → ((q : ℕ) → conn_in j q ≡ conn_in i q) → j.waits.items ≡ i.waits.items → j.whole ≡ i.whole → ((q : ℕ) → account_sessions j q ≡ account_sessions i q) → IsIndexed i rows → IsIndexed j rows
+indexed_same i j rows conns waits whole sessions_by_account indexed =
     record {
       placed = λ w n r is. found_still n r.shown.conn r.shown.parked_at i j (λ waiting. ap (list_any (is_wait r.shown.parked_at n)) waits ∙ waiting) (λ c on. conns c) (indexed.placed (sym whole ∙ w) n r is);
-      seated = λ a. seats a ∙ indexed.seated a;
+      reserved = λ a. sessions_by_account a ∙ indexed.reserved a;
       ordered = subst (λ ws. IsNonDecreasingBy (λ v. v.since) ws) (sym waits) indexed.ordered;
     }
 
 -- an index that has of the parked what it needs
-pub indexed_swept : (i j : Index) (get : ℕ → Option Row) (rows : List Row) → ((n : ℕ) → get n ≡ row_of n rows) → j.conns ≡ i.conns → KeepsParked get i j → j.whole ≡ i.whole → j.seats ≡ i.seats → AreInOrder j → IsIndexed i rows → IsIndexed j rows
-indexed_swept i j get rows found conns waits whole seats ordered indexed =
+pub indexed_swept : (i j : Index) (get : ℕ → Option Row) (rows : List Row) → ((n : ℕ) → get n ≡ row_of n rows) → j.conns ≡ i.conns → KeepsParked get i j → j.whole ≡ i.whole → j.sessions_by_account ≡ i.sessions_by_account → AreInOrder j → IsIndexed i rows → IsIndexed j rows
+indexed_swept i j get rows found conns waits whole sessions_by_account ordered indexed =
     record {
       placed = λ w n r is. still n r r.shown.conn refl is (indexed.placed (sym whole ∙ w) n r is);
-      seated = λ a. seats_same a i j seats ∙ indexed.seated a;
+      reserved = λ a. reservations_same a i j sessions_by_account ∙ indexed.reserved a;
       ordered = ordered;
     }
   where
@@ -299,8 +299,8 @@ indexed_swept i j get rows found conns waits whole seats ordered indexed =
     still n r (Some c) on is has = ap (λ cs. conn_in (record i { conns = cs }) c) conns ∙ has
 
 -- no session is there
-pub indexed_nobody : (i : Index) (rows : List Row) → rows ≡ [] → ((a : ℕ) → seats_in i a ≡ []) → AreInOrder i → IsIndexed i rows
-indexed_nobody i rows none seats ordered = rw none (record { placed = λ w n r is. absurd (none-some r is); seated = seats; ordered = ordered })
+pub indexed_nobody : (i : Index) (rows : List Row) → rows ≡ [] → ((a : ℕ) → account_sessions i a ≡ []) → AreInOrder i → IsIndexed i rows
+indexed_nobody i rows none sessions_by_account ordered = rw none (record { placed = λ w n r is. absurd (none-some r is); reserved = sessions_by_account; ordered = ordered })
 
 -- what a table that is seen has indexed
 pub indexed_as : (i : Index) (inside rows : List Row) → inside ≡ rows → IsIndexed i inside → IsIndexed i rows
@@ -368,13 +368,13 @@ found_none n since i o is has = let P : Option ℕ → Type 0 = λ o. IsFound i 
 
 -- all sessions are put back
 pub indexed_mended : (next : ℕ) (i j : Index) (numbers : List ℕ) (get : ℕ → Option Row) (rows : List Row) → filter (λ n. is_some (get n)) numbers ≡ map number_of rows → ((n : ℕ) → get n ≡ row_of n rows) →
-    (j.whole ≡ true → HasFirst (length numbers) j numbers get) → j.seats ≡ i.seats → AreInOrder j → IsIndexed i rows → IsIndexed j rows
-indexed_mended next i j numbers get rows listed found placed seats ordered indexed =
+    (j.whole ≡ true → HasFirst (length numbers) j numbers get) → j.sessions_by_account ≡ i.sessions_by_account → AreInOrder j → IsIndexed i rows → IsIndexed j rows
+indexed_mended next i j numbers get rows listed found placed sessions_by_account ordered indexed =
     record {
       placed = λ w n r is.
           (let at = listed_at n r (λ m. is_some (get m)) numbers rows listed is in
           subst (λ m. IsFound j m r.shown.conn r.shown.parked_at) at.2 (placed w at.0 r at.1 (ap get at.2 ∙ found n ∙ is)));
-      seated = λ a. seats_same a i j seats ∙ indexed.seated a;
+      reserved = λ a. reservations_same a i j sessions_by_account ∙ indexed.reserved a;
       ordered = ordered;
     }
 

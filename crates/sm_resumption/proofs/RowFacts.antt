@@ -386,10 +386,10 @@ find_none_with p n f (r ∷ rows) same none =
     ]
 
 -- the sessions of an account after a change of one
-pub seats_with : (a n : ℕ) (f : Row → Row) (rows : List Row) → KeepsNumber f → ((r : Row) → (f r).shown.account ≡ r.shown.account) → map number_of (filter (is_of a) (with_row n f rows)) ≡ map number_of (filter (is_of a) rows)
-seats_with a n f [] keeps account = refl
-seats_with a n f (r ∷ rows) keeps account =
-    let rest : map number_of (filter (is_of a) (with_row n f rows)) ≡ map number_of (filter (is_of a) rows) = seats_with a n f rows keeps account in
+pub reservations_with : (a n : ℕ) (f : Row → Row) (rows : List Row) → KeepsNumber f → ((r : Row) → (f r).shown.account ≡ r.shown.account) → map number_of (filter (is_of a) (with_row n f rows)) ≡ map number_of (filter (is_of a) rows)
+reservations_with a n f [] keeps account = refl
+reservations_with a n f (r ∷ rows) keeps account =
+    let rest : map number_of (filter (is_of a) (with_row n f rows)) ≡ map number_of (filter (is_of a) rows) = reservations_with a n f rows keeps account in
     elim (cases_Bool (r.shown.number == n)) [
       | inl here ↦
           elim (cases_Bool (r.shown.account == a)) [
@@ -408,19 +408,19 @@ seats_with a n f (r ∷ rows) keeps account =
     ]
 
 -- and with one more
-pub seats_push : (a : ℕ) (x : Row) (rows : List Row) → is_of a x ≡ true → map number_of (filter (is_of a) (rows ++ x ∷ [])) ≡ map number_of (filter (is_of a) rows) ++ x.shown.number ∷ []
-seats_push a x [] mine = rw mine refl
-seats_push a x (r ∷ rows) mine =
-    let rest : map number_of (filter (is_of a) (rows ++ x ∷ [])) ≡ map number_of (filter (is_of a) rows) ++ x.shown.number ∷ [] = seats_push a x rows mine in
+pub reservations_push : (a : ℕ) (x : Row) (rows : List Row) → is_of a x ≡ true → map number_of (filter (is_of a) (rows ++ x ∷ [])) ≡ map number_of (filter (is_of a) rows) ++ x.shown.number ∷ []
+reservations_push a x [] mine = rw mine refl
+reservations_push a x (r ∷ rows) mine =
+    let rest : map number_of (filter (is_of a) (rows ++ x ∷ [])) ≡ map number_of (filter (is_of a) rows) ++ x.shown.number ∷ [] = reservations_push a x rows mine in
     elim (cases_Bool (is_of a r)) [
       | inl here ↦ rw here (ap (λ t. r.shown.number ∷ t) rest)
       | inr other ↦ rw other rest
     ]
 
-pub seats_push_other : (a : ℕ) (x : Row) (rows : List Row) → is_of a x ≡ false → map number_of (filter (is_of a) (rows ++ x ∷ [])) ≡ map number_of (filter (is_of a) rows)
-seats_push_other a x [] other = rw other refl
-seats_push_other a x (r ∷ rows) other =
-    let rest : map number_of (filter (is_of a) (rows ++ x ∷ [])) ≡ map number_of (filter (is_of a) rows) = seats_push_other a x rows other in
+pub reservations_push_other : (a : ℕ) (x : Row) (rows : List Row) → is_of a x ≡ false → map number_of (filter (is_of a) (rows ++ x ∷ [])) ≡ map number_of (filter (is_of a) rows)
+reservations_push_other a x [] other = rw other refl
+reservations_push_other a x (r ∷ rows) other =
+    let rest : map number_of (filter (is_of a) (rows ++ x ∷ [])) ≡ map number_of (filter (is_of a) rows) = reservations_push_other a x rows other in
     elim (cases_Bool (is_of a r)) [
       | inl here ↦ rw here (ap (λ t. r.shown.number ∷ t) rest)
       | inr there ↦ rw there rest

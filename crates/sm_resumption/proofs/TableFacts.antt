@@ -194,8 +194,8 @@ lawful_attached n conn queue rows free =
     }
 
 -- the place of a number that is there
-pub place_is_some : (n : ℕ) (rows shown : List Row) → rows ≡ shown → IsSome (row_of n shown) → row_of n rows ≡ None → ⊥
-place_is_some n rows shown are lives none =
+pub position_is_some : (n : ℕ) (rows shown : List Row) → rows ≡ shown → IsSome (row_of n shown) → row_of n rows ≡ None → ⊥
+position_is_some n rows shown are lives none =
     let P : Option Row → Type 0 = λ o. IsSome o in
     false≢true (subst P (ap (row_of n) (sym are) ∙ none) lives)
 

@@ -19,6 +19,6 @@ changed Handled r = handling r
 pub record ChangesRow (number : ℕ) (f : Row → Row) (old new : Table) : Type 0 where
   pub rows : new.rows ≡ with_row number f old.rows
   pub next : new.next ≡ old.next
-  pub seat : new.seat ≡ old.seat
+  pub reservation : new.reservation ≡ old.reservation
   pub spare : old.spare ≤ new.spare
   pub housed : (pool : PoolView) → IsHoused old.rows pool → IsHoused new.rows pool

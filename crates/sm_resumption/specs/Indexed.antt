@@ -24,11 +24,11 @@ room_in None = 0
 room_in (Some v) = vec_capacity v - vec_len v
 
 -- the sessions that the index has for an account, and how many more fit
-abbrev pub seats_in : Index → ℕ → List ℕ
-seats_in i account = numbers_in (hash.get nat_eq i.seats account)
+abbrev pub account_sessions : Index → ℕ → List ℕ
+account_sessions i account = numbers_in (hash.get nat_eq i.sessions_by_account account)
 
-abbrev pub seat_in : Index → ℕ → ℕ
-seat_in i account = room_in (hash.get nat_eq i.seats account)
+abbrev pub account_room : Index → ℕ → ℕ
+account_room i account = room_in (hash.get nat_eq i.sessions_by_account account)
 
 -- whether the index has it that a session was parked at a moment
 abbrev pub is_wait : ℕ → ℕ → Wait → Bool
@@ -52,7 +52,7 @@ IsFound i n (Some conn) since = conn_in i conn ≡ Some n
 
 pub record IsIndexed (i : Index) (rows : List Row) : Type 0 where
   pub placed : i.whole ≡ true → (n : ℕ) (r : Row) → row_of n rows ≡ Some r → IsFound i n r.shown.conn r.shown.parked_at
-  pub seated : (account : ℕ) → seats_in i account ≡ map number_of (filter (is_of account) rows)
+  pub reserved : (account : ℕ) → account_sessions i account ≡ map number_of (filter (is_of account) rows)
   pub ordered : AreInOrder i
 
 -- no two sessions are on one connection

@@ -8,7 +8,7 @@ use Rattle.sm_resumption.specs.declared.session.Row.{Row}
 pub record Table : Type 0 where
   pub rows : List Row
   pub next : ℕ
-  pub seat : ℕ
+  pub reservation : ℕ
   pub spare : ℕ
 
 -- the session with a number

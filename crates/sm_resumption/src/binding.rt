@@ -25,7 +25,7 @@ impl Sessions {
         ensures ended { result ≡ option_map ended_of (row_of number self.old.rows) }
         ensures rows { self.new.rows ≡ without number self.old.rows }
         ensures next { self.new.next ≡ self.old.next }
-        ensures seat { self.new.seat ≡ self.old.seat }
+        ensures reservation { self.new.reservation ≡ self.old.reservation }
         ensures kept { self.old.spare ≤ self.new.spare }
         ensures pool { Drops (row_of number self.old.rows) pool.old pool.new }
         ensures made { pool.new.made ≡ pool.old.made }
@@ -47,7 +47,7 @@ impl Sessions {
         ensures ended { result ≡ option_map ended_of (row_named account resource.now self.old.rows) }
         ensures rows { self.new.rows ≡ less (row_named account resource.now self.old.rows) self.old.rows }
         ensures next { self.new.next ≡ self.old.next }
-        ensures seat { self.new.seat ≡ self.old.seat }
+        ensures reservation { self.new.reservation ≡ self.old.reservation }
         ensures kept { self.old.spare ≤ self.new.spare }
         ensures pool { Drops (row_named account resource.now self.old.rows) pool.old pool.new }
         ensures made { pool.new.made ≡ pool.old.made }
@@ -74,7 +74,7 @@ impl Sessions {
         queue: QueueId,
     ) -> Bound
         requires spare { 1 ≤ self.old.spare }
-        requires seat { self.old.seat ≡ account }
+        requires reservation { self.old.reservation ≡ account }
         requires next { self.old.next < 2 ^ 64 - 1 }
         requires housed { IsHoused self.old.rows pool.old }
         requires conn { row_at conn self.old.rows ≡ None }
@@ -83,7 +83,7 @@ impl Sessions {
         ensures ended { result.ended ≡ option_map ended_of (row_named account resource self.old.rows) }
         ensures rows { self.new.rows ≡ less (row_named account resource self.old.rows) self.old.rows ++ fresh_row self.old.next account resource conn queue ∷ [] }
         ensures next { self.new.next ≡ self.old.next + 1 }
-        ensures seat { self.new.seat ≡ account }
+        ensures reservation { self.new.reservation ≡ account }
         ensures spare { self.old.spare ≤ self.new.spare + 1 }
         ensures pool { Drops (row_named account resource self.old.rows) pool.old pool.new }
         ensures made { pool.new.made ≡ pool.old.made }
@@ -132,7 +132,7 @@ impl Sessions {
         ensures answer { result ≡ option_map lost_as (row_at conn self.old.rows) }
         ensures rows { self.new.rows ≡ rows_parked now (row_at conn self.old.rows) self.old.rows }
         ensures next { self.new.next ≡ self.old.next }
-        ensures seat { self.new.seat ≡ self.old.seat }
+        ensures reservation { self.new.reservation ≡ self.old.reservation }
         ensures kept { self.old.spare ≤ self.new.spare }
         ensures pool { Drops (lost (row_at conn self.old.rows)) pool.old pool.new }
         ensures made { pool.new.made ≡ pool.old.made }
@@ -158,7 +158,7 @@ impl Sessions {
         requires { IsHoused self.old.rows pool.old }
         ensures rows { self.new.rows ≡ filter (λ r. not (is_expired now r)) self.old.rows }
         ensures next { self.new.next ≡ self.old.next }
-        ensures seat { self.new.seat ≡ self.old.seat }
+        ensures reservation { self.new.reservation ≡ self.old.reservation }
         ensures kept { self.old.spare ≤ self.new.spare }
         ensures pool { DropsExpired now self.old.rows pool.old pool.new }
         ensures made { pool.new.made ≡ pool.old.made }

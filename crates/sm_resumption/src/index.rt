@@ -2,7 +2,7 @@
 ghost use Rattle.std.specs.HashMap as hash;
 ghost use Rattle.std.specs.List.Sorted.{IsNonDecreasingBy};
 ghost use Rattle.std.specs.Prelude.{◌≡◌, ◌≢◌, ℕ, ◌+◌, ◌-◌, ◌<◌, ◌≤◌, ◌==◌, [], ◌∷◌, ◌++◌, List, filter, not, Some, None, IfNone, IfSome, IsSome, MatchOption, OnOk, false, length, nat_eq, slice_index_or, true};
-ghost use Rattle.sm_resumption.specs.Indexed.{AreApart, AreInOrder, HasFirst, KeepsParked, conn_in, is_parked_at, is_wait, seat_in, seats_in, waits_in};
+ghost use Rattle.sm_resumption.specs.Indexed.{AreApart, AreInOrder, HasFirst, KeepsParked, account_room, account_sessions, conn_in, is_parked_at, is_wait, waits_in};
 ghost use Rattle.sm_resumption.specs.Moves.{is_expired};
 ghost use Rattle.sm_resumption.specs.Stored.{passes};
 ghost use Rattle.sm_resumption.specs.declared.session.Row.{Row};
@@ -21,16 +21,16 @@ pub(crate) struct Wait {
 }
 
 // What sessions are found by, other than their numbers. `conns` has the session of each connection, and `waits` those
-// that were parked, in the order of the moments. An entry of `waits` stays where its session is resumed or ends, and says
-// nothing from then on. Where room ran out `whole` is false, and some sessions may be missing from both. `seats` has the
-// sessions of each account, ascending. `reserve` alone asks for memory: an entry is added only where there is room to
-// spare.
+// that were parked, in the order of the moments. An entry of `waits` stays where its session is resumed or ends, and
+// says nothing from then on. Where room ran out `whole` is false, and some sessions may be missing from both.
+// `sessions_by_account` has the sessions of each account, ascending. `reserve` alone asks for memory: an entry is added
+// only where there is room to spare.
 #[derive(Drop)]
 pub(crate) struct Index {
     pub(crate) conns: HashMap<u64, u64>,
     pub(crate) waits: VecDeque<Wait>,
     pub(crate) whole: bool,
-    pub(crate) seats: HashMap<u32, Vec<u64>>,
+    pub(crate) sessions_by_account: HashMap<u32, Vec<u64>>,
     pub(crate) alloc: Global,
 }
 
@@ -58,22 +58,22 @@ impl Index {
     // An index of no sessions.
     pub(crate) fn new(alloc: Global) -> Index
         ensures ordered { AreInOrder result }
-        ensures seats { (account : ℕ) → seats_in result account ≡ [] }
+        ensures sessions_by_account { (account : ℕ) → account_sessions result account ≡ [] }
     {
         Index {
             conns: HashMap::new(alloc),
             waits: VecDeque::new(alloc),
             whole: true,
-            seats: HashMap::new(alloc),
+            sessions_by_account: HashMap::new(alloc),
             alloc,
         }
     }
 
     // The sessions of an account, ascending.
-    pub(crate) fn seats_of(&self, account: u32) -> &[u64]
-        ensures { result.now ≡ seats_in self.now account }
+    pub(crate) fn sessions_of_account(&self, account: u32) -> &[u64]
+        ensures { result.now ≡ account_sessions self.now account }
     {
-        match self.seats.get(&account) {
+        match self.sessions_by_account.get(&account) {
             Some(numbers) => numbers.as_slice(),
             None => &[],
         }
@@ -85,11 +85,11 @@ impl Index {
         ensures conns { (q : ℕ) → conn_in self.new q ≡ conn_in self.old q }
         ensures waits { self.new.waits.items ≡ self.old.waits.items }
         ensures whole { self.new.whole ≡ self.old.whole }
-        ensures seats { (q : ℕ) → seats_in self.new q ≡ seats_in self.old q }
-        ensures kept { (q : ℕ) → seat_in self.old q ≤ seat_in self.new q }
-        ensures spare { OnOk result (1 ≤ seat_in self.new account) }
+        ensures sessions_by_account { (q : ℕ) → account_sessions self.new q ≡ account_sessions self.old q }
+        ensures kept { (q : ℕ) → account_room self.old q ≤ account_room self.new q }
+        ensures spare { OnOk result (1 ≤ account_room self.new account) }
     {
-        self.reserve_seat(account)?;
+        self.reserve_session(account)?;
         if self.waits.capacity() / 2 < count {
             self.waits.reserve(count.saturating_mul(3))?;
         }
@@ -100,18 +100,19 @@ impl Index {
     }
 
     // Makes room for one session more of an account.
-    fn reserve_seat(&mut self, account: u32) -> Result<(), NoMemory>
+    fn reserve_session(&mut self, account: u32) -> Result<(), NoMemory>
         ensures conns { self.new.conns ≡ self.old.conns }
         ensures waits { self.new.waits ≡ self.old.waits }
         ensures whole { self.new.whole ≡ self.old.whole }
-        ensures seats { (q : ℕ) → seats_in self.new q ≡ seats_in self.old q }
-        ensures kept { (q : ℕ) → seat_in self.old q ≤ seat_in self.new q }
-        ensures spare { OnOk result (1 ≤ seat_in self.new account) }
+        ensures sessions_by_account { (q : ℕ) → account_sessions self.new q ≡ account_sessions self.old q }
+        ensures kept { (q : ℕ) → account_room self.old q ≤ account_room self.new q }
+        ensures spare { OnOk result (1 ≤ account_room self.new account) }
     {
-        if !self.seats.contains_key(&account) {
-            self.seats.insert(account, Vec::new(self.alloc))?;
+        if !self.sessions_by_account.contains_key(&account) {
+            self.sessions_by_account
+                .insert(account, Vec::new(self.alloc))?;
         }
-        match self.seats.get_mut(&account) {
+        match self.sessions_by_account.get_mut(&account) {
             Some(numbers) => {
                 numbers.reserve(1)?;
                 Ok(())
@@ -124,7 +125,7 @@ impl Index {
     pub(crate) fn mend(&mut self, numbers: &[u64], rows: &HashMap<u64, Row>)
         requires { AreApart (hash.get nat_eq rows.now) }
         ensures placed { self.new.whole ≡ true → HasFirst (length numbers.now) self.new numbers.now (hash.get nat_eq rows.now) }
-        ensures seats { self.new.seats ≡ self.old.seats }
+        ensures sessions_by_account { self.new.sessions_by_account ≡ self.old.sessions_by_account }
         ensures ordered { AreInOrder self.new }
     {
         self.conns.clear();
@@ -145,7 +146,7 @@ impl Index {
         ensures conns { (q : ℕ) → conn ≢ Some q → conn_in self.new q ≡ conn_in self.old q }
         ensures waits { self.new.waits ≡ self.old.waits }
         ensures whole { self.new.whole ≡ self.old.whole }
-        ensures seats { self.new.seats ≡ self.old.seats }
+        ensures sessions_by_account { self.new.sessions_by_account ≡ self.old.sessions_by_account }
     {
         if let Some(conn) = conn {
             let _ = self.conns.remove(&conn);
@@ -159,7 +160,7 @@ impl Index {
         ensures waits { KeepsParked (hash.get nat_eq rows.now) self.old self.new }
         ensures ordered { AreInOrder self.new }
         ensures whole { self.new.whole ≡ self.old.whole }
-        ensures seats { self.new.seats ≡ self.old.seats }
+        ensures sessions_by_account { self.new.sessions_by_account ≡ self.old.sessions_by_account }
     {
         if self.waits.len() == self.waits.capacity() {
             self.waits.retain(|wait| is_waiting(rows, wait));
@@ -189,14 +190,14 @@ impl Index {
         ensures waits { (s q : ℕ) → waits_in self.old s q ≡ true → waits_in self.new s q ≡ true }
         ensures ordered { AreInOrder self.new }
         ensures whole { self.new.whole ≡ true → self.old.whole ≡ true }
-        ensures seats { self.new.seats ≡ self.old.seats }
+        ensures sessions_by_account { self.new.sessions_by_account ≡ self.old.sessions_by_account }
     {
         if self.waits.len() == self.waits.capacity() {
             self.whole = false;
             return;
         }
-        let place = self.before(since);
-        match self.waits.insert(place, Wait { since, number }) {
+        let position = self.before(since);
+        match self.waits.insert(position, Wait { since, number }) {
             Ok(()) => {}
             Err(_) => self.whole = false,
         }
@@ -224,7 +225,7 @@ impl Index {
         ensures waits { KeepsParked (hash.get nat_eq rows.now) self.old self.new }
         ensures ordered { AreInOrder self.new }
         ensures whole { self.new.whole ≡ self.old.whole }
-        ensures seats { self.new.seats ≡ self.old.seats }
+        ensures sessions_by_account { self.new.sessions_by_account ≡ self.old.sessions_by_account }
         ensures some { IfSome result (λ n. passes (is_expired now) (hash.get nat_eq rows.now n) ≡ true) }
         ensures none { IfNone result ((n : ℕ) (r : Row) → hash.get nat_eq rows.now n ≡ Some r → r.shown.conn ≡ None → waits_in self.old r.shown.parked_at n ≡ true → is_expired now r ≡ false) }
     {
@@ -243,7 +244,7 @@ impl Index {
         ensures conns { (q : ℕ) → q ≢ conn → conn_in self.new q ≡ conn_in self.old q }
         ensures waits { self.new.waits ≡ self.old.waits }
         ensures whole { self.new.whole ≡ true → self.old.whole ≡ true }
-        ensures seats { self.new.seats ≡ self.old.seats }
+        ensures sessions_by_account { self.new.sessions_by_account ≡ self.old.sessions_by_account }
     {
         if self.conns.len() == self.conns.capacity() {
             self.whole = false;
@@ -256,16 +257,16 @@ impl Index {
     }
 
     // An account has a session more, whose number is above those of its others.
-    pub(crate) fn seat(&mut self, account: u32, number: u64)
-        requires { 1 ≤ seat_in self.old account }
-        ensures here { seats_in self.new account ≡ seats_in self.old account ++ number ∷ [] }
-        ensures others { (q : ℕ) → q ≢ account → seats_in self.new q ≡ seats_in self.old q }
-        ensures spare { (q : ℕ) → seat_in self.old q ≤ seat_in self.new q + 1 }
+    pub(crate) fn reservation(&mut self, account: u32, number: u64)
+        requires { 1 ≤ account_room self.old account }
+        ensures here { account_sessions self.new account ≡ account_sessions self.old account ++ number ∷ [] }
+        ensures others { (q : ℕ) → q ≢ account → account_sessions self.new q ≡ account_sessions self.old q }
+        ensures spare { (q : ℕ) → account_room self.old q ≤ account_room self.new q + 1 }
         ensures conns { self.new.conns ≡ self.old.conns }
         ensures waits { self.new.waits ≡ self.old.waits }
         ensures whole { self.new.whole ≡ self.old.whole }
     {
-        match self.seats.get_mut(&account) {
+        match self.sessions_by_account.get_mut(&account) {
             Some(numbers) => match numbers.push(number) {
                 Ok(()) => {}
                 Err(_) => unreachable!(),
@@ -276,14 +277,14 @@ impl Index {
 
     // A session of an account is gone.
     pub(crate) fn unseat(&mut self, account: u32, number: u64)
-        ensures here { seats_in self.new account ≡ filter (λ m. not (m == number)) (seats_in self.old account) }
-        ensures others { (q : ℕ) → q ≢ account → seats_in self.new q ≡ seats_in self.old q }
-        ensures spare { (q : ℕ) → seat_in self.old q ≤ seat_in self.new q }
+        ensures here { account_sessions self.new account ≡ filter (λ m. not (m == number)) (account_sessions self.old account) }
+        ensures others { (q : ℕ) → q ≢ account → account_sessions self.new q ≡ account_sessions self.old q }
+        ensures spare { (q : ℕ) → account_room self.old q ≤ account_room self.new q }
         ensures conns { self.new.conns ≡ self.old.conns }
         ensures waits { self.new.waits ≡ self.old.waits }
         ensures whole { self.new.whole ≡ self.old.whole }
     {
-        if let Some(numbers) = self.seats.get_mut(&account) {
+        if let Some(numbers) = self.sessions_by_account.get_mut(&account) {
             numbers.retain(|other| *other != number);
         }
     }

@@ -103,7 +103,7 @@ impl Sessions {
         ensures answer { result ≡ resume_answer h (row_resumed previd.now account self.old.rows) pool.old }
         ensures rows { self.new.rows ≡ rows_resumed h conn queue (row_resumed previd.now account self.old.rows) pool.old self.old.rows }
         ensures next { self.new.next ≡ self.old.next }
-        ensures seat { self.new.seat ≡ self.old.seat }
+        ensures reservation { self.new.reservation ≡ self.old.reservation }
         ensures kept { self.old.spare ≤ self.new.spare }
         ensures pool { PoolResumed h queue (row_resumed previd.now account self.old.rows) pool.old pool.new }
         ensures made { pool.new.made ≡ pool.old.made }
@@ -143,7 +143,7 @@ impl Sessions {
         ensures answer { result ≡ resume_answer h (row_of told.number self.old.rows) pool.old }
         ensures rows { self.new.rows ≡ rows_resumed h conn queue (row_of told.number self.old.rows) pool.old self.old.rows }
         ensures next { self.new.next ≡ self.old.next }
-        ensures seat { self.new.seat ≡ self.old.seat }
+        ensures reservation { self.new.reservation ≡ self.old.reservation }
         ensures kept { self.old.spare ≤ self.new.spare }
         ensures pool { PoolResumed h queue (row_of told.number self.old.rows) pool.old pool.new }
         ensures made { pool.new.made ≡ pool.old.made }

@@ -24,8 +24,9 @@ use std::alloc::Global;
 use std::collections::HashMap;
 use std::marker::Model;
 
-/// The table of sessions. Contracts see its rows, ascending by number, the number that the next session gets, the account
-/// `seat` for which room was made last, and the number `spare` of further sessions of it that fit without more memory.
+/// The table of sessions. Contracts see its rows, ascending by number, the number that the next session gets, the
+/// account `reservation` for which room was made last, and the number `spare` of further sessions of it that fit
+/// without more memory.
 ///
 /// A session is found by its number and by its connection in hash maps, and by its account and resource among the
 /// sessions of the account, whatever the number of other sessions. Parked sessions wait in the order of the moments at which they were parked: an expiry looks at the first
@@ -44,19 +45,19 @@ pub struct Sessions {
     rows: HashMap<u64, Row>,
     index: Index,
     next: u64,
-    seat: u32,
+    reservation: u32,
 }
 
 impl Model for Sessions {
     ghost use Rattle.std.specs.HashMap as hash;
     ghost use Rattle.std.specs.Prelude.{◌-◌, min, nat_eq, vec_len, vec_capacity};
-    ghost use Rattle.sm_resumption.specs.Indexed.{IsIndexed, seat_in};
+    ghost use Rattle.sm_resumption.specs.Indexed.{IsIndexed, account_room};
     ghost use Rattle.sm_resumption.specs.Rows.{Table};
     ghost use Rattle.sm_resumption.specs.Stored.{IsStored, collected};
 
     ghost Value = { Table };
 
-    ghost view = { λ s. record { rows = collected (hash.get nat_eq s.rows) s.numbers.items; next = s.next; seat = s.seat; spare = min (hash.spare s.rows) (min (seat_in s.index s.seat) (vec_capacity s.numbers - vec_len s.numbers)) } };
+    ghost view = { λ s. record { rows = collected (hash.get nat_eq s.rows) s.numbers.items; next = s.next; reservation = s.reservation; spare = min (hash.spare s.rows) (min (account_room s.index s.reservation) (vec_capacity s.numbers - vec_len s.numbers)) } };
 
     ghost invariant = { λ s. IsStored (hash.get nat_eq s.rows) s.numbers.items s.next (collected (hash.get nat_eq s.rows) s.numbers.items) × IsIndexed s.index (collected (hash.get nat_eq s.rows) s.numbers.items) };
 }
@@ -93,7 +94,7 @@ impl Sessions {
             rows: HashMap::new(alloc),
             index: Index::new(alloc),
             next: first,
-            seat: 0,
+            reservation: 0,
         }
     }
 
@@ -108,12 +109,12 @@ impl Sessions {
     /// refuses, or was made for this account before. No other call takes memory.
     pub fn reserve(&mut self, account: u32) -> Result<(), NoMemory>
         ensures spare { OnOk result (1 ≤ self.new.spare) }
-        ensures seat { OnOk result (self.new.seat ≡ account) }
+        ensures reservation { OnOk result (self.new.reservation ≡ account) }
         ensures rows { self.new.rows ≡ self.old.rows }
         ensures next { self.new.next ≡ self.old.next }
-        ensures stays { OnErr result (self.new.seat ≡ self.old.seat) }
+        ensures stays { OnErr result (self.new.reservation ≡ self.old.reservation) }
         ensures kept { OnErr result (self.old.spare ≤ self.new.spare) }
-        ensures more { self.old.seat ≡ account → self.old.spare ≤ self.new.spare }
+        ensures more { self.old.reservation ≡ account → self.old.spare ≤ self.new.spare }
     {
         self.prune();
         self.make_room(account)
@@ -123,7 +124,7 @@ impl Sessions {
     fn prune(&mut self)
         ensures rows { self.new.rows ≡ self.old.rows }
         ensures next { self.new.next ≡ self.old.next }
-        ensures seat { self.new.seat ≡ self.old.seat }
+        ensures reservation { self.new.reservation ≡ self.old.reservation }
         ensures kept { self.old.spare ≤ self.new.spare }
     {
         if self.rows.len() <= self.numbers.len() / 2 {
@@ -134,18 +135,18 @@ impl Sessions {
     // Makes room for one session more of an account.
     fn make_room(&mut self, account: u32) -> Result<(), NoMemory>
         ensures spare { OnOk result (1 ≤ self.new.spare) }
-        ensures seat { OnOk result (self.new.seat ≡ account) }
+        ensures reservation { OnOk result (self.new.reservation ≡ account) }
         ensures rows { self.new.rows ≡ self.old.rows }
         ensures next { self.new.next ≡ self.old.next }
-        ensures stays { OnErr result (self.new.seat ≡ self.old.seat) }
+        ensures stays { OnErr result (self.new.reservation ≡ self.old.reservation) }
         ensures kept { OnErr result (self.old.spare ≤ self.new.spare) }
-        ensures more { self.old.seat ≡ account → self.old.spare ≤ self.new.spare }
+        ensures more { self.old.reservation ≡ account → self.old.spare ≤ self.new.spare }
     {
         self.numbers.reserve(1)?;
         self.rows.reserve(1)?;
         self.index
             .reserve(self.rows.len().saturating_add(1), account)?;
-        self.seat = account;
+        self.reservation = account;
         if !self.index.whole {
             self.index.mend(&self.numbers, &self.rows);
         }
@@ -266,7 +267,7 @@ impl Sessions {
         ensures numbers { result.now ≡ map number_of (filter (is_of account) self.now.rows) }
         ensures table { IsTable self.now.rows self.now.next }
     {
-        self.index.seats_of(account)
+        self.index.sessions_of_account(account)
     }
 
     /// The number of the session of an account with a resource. `None` where there is none. It goes through the sessions
@@ -299,14 +300,14 @@ impl Sessions {
         queue: QueueId,
     ) -> u64
         requires spare { 1 ≤ self.old.spare }
-        requires seat { self.old.seat ≡ account }
+        requires reservation { self.old.reservation ≡ account }
         requires next { self.old.next < 2 ^ 64 - 1 }
         requires conn { row_at conn self.old.rows ≡ None }
         requires name { row_named account resource self.old.rows ≡ None }
         ensures number { result ≡ self.old.next }
         ensures rows { self.new.rows ≡ self.old.rows ++ fresh_row self.old.next account resource conn queue ∷ [] }
         ensures next { self.new.next ≡ self.old.next + 1 }
-        ensures seat { self.new.seat ≡ account }
+        ensures reservation { self.new.reservation ≡ account }
         ensures spare { self.old.spare ≤ self.new.spare + 1 }
     {
         let number = self.next;
@@ -324,7 +325,7 @@ impl Sessions {
             Err(_) => unreachable!(),
         }
         self.index.enter(number, conn);
-        self.index.seat(account, number);
+        self.index.reservation(account, number);
         self.next = number + 1;
         number
     }
@@ -334,7 +335,7 @@ impl Sessions {
         ensures row { result ≡ row_of number self.old.rows }
         ensures rows { self.new.rows ≡ without number self.old.rows }
         ensures next { self.new.next ≡ self.old.next }
-        ensures seat { self.new.seat ≡ self.old.seat }
+        ensures reservation { self.new.reservation ≡ self.old.reservation }
         ensures kept { self.old.spare ≤ self.new.spare }
     {
         let row = self.rows.remove(&number)?;
@@ -348,7 +349,7 @@ impl Sessions {
         requires { IsSome (row_of number self.old.rows) }
         ensures rows { self.new.rows ≡ with_row number (parked now) self.old.rows }
         ensures next { self.new.next ≡ self.old.next }
-        ensures seat { self.new.seat ≡ self.old.seat }
+        ensures reservation { self.new.reservation ≡ self.old.reservation }
         ensures kept { self.old.spare ≤ self.new.spare }
     {
         self.index.sweep(&self.rows);
@@ -418,7 +419,7 @@ impl Sessions {
         ensures ok { OnOk result (self.new.rows ≡ with_row number (acknowledged h) self.old.rows) }
         ensures err { OnErr result (self.new.rows ≡ self.old.rows) }
         ensures next { self.new.next ≡ self.old.next }
-        ensures seat { self.new.seat ≡ self.old.seat }
+        ensures reservation { self.new.reservation ≡ self.old.reservation }
         ensures kept { self.old.spare ≤ self.new.spare }
         ensures pool { IfSome (row_of number self.old.rows) (λ r. PoolAcknowledged h r pool.old pool.new) }
         ensures made { pool.new.made ≡ pool.old.made }
@@ -446,7 +447,7 @@ impl Sessions {
         requires spare { 1 ≤ pool.old.spare }
         ensures rows { self.new.rows ≡ self.old.rows }
         ensures next { self.new.next ≡ self.old.next }
-        ensures seat { self.new.seat ≡ self.old.seat }
+        ensures reservation { self.new.reservation ≡ self.old.reservation }
         ensures kept { self.old.spare ≤ self.new.spare }
         ensures pool { IfSome (row_of number self.old.rows) (λ r. Joins bytes.items r pool.old pool.new) }
         ensures made { pool.new.made ≡ pool.old.made }
@@ -470,7 +471,7 @@ impl Sessions {
         requires queue { IsFree queue self.old.rows pool.old }
         ensures rows { self.new.rows ≡ with_row number (attached conn queue) self.old.rows }
         ensures next { self.new.next ≡ self.old.next }
-        ensures seat { self.new.seat ≡ self.old.seat }
+        ensures reservation { self.new.reservation ≡ self.old.reservation }
         ensures kept { self.old.spare ≤ self.new.spare }
         ensures pool { IfSome (row_of number self.old.rows) (λ r. HandsOver 0 queue r pool.old pool.new) }
         ensures made { pool.new.made ≡ pool.old.made }
@@ -493,7 +494,7 @@ impl Sessions {
         ensures table { IsTable self.old.rows self.old.next }
         ensures rows { self.new.rows ≡ self.old.rows }
         ensures next { self.new.next ≡ self.old.next }
-        ensures seat { self.new.seat ≡ self.old.seat }
+        ensures reservation { self.new.reservation ≡ self.old.reservation }
         ensures kept { self.old.spare ≤ self.new.spare }
     {
         if !self.index.whole {

@@ -63,10 +63,10 @@ turn_sound x k items s u is t old new answers = record {
   framers_are = answers.1;
 }
 
-pub turn_fault : (e : Fault) (k : ℕ) (items : List Item) (s v u : Seen) → v ≡ after_items written_item k items s → u ≡ acted written_item (at_fault written_item k e (standing_at k v.hall) v.hall) v → (t : Turn) (old new : Framers) → FramersAnswer (Err (feed.Fault e)) k t items old new → TurnIsDone k t old new s u
+pub turn_fault : (e : Fault) (k : ℕ) (items : List Item) (s v u : Seen) → v ≡ after_items written_item k items s → u ≡ acted written_item (at_fault written_item k e (standing_at k v.server_state) v.server_state) v → (t : Turn) (old new : Framers) → FramersAnswer (Err (feed.Fault e)) k t items old new → TurnIsDone k t old new s u
 turn_fault e k items s v u is then_is t old new answers =
     let all : v ≡ after_items written_item k t.items s = is ∙ ap (λ l. after_items written_item k l s) answers.0 in record {
-      step = then_is ∙ ap (λ (w : Seen). acted written_item (at_fault written_item k e (standing_at k w.hall) w.hall) w) all ∙ sym (ap (λ f. after_fault written_item k f (after_items written_item k t.items s)) answers.2);
+      step = then_is ∙ ap (λ (w : Seen). acted written_item (at_fault written_item k e (standing_at k w.server_state) w.server_state) w) all ∙ sym (ap (λ f. after_fault written_item k f (after_items written_item k t.items s)) answers.2);
       framers_are = answers.1;
     }
 
@@ -126,12 +126,12 @@ pub open_piece : (k : ℕ) (piece : List ℕ) (o : Option State) (old new : Fram
 open_piece k piece None old new s u is = absurd is
 open_piece k piece (Some f) old new s u is = record { step = is.step; framers_are = is.framers_are }
 
-pub piece_lost : (k : ℕ) (piece : List ℕ) (o : Option State) (old new last : Framers) (s u v : Seen) → PieceStops k piece o old new s u → v ≡ record u { hall = gone_at k u.hall } → last ≡ remove_entry (is_number k) new → EventStops k piece o old last s v
+pub piece_lost : (k : ℕ) (piece : List ℕ) (o : Option State) (old new last : Framers) (s u v : Seen) → PieceStops k piece o old new s u → v ≡ record u { server_state = gone_at k u.server_state } → last ≡ remove_entry (is_number k) new → EventStops k piece o old last s v
 piece_lost k piece None old new last s u v stops is taken_out = absurd stops
 piece_lost k piece (Some f) old new last s u v stops is taken_out = record {
   done = stops.taken.done;
   front = stops.taken.front;
-  hall = ap (λ (w : Seen). w.hall) is ∙ ap (λ (w : Seen). gone_at k w.hall) stops.taken.step;
+  server_state = ap (λ (w : Seen). w.server_state) is ∙ ap (λ (w : Seen). gone_at k w.server_state) stops.taken.step;
   outputs = ap (λ (w : Seen). w.outs) is ∙ ap (λ (w : Seen). w.outs) stops.taken.step;
   framers_are = taken_out ∙ stops.framers_are;
 }
@@ -140,29 +140,29 @@ pub outs_drop : (n : ℕ) (outputs : List Output) → outs_of (drop n outputs) �
 outs_drop n outputs = sym (drop-map out_of n outputs)
 
 pub event_done : {E : Type 0} (r : Result (Unit {0}) E) (k : ℕ) (piece : List ℕ) (now n : ℕ) (w v : Whole (List ℕ)) (outs new_outs : List (Out (List ℕ))) (mid : Framers)
-    → n ≡ length outs → OnOk r (IsEvent k piece (framer_at k w.framers) w.framers mid (begun now w.hall outs) (record { hall = v.hall; outs = new_outs }))
+    → n ≡ length outs → OnOk r (IsEvent k piece (framer_at k w.framers) w.framers mid (begun now w.server_state outs) (record { server_state = v.server_state; outs = new_outs }))
     → v.framers ≡ dropped (drop n new_outs) mid → OnOk r (IsAfterBytes written_item k piece now w outs v new_outs)
 event_done (Ok x) k piece now n w v outs new_outs mid len is then_is = record {
-  hall = ap (λ (s : Seen). s.hall) is.step;
+  server_state = ap (λ (s : Seen). s.server_state) is.step;
   outputs = ap (λ (s : Seen). s.outs) is.step;
   framers_are = then_is ∙ ap (λ m. dropped (drop m new_outs) mid) len ∙ ap (dropped (news outs new_outs)) is.framers_are;
 }
 event_done (Err e) k piece now n w v outs new_outs mid len is then_is = tt
 
 stopped_in : (k : ℕ) (piece : List ℕ) (now n : ℕ) (o : Option State) (w v : Whole (List ℕ)) (outs new_outs : List (Out (List ℕ))) (mid : Framers)
-    → n ≡ length outs → EventStops k piece o w.framers mid (begun now w.hall outs) (record { hall = v.hall; outs = new_outs })
+    → n ≡ length outs → EventStops k piece o w.framers mid (begun now w.server_state outs) (record { server_state = v.server_state; outs = new_outs })
     → v.framers ≡ dropped (drop n new_outs) mid → Stops written_item k piece now o w outs v new_outs
 stopped_in k piece now n None w v outs new_outs mid len is then_is = absurd is
 stopped_in k piece now n (Some f) w v outs new_outs mid len is then_is = record {
   done = is.done;
   front = is.front;
-  hall = is.hall;
+  server_state = is.server_state;
   outputs = is.outputs;
   framers_are = then_is ∙ ap (λ m. dropped (drop m new_outs) mid) len ∙ ap (dropped (news outs new_outs)) is.framers_are;
 }
 
 pub event_stopped : {E : Type 0} (r : Result (Unit {0}) E) (k : ℕ) (piece : List ℕ) (now n : ℕ) (w v : Whole (List ℕ)) (outs new_outs : List (Out (List ℕ))) (mid : Framers)
-    → n ≡ length outs → OnErr r (EventStops k piece (framer_at k w.framers) w.framers mid (begun now w.hall outs) (record { hall = v.hall; outs = new_outs }))
+    → n ≡ length outs → OnErr r (EventStops k piece (framer_at k w.framers) w.framers mid (begun now w.server_state outs) (record { server_state = v.server_state; outs = new_outs }))
     → v.framers ≡ dropped (drop n new_outs) mid → OnErr r (Stops written_item k piece now (framer_at k w.framers) w outs v new_outs)
 event_stopped (Ok x) k piece now n w v outs new_outs mid len is then_is = tt
 event_stopped (Err e) k piece now n w v outs new_outs mid len is then_is = stopped_in k piece now n (framer_at k w.framers) w v outs new_outs mid len is then_is

@@ -37,5 +37,5 @@ nothing_left [] h = refl
 nothing_left (x ∷ xs) h = absurd (omega arith)
 
 -- an item of a connection that isn't open
-pub shut_stays : {A : Type 0} (say : ItemOut → A) (k : ℕ) (i : Item) (s : Step A) → conn_at k s.hall ≡ None → after_item say k i s ≡ s
-shut_stays say k i s none = ap (λ (o : Option Connection). acted say (at_open say k i (option_map standing_of o) s.hall) s) none
+pub shut_stays : {A : Type 0} (say : ItemOut → A) (k : ℕ) (i : Item) (s : Step A) → conn_at k s.server_state ≡ None → after_item say k i s ≡ s
+shut_stays say k i s none = ap (λ (o : Option Connection). acted say (at_open say k i (option_map standing_of o) s.server_state) s) none

@@ -12,7 +12,7 @@ use Rattle.xml_writer.specs.Items.{ItemOut}
 
 fault_tells : {A : Type 0} (say : ItemOut → A) (k j : ℕ) (o : Option Fault) (s : Step A) → Tells k s (after_fault say j o s)
 fault_tells say k j None s = tells_nothing k s
-fault_tells say k j (Some f) s = acts_tell say k (at_fault say j f (standing_at j s.hall) s.hall) s
+fault_tells say k j (Some f) s = acts_tell say k (at_fault say j f (standing_at j s.server_state) s.server_state) s
 
 turn_tells : {A : Type 0} (say : ItemOut → A) (k j : ℕ) (t : Turn) (s : Step A) → Tells k s (after_turn say j t s)
 turn_tells say k j t s =
@@ -29,13 +29,13 @@ stops_kept : {A : Type 0} (say : ItemOut → A) (k : ℕ) (piece : List ℕ) (no
     → Stops say k piece now o old outs new new_outs → IsFront outs new_outs
 stops_kept say k piece now None old outs new new_outs stops = absurd stops
 stops_kept say k piece now (Some f) old outs new new_outs stops =
-    front k (begun now old.hall outs) (after_items say k stops.done (begun now old.hall outs)) new_outs (items_tell say k k stops.done (begun now old.hall outs)) stops.outputs
+    front k (begun now old.server_state outs) (after_items say k stops.done (begun now old.server_state outs)) new_outs (items_tell say k k stops.done (begun now old.server_state outs)) stops.outputs
 
 pub outputs_kept : {A E : Type 0} (r : Result (Unit {0}) E) (say : ItemOut → A) (k : ℕ) (piece : List ℕ) (now : ℕ) (old : Whole A) (outs : List (Out A)) (new : Whole A) (new_outs : List (Out A))
     → OnOk r (IsAfterBytes say k piece now old outs new new_outs) → OnErr r (Stops say k piece now (framer_at k old.framers) old outs new new_outs) → IsFront outs new_outs
 outputs_kept (Ok x) say k piece now old outs new new_outs done stops =
-    front k (begun now old.hall outs) (at_piece say k piece (framer_at k old.framers) (begun now old.hall outs)) new_outs
-    (piece_tells say k k piece (framer_at k old.framers) (begun now old.hall outs)) done.outputs
+    front k (begun now old.server_state outs) (at_piece say k piece (framer_at k old.framers) (begun now old.server_state outs)) new_outs
+    (piece_tells say k k piece (framer_at k old.framers) (begun now old.server_state outs)) done.outputs
 outputs_kept (Err e) say k piece now old outs new new_outs done stops = stops_kept say k piece now (framer_at k old.framers) old outs new new_outs stops
 
 stops_open : {A : Type 0} (say : ItemOut → A) (k : ℕ) (piece : List ℕ) (now : ℕ) (o : Option State) (old : Whole A) (outs : List (Out A)) (new : Whole A) (new_outs : List (Out A))

@@ -9,15 +9,15 @@ use Rattle.std.specs.declared.cmp.Ordering.{Ordering}
 use Rattle.std.specs.declared.cmp.Ordering.TheVariants.{Equal, Greater, Less}
 use Rattle.mam_archive.specs.Entries.{EntryView}
 use Rattle.xml_framer.specs.declared.items.Item.{Item}
-use Rattle.sm_live.specs.Sessions.{Session, asks, told_of, waits, with_session, without}
-use Rattle.sm_live.specs.declared.told.Told.{Told}
+use Rattle.sm_live.specs.Sessions.{Session, asks, info_of, waits, with_session, without}
+use Rattle.sm_live.specs.declared.told.SessionInfo.{SessionInfo}
 use Rattle.im_replies.specs.Management.{request_item}
 use Rattle.im_replies.specs.Streams.{error_item}
 use Rattle.im_replies.specs.declared.conditions.StreamCondition.TheVariants.{ResourceConstraint}
-use Rattle.srv_state.specs.State.{Hall, Kept, Out, Put, Shut, Step, Took, archive_at, changed, conn_at, is_number, with_conn, with_sessions}
+use Rattle.srv_state.specs.State.{Kept, Out, Put, ServerState, Shut, Step, Took, archive_at, changed, conn_at, is_number, with_conn, with_sessions}
 use Rattle.srv_state.specs.Steps as steps
 use Rattle.srv_state.specs.Streams.{standing_at}
-use Rattle.srv_state.specs.Steps.{Act, act, acted, after_failure, archived_in, ask_where, in_hall, in_phase, in_sessions, is_due, overflow, part, part_where, put, put_where, queue, send, send_told, shut, told_out}
+use Rattle.srv_state.specs.Steps.{Act, act, acted, after_failure, archived_in, ask_where, in_phase, in_server_state, in_sessions, is_due, overflow, part, part_where, put, put_where, queue, send, send_by_info, shut, told_out}
 use Rattle.srv_core.specs.Table.{after_item, after_items, at_open}
 use Rattle.srv_core.specs.Telling.{Tells, is_open, is_shut, is_told}
 use Rattle.srv_state.specs.declared.connection.Connection.{Connection}
@@ -63,7 +63,7 @@ tells_kept : {A : Type 0} (k : ℕ) (s u : Step A) (more : List (Out A)) → u.o
 tells_kept k s u more added same = record { more = more; added = added; shut_is = λ there gone. absurd (false≢true (sym gone ∙ same ∙ there)) }
 
 -- the connections stay, and nothing is put out
-tells_quiet : {A : Type 0} (k : ℕ) (s u : Step A) → u.outs ≡ s.outs → u.hall.conns ≡ s.hall.conns → Tells k s u
+tells_quiet : {A : Type 0} (k : ℕ) (s u : Step A) → u.outs ≡ s.outs → u.server_state.conns ≡ s.server_state.conns → Tells k s u
 tells_quiet k s u outs conns = tells_kept k s u [] (outs ∙ sym (append-nil s.outs)) (ap (λ (c : List (ℕ × Connection)). is_some (lookup (is_number k) c)) conns)
 
 tells_put : {A : Type 0} (k j : ℕ) (a : A) (s : Step A) → Tells k s (put j a s)
@@ -81,8 +81,8 @@ changed_open : (k j : ℕ) (f : Connection → Connection) (o : Option Connectio
 changed_open k j f None es = refl
 changed_open k j f (Some c) es = still_there k j es (f c)
 
-tells_conn : {A : Type 0} (k j : ℕ) (f : Connection → Connection) (s : Step A) → Tells k s (in_hall (with_conn j f) s)
-tells_conn k j f s = tells_kept k s (in_hall (with_conn j f) s) [] (sym (append-nil s.outs)) (changed_open k j f (conn_at j s.hall) s.hall.conns)
+tells_conn : {A : Type 0} (k j : ℕ) (f : Connection → Connection) (s : Step A) → Tells k s (in_server_state (with_conn j f) s)
+tells_conn k j f s = tells_kept k s (in_server_state (with_conn j f) s) [] (sym (append-nil s.outs)) (changed_open k j f (conn_at j s.server_state) s.server_state.conns)
 
 -- ---- a connection that is shut
 
@@ -110,7 +110,7 @@ tells_shut k j s = record {
   added = refl;
   shut_is = λ there gone. elim (cases_Bool (is_number k j)) [
     | inl same ↦ rw same refl
-    | inr apart ↦ absurd (false≢true (sym gone ∙ ap is_some (other_stays k j s.hall.conns apart) ∙ there))
+    | inr apart ↦ absurd (false≢true (sym gone ∙ ap is_some (other_stays k j s.server_state.conns apart) ∙ there))
   ];
 }
 
@@ -140,20 +140,20 @@ tells_ask_where say k n (Some j) true s =
     let t = in_sessions (with_session n (asks true)) s in
     tells_both k s t (put j (say request_item) t) (tells_sessions k (with_session n (asks true)) s) (tells_put k j (say request_item) t)
 
-tells_queue : {A : Type 0} (say : ItemOut → A) (k n : ℕ) (a : A) (told : Told) (s : Step A) → Tells k s (queue say n a told s)
+tells_queue : {A : Type 0} (say : ItemOut → A) (k n : ℕ) (a : A) (told : SessionInfo) (s : Step A) → Tells k s (queue say n a told s)
 tells_queue say k n a told s =
     let t = in_sessions (with_session n (waits a)) s in
     let u = put_where told.conn a t in
     tells_both k s u (ask_where say n told.conn (is_due told) u) (tells_both k s t u (tells_sessions k (with_session n (waits a)) s) (tells_put_where k told.conn a t))
     (tells_ask_where say k n told.conn (is_due told) u)
 
-tells_overflow : {A : Type 0} (say : ItemOut → A) (k n : ℕ) (told : Told) (s : Step A) → Tells k s (overflow say n told s)
+tells_overflow : {A : Type 0} (say : ItemOut → A) (k n : ℕ) (told : SessionInfo) (s : Step A) → Tells k s (overflow say n told s)
 tells_overflow say k n told s =
     let t = in_sessions (without n) s in
     let error = say (error_item ResourceConstraint) in
     tells_both k s t (part_where say told.conn error t) (tells_sessions k (without n) s) (tells_part_where say k told.conn error t)
 
-tells_send : {A : Type 0} (say : ItemOut → A) (k n : ℕ) (a : A) (o : Option Told) (s : Step A) → Tells k s (send_told say n a o s)
+tells_send : {A : Type 0} (say : ItemOut → A) (k n : ℕ) (a : A) (o : Option SessionInfo) (s : Step A) → Tells k s (send_by_info say n a o s)
 tells_send say k n a None s = tells_nothing k s
 tells_send say k n a (Some told) s =
     tells_if k _ s (put_where told.conn a s) _ (tells_put_where k told.conn a s)
@@ -161,9 +161,9 @@ tells_send say k n a (Some told) s =
 
 -- ---- each step, and so each row
 
-tells_archive : {A : Type 0} (k account : ℕ) (e : EntryView) (o : Option Kept) (s : Step A) → Tells k s (in_hall (archived_in e account o) s)
+tells_archive : {A : Type 0} (k account : ℕ) (e : EntryView) (o : Option Kept) (s : Step A) → Tells k s (in_server_state (archived_in e account o) s)
 tells_archive k account e None s = tells_nothing k s
-tells_archive k account e (Some kept) s = tells_quiet k s (in_hall (archived_in e account (Some kept)) s) refl refl
+tells_archive k account e (Some kept) s = tells_quiet k s (in_server_state (archived_in e account (Some kept)) s) refl refl
 
 tells_act : {A : Type 0} (say : ItemOut → A) (k : ℕ) (a : Act A) (s : Step A) → Tells k s (act say a s)
 tells_act say k (steps.Say j a) s = tells_put k j a s
@@ -178,8 +178,8 @@ tells_act say k (steps.Ask n on) s = tells_quiet k s (act say (steps.Ask n on) s
 tells_act say k (steps.Handle n) s = tells_quiet k s (act say (steps.Handle n) s) refl refl
 tells_act say k (steps.Present n available priority) s = tells_quiet k s (act say (steps.Present n available priority) s) refl refl
 tells_act say k (steps.Copy n on) s = tells_quiet k s (act say (steps.Copy n on) s) refl refl
-tells_act say k (steps.Send n a) s = tells_send say k n a (told_of n s.hall.sessions) s
-tells_act say k (steps.Archive account e) s = tells_archive k account e (archive_at account s.hall) s
+tells_act say k (steps.Send n a) s = tells_send say k n a (info_of n s.server_state.sessions) s
+tells_act say k (steps.Archive account e) s = tells_archive k account e (archive_at account s.server_state) s
 tells_act say k (steps.Tell from to origin) s = tells_kept k s (told_out from to origin s) (Took from to origin ∷ []) refl refl
 
 pub acts_tell : {A : Type 0} (say : ItemOut → A) (k : ℕ) (acts : List (Act A)) (s : Step A) → Tells k s (acted say acts s)
@@ -189,5 +189,5 @@ acts_tell say k (a ∷ more) s = tells_both k s (act say a s) (acted say more (a
 pub items_tell : {A : Type 0} (say : ItemOut → A) (k j : ℕ) (items : List Item) (s : Step A) → Tells k s (after_items say j items s)
 items_tell say k j [] s = tells_nothing k s
 items_tell say k j (i ∷ items) s =
-    tells_both k s (after_item say j i s) (after_items say j items (after_item say j i s)) (acts_tell say k (at_open say j i (standing_at j s.hall) s.hall) s)
+    tells_both k s (after_item say j i s) (after_items say j items (after_item say j i s)) (acts_tell say k (at_open say j i (standing_at j s.server_state) s.server_state) s)
     (items_tell say k j items (after_item say j i s))

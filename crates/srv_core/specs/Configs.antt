@@ -8,7 +8,7 @@ use Rattle.srv_login.specs.declared.account.Account.{Account}
 use Rattle.srv_login.specs.declared.accounts_fault.AccountsFault.{AccountsFault}
 use Rattle.srv_login.specs.declared.accounts_fault.AccountsFault.TheVariants as accounts
 use Rattle.srv_core.specs.Events.{Whole}
-use Rattle.srv_state.specs.State.{Hall, Kept}
+use Rattle.srv_state.specs.State.{Kept, ServerState}
 use Rattle.srv_core.specs.declared.config.ConfigFault.{ConfigFault}
 use Rattle.srv_core.specs.declared.config.ConfigFault.TheVariants as config
 
@@ -19,8 +19,8 @@ empty_kept domain keep name = record { owner = bare_text name domain; keep = kee
 abbrev pub archives_of : List ℕ → ℕ → List Account → List Kept
 archives_of domain keep accounts = map (λ (a : Account). empty_kept domain keep a.name) accounts
 
-abbrev pub hall_at_start : {A : Type 0} → List ℕ → List Account → ℕ → Hall A
-hall_at_start domain accounts keep = record {
+abbrev pub server_state_at_start : {A : Type 0} → List ℕ → List Account → ℕ → ServerState A
+server_state_at_start domain accounts keep = record {
   domain = domain;
   accounts = accounts;
   archives = archives_of domain keep accounts;
@@ -32,14 +32,14 @@ hall_at_start domain accounts keep = record {
 
 -- no connection and no session
 abbrev pub at_start : {A : Type 0} → List ℕ → List Account → ℕ → Whole A
-at_start domain accounts keep = record { hall = hall_at_start domain accounts keep; framers = [] }
+at_start domain accounts keep = record { server_state = server_state_at_start domain accounts keep; framers = [] }
 
 -- ---- what is wrong
 
 abbrev pub fault_of_accounts : AccountsFault → ConfigFault
-fault_of_accounts (accounts.BadName place) = config.BadName place
-fault_of_accounts (accounts.Twice place) = config.Twice place
-fault_of_accounts (accounts.NoIterations place) = config.NoIterations place
+fault_of_accounts (accounts.BadName position) = config.BadName position
+fault_of_accounts (accounts.Twice position) = config.Twice position
+fault_of_accounts (accounts.NoIterations position) = config.NoIterations position
 fault_of_accounts accounts.NoMemory = config.NoMemory
 
 -- the domain is in normal form (RFC 7622, section 3.2)

@@ -14,15 +14,15 @@ use Rattle.xml_framer.specs.declared.items.Item.{Item}
 use Rattle.im_replies.specs.declared.conditions.StreamCondition.{StreamCondition}
 use Rattle.im_replies.specs.declared.conditions.StreamCondition.TheVariants as stream
 use Rattle.srv_state.specs.Moments.{at_moment, gone_at, with_fresh}
-use Rattle.srv_state.specs.State.{Hall, Out, Shut, Step, is_number}
+use Rattle.srv_state.specs.State.{Out, ServerState, Shut, Step, is_number}
 use Rattle.srv_state.specs.Steps.{Act, acted}
 use Rattle.srv_state.specs.Streams.{ending, standing_at}
 use Rattle.srv_core.specs.Table.{after_items}
 use Rattle.srv_state.specs.declared.connection.Standing.{Standing}
 use Rattle.xml_writer.specs.Items.{ItemOut}
 
-abbrev pub begun : {A : Type 0} → ℕ → Hall A → List (Out A) → Step A
-begun now h outs = record { hall = at_moment now h; outs = outs }
+abbrev pub begun : {A : Type 0} → ℕ → ServerState A → List (Out A) → Step A
+begun now h outs = record { server_state = at_moment now h; outs = outs }
 
 -- ---- what streams know of their bytes, beside what items act on
 
@@ -30,11 +30,11 @@ abbrev pub Framers : Type 0
 Framers = List (ℕ × framing.State)
 
 pub record Whole (A : Type 0) : Type 0 where
-  pub hall : Hall A
+  pub server_state : ServerState A
   pub framers : Framers
 
-abbrev pub whole : {A : Type 0} → Hall A → Framers → Whole A
-whole h framers = record { hall = h; framers = framers }
+abbrev pub whole : {A : Type 0} → ServerState A → Framers → Whole A
+whole h framers = record { server_state = h; framers = framers }
 
 abbrev pub framer_at : ℕ → Framers → Option framing.State
 framer_at k framers = lookup (is_number k) framers
@@ -47,7 +47,7 @@ holds_part (Some f) = is_some (part_of f)
 -- ---- a connection comes
 
 abbrev pub after_connect : {A : Type 0} → ℕ → List ℕ → ℕ → Whole A → Whole A
-after_connect k entropy now w = whole (with_fresh k entropy (at_moment now w.hall)) (insert_entry nat_cmp w.framers k (from_start server_limits))
+after_connect k entropy now w = whole (with_fresh k entropy (at_moment now w.server_state)) (insert_entry nat_cmp w.framers k (from_start server_limits))
 
 -- ---- bytes
 
@@ -58,13 +58,13 @@ fault_condition why.NotWellFormed = stream.NotWellFormed
 fault_condition why.Encoding = stream.UnsupportedEncoding
 fault_condition w = stream.PolicyViolation
 
-abbrev pub at_fault : {A : Type 0} → (ItemOut → A) → ℕ → Fault → Option Standing → Hall A → List (Act A)
+abbrev pub at_fault : {A : Type 0} → (ItemOut → A) → ℕ → Fault → Option Standing → ServerState A → List (Act A)
 at_fault say k f None h = []
 at_fault say k f (Some st) h = ending say k (fault_condition f.why) st h
 
 abbrev pub after_fault : {A : Type 0} → (ItemOut → A) → ℕ → Option Fault → Step A → Step A
 after_fault say k None s = s
-after_fault say k (Some f) s = acted say (at_fault say k f (standing_at k s.hall) s.hall) s
+after_fault say k (Some f) s = acted say (at_fault say k f (standing_at k s.server_state) s.server_state) s
 
 -- the items that a piece gives behind the bytes before it
 abbrev pub turn_of : List ℕ → framing.State → Turn
@@ -97,17 +97,17 @@ news old new = drop (length old) new
 
 -- the step that the bytes of an event are
 abbrev pub after_bytes : {A : Type 0} → (ItemOut → A) → ℕ → List ℕ → ℕ → Whole A → List (Out A) → Step A
-after_bytes say k piece now w outs = at_piece say k piece (framer_at k w.framers) (begun now w.hall outs)
+after_bytes say k piece now w outs = at_piece say k piece (framer_at k w.framers) (begun now w.server_state outs)
 
 pub record IsAfterBytes {A : Type 0} (say : ItemOut → A) (k : ℕ) (piece : List ℕ) (now : ℕ) (old : Whole A) (outs : List (Out A)) (new : Whole A) (new_outs : List (Out A)) : Type 0 where
-  pub hall : new.hall ≡ (after_bytes say k piece now old outs).hall
+  pub server_state : new.server_state ≡ (after_bytes say k piece now old outs).server_state
   pub outputs : new_outs ≡ (after_bytes say k piece now old outs).outs
   pub framers_are : new.framers ≡ dropped (news outs new_outs) (fed k piece (framer_at k old.framers) old.framers)
 
 -- ---- a connection goes
 
 abbrev pub after_gone : {A : Type 0} → ℕ → ℕ → Whole A → Whole A
-after_gone k now w = whole (gone_at k (at_moment now w.hall)) (remove_entry (is_number k) w.framers)
+after_gone k now w = whole (gone_at k (at_moment now w.server_state)) (remove_entry (is_number k) w.framers)
 
 -- ---- want of memory
 
@@ -115,8 +115,8 @@ after_gone k now w = whole (gone_at k (at_moment now w.hall)) (remove_entry (is_
 pub record StopsAt {A : Type 0} (say : ItemOut → A) (k : ℕ) (t : Turn) (now : ℕ) (old : Whole A) (outs : List (Out A)) (new : Whole A) (new_outs : List (Out A)) : Type 0 where
   pub done : List Item
   pub front : IsFrontOf done t.items
-  pub hall : new.hall ≡ gone_at k (after_items say k done (begun now old.hall outs)).hall
-  pub outputs : new_outs ≡ (after_items say k done (begun now old.hall outs)).outs
+  pub server_state : new.server_state ≡ gone_at k (after_items say k done (begun now old.server_state outs)).server_state
+  pub outputs : new_outs ≡ (after_items say k done (begun now old.server_state outs)).outs
   pub framers_are : new.framers ≡ dropped (news outs new_outs) (remove_entry (is_number k) old.framers)
 
 -- where the connection isn't open memory doesn't run out

@@ -76,7 +76,7 @@ pub record IsEvent (k : ℕ) (piece : List ℕ) (o : Option framing.State) (old 
 pub record GoneIn (k : ℕ) (t : Turn) (old new : Framers) (s u : Seen) : Type 0 where
   pub done : List Item
   pub front : IsFrontOf done t.items
-  pub hall : u.hall ≡ gone_at k (after_items written_item k done s).hall
+  pub server_state : u.server_state ≡ gone_at k (after_items written_item k done s).server_state
   pub outputs : u.outs ≡ (after_items written_item k done s).outs
   pub framers_are : new ≡ remove_entry (is_number k) old
 

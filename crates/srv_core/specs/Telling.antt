@@ -13,7 +13,7 @@ is_told k [] = false
 is_told k (o ∷ outs) = is_shut k o || is_told k outs
 
 abbrev pub is_open : {A : Type 0} → ℕ → Step A → Bool
-is_open k s = is_some (conn_at k s.hall)
+is_open k s = is_some (conn_at k s.server_state)
 
 -- nothing that is there is changed
 abbrev pub IsFront : {T : Type 0} → List T → List T → Type 0

@@ -43,10 +43,10 @@ impl fmt::Display for ConfigFault {
     fn fmt<W: fmt::Write>(&self, f: &mut fmt::Formatter<W>) -> fmt::Result {
         match self {
             ConfigFault::BadDomain => f.write_str("the domain is not in normal form"),
-            ConfigFault::BadName(place) => write!(f, "{}", AccountsFault::BadName(*place)),
-            ConfigFault::Twice(place) => write!(f, "{}", AccountsFault::Twice(*place)),
-            ConfigFault::NoIterations(place) => {
-                write!(f, "{}", AccountsFault::NoIterations(*place))
+            ConfigFault::BadName(position) => write!(f, "{}", AccountsFault::BadName(*position)),
+            ConfigFault::Twice(position) => write!(f, "{}", AccountsFault::Twice(*position)),
+            ConfigFault::NoIterations(position) => {
+                write!(f, "{}", AccountsFault::NoIterations(*position))
             }
             ConfigFault::NoMemory => f.write_str("out of memory"),
         }
@@ -71,9 +71,9 @@ fn fault_of_accounts(fault: AccountsFault) -> ConfigFault
     ensures { result ≡ fault_of_accounts fault }
 {
     match fault {
-        AccountsFault::BadName(place) => ConfigFault::BadName(place),
-        AccountsFault::Twice(place) => ConfigFault::Twice(place),
-        AccountsFault::NoIterations(place) => ConfigFault::NoIterations(place),
+        AccountsFault::BadName(position) => ConfigFault::BadName(position),
+        AccountsFault::Twice(position) => ConfigFault::Twice(position),
+        AccountsFault::NoIterations(position) => ConfigFault::NoIterations(position),
         AccountsFault::NoMemory => ConfigFault::NoMemory,
     }
 }

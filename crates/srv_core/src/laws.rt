@@ -14,7 +14,7 @@ pub fn outputs_tell<A>()
 /// A law: an item of a connection that isn't open changes nothing. So nothing comes of what is behind the item that shut
 /// the connection.
 pub fn what_is_shut_stays_shut<A>()
-    ensures { (say : ItemOut → A) (k : ℕ) (i : Item) (s : Step A) → conn_at k s.hall ≡ None → after_item say k i s ≡ s }
+    ensures { (say : ItemOut → A) (k : ℕ) (i : Item) (s : Step A) → conn_at k s.server_state ≡ None → after_item say k i s ≡ s }
 {}
 
 /// A law: items in two pieces are those in one.

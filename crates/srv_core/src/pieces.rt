@@ -3,7 +3,7 @@ ghost use Rattle.std.specs.Prelude.{◌≡◌, [], None, drop, IfSome, IsOk, IsS
 ghost use Rattle.xml_framer.specs.Machine.{run};
 ghost use Rattle.xml_framer.specs.States.{Turn, turn};
 ghost use Rattle.srv_core.specs.Events.{Framers, IsAfterBytes, Stops, at_fault, begun, dropped, fault_condition, framer_at, turn_of, whole};
-ghost use Rattle.srv_state.specs.Seen.{hall_of, outs_of, step_of};
+ghost use Rattle.srv_state.specs.Seen.{outs_of, server_state_of, step_of};
 ghost use Rattle.srv_state.specs.Steps.{acted};
 ghost use Rattle.srv_state.specs.Streams.{standing_at};
 ghost use Rattle.srv_core.specs.Taken.{EventStops, FramerAnswers, FramersAnswer, IsEvent, IsPiece, PieceStops, TurnIsDone, TurnStops};
@@ -12,7 +12,7 @@ ghost use Rattle.xml_writer.specs.Items.{written_item};
 use crate::items::on_items;
 use base_io::NoMemory;
 use im_replies::StreamCondition;
-use srv_state::{Desk, Output};
+use srv_state::{Output, ServerContext};
 use std::collections::BTreeMap;
 use xml_framer::{Fault, FeedFault, Framer, Items, Why};
 
@@ -56,12 +56,12 @@ fn feed_at(
 }
 
 // A fault of the stream, behind its items.
-fn on_fault(desk: &mut Desk, conn: u64, fault: Fault) -> Result<(), NoMemory>
-    ensures ok { OnOk result (step_of desk.new ≡ acted written_item (at_fault written_item conn fault (standing_at conn (hall_of desk.old)) (hall_of desk.old)) (step_of desk.old)) }
-    ensures err { OnErr result (step_of desk.new ≡ step_of desk.old) }
+fn on_fault(context: &mut ServerContext, conn: u64, fault: Fault) -> Result<(), NoMemory>
+    ensures ok { OnOk result (step_of context.new ≡ acted written_item (at_fault written_item conn fault (standing_at conn (server_state_of context.old)) (server_state_of context.old)) (step_of context.old)) }
+    ensures err { OnErr result (step_of context.new ≡ step_of context.old) }
 {
-    match desk.standing(conn) {
-        Some(standing) => desk.end_with(conn, fault_condition(fault.why), &standing),
+    match context.standing(conn) {
+        Some(standing) => context.end_with(conn, fault_condition(fault.why), &standing),
         None => Ok(()),
     }
 }
@@ -69,22 +69,22 @@ fn on_fault(desk: &mut Desk, conn: u64, fault: Fault) -> Result<(), NoMemory>
 // What a framer answered: the items, and then the fault, where there is one.
 #[tactic(auto, using(crate::proofs::Feeding::turn_sound, crate::proofs::Feeding::turn_fault, crate::proofs::Feeding::turn_stops, crate::proofs::Feeding::all_taken))]
 fn on_turn(
-    desk: &mut Desk,
+    context: &mut ServerContext,
     conn: u64,
     items: Items,
     answer: Result<(), FeedFault>,
 ) -> Result<(), NoMemory>
-    ensures ok { OnOk result ((t : Turn) (old new : Framers) → FramersAnswer answer conn t items.items old new → TurnIsDone conn t old new (step_of desk.old) (step_of desk.new)) }
-    ensures err { OnErr result ((t : Turn) (old new : Framers) → FramersAnswer answer conn t items.items old new → TurnStops conn t old new (step_of desk.old) (step_of desk.new)) }
+    ensures ok { OnOk result ((t : Turn) (old new : Framers) → FramersAnswer answer conn t items.items old new → TurnIsDone conn t old new (step_of context.old) (step_of context.new)) }
+    ensures err { OnErr result ((t : Turn) (old new : Framers) → FramersAnswer answer conn t items.items old new → TurnStops conn t old new (step_of context.old) (step_of context.new)) }
 {
     match answer {
-        Ok(()) => on_items(desk, conn, items),
+        Ok(()) => on_items(context, conn, items),
         Err(FeedFault::Fault(fault)) => {
-            on_items(desk, conn, items)?;
-            on_fault(desk, conn, fault)
+            on_items(context, conn, items)?;
+            on_fault(context, conn, fault)
         }
         Err(FeedFault::NoMemory) => {
-            on_items(desk, conn, items)?;
+            on_items(context, conn, items)?;
             Err(NoMemory)
         }
     }
@@ -93,40 +93,40 @@ fn on_turn(
 // A piece of a connection that has a framer.
 #[tactic(auto, using(crate::proofs::Feeding::piece_done, crate::proofs::Feeding::piece_stops))]
 fn take_open(
-    desk: &mut Desk,
+    context: &mut ServerContext,
     framers: &mut BTreeMap<u64, Framer>,
     conn: u64,
     piece: &[u8],
 ) -> Result<(), NoMemory>
     requires { IsSome (framer_at conn framers.old.entries) }
-    ensures ok { OnOk result (IsPiece conn piece.now (framer_at conn framers.old.entries) framers.old.entries framers.new.entries (step_of desk.old) (step_of desk.new)) }
-    ensures err { OnErr result (PieceStops conn piece.now (framer_at conn framers.old.entries) framers.old.entries framers.new.entries (step_of desk.old) (step_of desk.new)) }
+    ensures ok { OnOk result (IsPiece conn piece.now (framer_at conn framers.old.entries) framers.old.entries framers.new.entries (step_of context.old) (step_of context.new)) }
+    ensures err { OnErr result (PieceStops conn piece.now (framer_at conn framers.old.entries) framers.old.entries framers.new.entries (step_of context.old) (step_of context.new)) }
 {
-    let mut items = Items::new(desk.alloc);
+    let mut items = Items::new(context.alloc);
     let answer = feed_at(framers, conn, piece, &mut items);
-    on_turn(desk, conn, items, answer)
+    on_turn(context, conn, items, answer)
 }
 
 // The bytes of an event.
 #[tactic(auto, using(crate::proofs::Feeding::shut_piece, crate::proofs::Feeding::open_piece, crate::proofs::Feeding::piece_lost))]
 fn on_bytes(
-    desk: &mut Desk,
+    context: &mut ServerContext,
     framers: &mut BTreeMap<u64, Framer>,
     conn: u64,
     piece: &[u8],
     now: u64,
 ) -> Result<(), NoMemory>
-    ensures ok { OnOk result (IsEvent conn piece.now (framer_at conn framers.old.entries) framers.old.entries framers.new.entries (begun now (hall_of desk.old) (outs_of desk.old.out.items)) (step_of desk.new)) }
-    ensures err { OnErr result (EventStops conn piece.now (framer_at conn framers.old.entries) framers.old.entries framers.new.entries (begun now (hall_of desk.old) (outs_of desk.old.out.items)) (step_of desk.new)) }
+    ensures ok { OnOk result (IsEvent conn piece.now (framer_at conn framers.old.entries) framers.old.entries framers.new.entries (begun now (server_state_of context.old) (outs_of context.old.out.items)) (step_of context.new)) }
+    ensures err { OnErr result (EventStops conn piece.now (framer_at conn framers.old.entries) framers.old.entries framers.new.entries (begun now (server_state_of context.old) (outs_of context.old.out.items)) (step_of context.new)) }
 {
-    desk.begin(now);
+    context.begin(now);
     if !framers.contains_key(&conn) {
         return Ok(());
     }
-    match take_open(desk, framers, conn, piece) {
+    match take_open(context, framers, conn, piece) {
         Ok(()) => Ok(()),
         Err(NoMemory) => {
-            desk.lose(conn);
+            context.lose(conn);
             let _ = framers.remove(&conn);
             Err(NoMemory)
         }
@@ -161,18 +161,18 @@ fn drop_news(framers: &mut BTreeMap<u64, Framer>, outputs: &[Output], from: usiz
 /// The bytes of an event, and then the framers of connections that were shut are dropped.
 #[tactic(auto, using(crate::proofs::Feeding::event_done, crate::proofs::Feeding::event_stopped, crate::proofs::Feeding::outs_length, crate::proofs::Kept::unknown_is_ok))]
 pub(crate) fn on_event(
-    desk: &mut Desk,
+    context: &mut ServerContext,
     framers: &mut BTreeMap<u64, Framer>,
     conn: u64,
     piece: &[u8],
     now: u64,
 ) -> Result<(), NoMemory>
-    ensures ok { OnOk result (IsAfterBytes written_item conn piece.now now (whole (hall_of desk.old) framers.old.entries) (outs_of desk.old.out.items) (whole (hall_of desk.new) framers.new.entries) (outs_of desk.new.out.items)) }
+    ensures ok { OnOk result (IsAfterBytes written_item conn piece.now now (whole (server_state_of context.old) framers.old.entries) (outs_of context.old.out.items) (whole (server_state_of context.new) framers.new.entries) (outs_of context.new.out.items)) }
     ensures unknown { framer_at conn framers.old.entries ≡ None → IsOk result }
-    ensures err { OnErr result (Stops written_item conn piece.now now (framer_at conn framers.old.entries) (whole (hall_of desk.old) framers.old.entries) (outs_of desk.old.out.items) (whole (hall_of desk.new) framers.new.entries) (outs_of desk.new.out.items)) }
+    ensures err { OnErr result (Stops written_item conn piece.now now (framer_at conn framers.old.entries) (whole (server_state_of context.old) framers.old.entries) (outs_of context.old.out.items) (whole (server_state_of context.new) framers.new.entries) (outs_of context.new.out.items)) }
 {
-    let from = desk.out.as_slice().len();
-    let result = on_bytes(desk, framers, conn, piece, now);
-    drop_news(framers, desk.out.as_slice(), from);
+    let from = context.out.as_slice().len();
+    let result = on_bytes(context, framers, conn, piece, now);
+    drop_news(framers, context.out.as_slice(), from);
     result
 }

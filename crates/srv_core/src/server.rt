@@ -16,7 +16,7 @@ use crate::pieces::on_event;
 use base_io::NoMemory;
 use mam_archive::Archive;
 use sm_live::Live;
-use srv_state::{Desk, Outputs, Stock};
+use srv_state::{Outputs, Prebuilt, ServerContext};
 use std::alloc::Global;
 use std::collections::BTreeMap;
 use std::marker::Model;
@@ -28,7 +28,7 @@ use xml_framer::{Framer, Limits};
 /// one. Contracts see what the rows of its table act on, and beside it what is known of each stream's bytes.
 #[derive(Drop)]
 pub struct Server {
-    desk: Desk,
+    context: ServerContext,
     framers: BTreeMap<u64, Framer>,
 }
 
@@ -37,13 +37,13 @@ impl Model for Server {
     ghost use Rattle.std.specs.Prelude.{ℕ, List};
     ghost use Rattle.xml_framer.specs.StateCodes.{state_coded};
     ghost use Rattle.srv_core.specs.Events.{Whole};
-    ghost use Rattle.srv_state.specs.Seen.{hall_of};
+    ghost use Rattle.srv_state.specs.Seen.{server_state_of};
 
     ghost Value = { Whole (List ℕ) };
 
     ghost coded = { Prim.hlevel (codes, state_coded) };
 
-    ghost view = { λ s. record { hall = hall_of s.desk; framers = s.framers.entries } };
+    ghost view = { λ s. record { server_state = server_state_of s.context; framers = s.framers.entries } };
 }
 
 // The framer of a connection leaves.
@@ -74,7 +74,7 @@ impl Server {
             config.keep,
         )?;
         Ok(Server {
-            desk: Desk {
+            context: ServerContext {
                 alloc,
                 domain: config.domain,
                 accounts,
@@ -83,7 +83,7 @@ impl Server {
                 conns: BTreeMap::new(alloc),
                 moment: 0,
                 out: Outputs::new(alloc),
-                stock: Stock::new(alloc),
+                prebuilt: Prebuilt::new(alloc),
             },
             framers: BTreeMap::new(alloc),
         })
@@ -93,18 +93,18 @@ impl Server {
     /// it alone. A refusal leaves the server as it was.
     #[tactic(auto, using(crate::proofs::Entries::removed_fresh))]
     pub fn connect(&mut self, conn: u64, entropy: &[u8; 24], now: u64) -> Result<(), NoMemory>
-        requires fresh { conn_at conn self.old.hall ≡ None }
+        requires fresh { conn_at conn self.old.server_state ≡ None }
         requires unframed { framer_at conn self.old.framers ≡ None }
         ensures ok { OnOk result (self.new ≡ after_connect conn entropy.now now self.old) }
         ensures err { OnErr result (self.new ≡ self.old) }
     {
-        let framer = Framer::new(self.desk.alloc, Limits::server());
+        let framer = Framer::new(self.context.alloc, Limits::server());
         let _ = self.framers.insert(conn, framer)?;
-        if self.desk.admit(conn, entropy).is_err() {
+        if self.context.admit(conn, entropy).is_err() {
             forget(&mut self.framers, conn);
             return Err(NoMemory);
         }
-        self.desk.begin(now);
+        self.context.begin(now);
         Ok(())
     }
 
@@ -127,9 +127,9 @@ impl Server {
         ensures kept { IsFront (outs_of outputs.old.items) (outs_of outputs.new.items) }
         ensures unknown { framer_at conn self.old.framers ≡ None → IsOk result }
     {
-        mem::swap(&mut self.desk.out, outputs);
-        let result = on_event(&mut self.desk, &mut self.framers, conn, piece, now);
-        mem::swap(&mut self.desk.out, outputs);
+        mem::swap(&mut self.context.out, outputs);
+        let result = on_event(&mut self.context, &mut self.framers, conn, piece, now);
+        mem::swap(&mut self.context.out, outputs);
         result
     }
 
@@ -138,25 +138,25 @@ impl Server {
     pub fn gone(&mut self, conn: u64, now: u64)
         ensures { self.new ≡ after_gone conn now self.old }
     {
-        self.desk.begin(now);
-        self.desk.lose(conn);
+        self.context.begin(now);
+        self.context.lose(conn);
         forget(&mut self.framers, conn);
     }
 
     /// Time passes: sessions that were parked for too long end. It takes no memory.
     pub fn tick(&mut self, now: u64)
-        ensures { self.new ≡ record self.old { hall = at_moment now self.old.hall } }
+        ensures { self.new ≡ record self.old { server_state = at_moment now self.old.server_state } }
     {
-        self.desk.begin(now);
+        self.context.begin(now);
     }
 
     /// The archive of an account, by the account's place in the configuration (XEP-0313). `None` exactly where there is no
     /// such account.
     #[tactic(auto, using(crate::proofs::Archives::seen_at))]
     pub fn archive(&self, account: u32) -> Option<&Archive>
-        ensures { option_map kept_of (option_copied result) ≡ archive_at account self.now.hall }
+        ensures { option_map kept_of (option_copied result) ≡ archive_at account self.now.server_state }
     {
-        self.desk.archives.get(account as usize)
+        self.context.archives.get(account as usize)
     }
 
     /// Whether the stream of a connection stopped in the middle of an item. It is false where it is not framed.
@@ -173,15 +173,15 @@ impl Server {
     /// resource of an account (RFC 6120, section 7.7.2.2), and in each at most 10,000 stanzas wait (XEP-0198, section 4). It
     /// does nothing.
     pub fn keeps_rule(&self)
-        ensures { IsRule self.now.hall.sessions self.now.hall.next }
+        ensures { IsRule self.now.server_state.sessions self.now.server_state.next }
     {
-        self.desk.live.keeps_rule();
+        self.context.live.keeps_rule();
     }
 
     /// The number that the next session gets.
     pub fn next_session(&self) -> u64
-        ensures { result ≡ self.now.hall.next }
+        ensures { result ≡ self.now.server_state.next }
     {
-        self.desk.live.next_number()
+        self.context.live.next_number()
     }
 }

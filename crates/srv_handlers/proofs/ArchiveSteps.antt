@@ -6,5 +6,5 @@ use Rattle.std.specs.Option.{option_map}
 use Rattle.mam_archive.specs.Entries.{ArchiveView}
 use Rattle.srv_state.specs.Seen.{kept_of}
 
-pub seen_at : (archives : List ArchiveView) (place : ℕ) → option_map kept_of (slice_get archives place) ≡ slice_get (map kept_of archives) place
-seen_at archives place = sym (slice_get-map kept_of archives place)
+pub seen_at : (archives : List ArchiveView) (position : ℕ) → option_map kept_of (slice_get archives position) ≡ slice_get (map kept_of archives) position
+seen_at archives position = sym (slice_get-map kept_of archives position)

@@ -9,7 +9,7 @@ pub mod ArchiveSteps
 -- ---- a request counts as handled
 pub mod Countings
 -- ---- steps of the code
-pub mod ArchivePlaces
+pub mod ArchivePositions
 pub mod Counted
 pub mod Runs
 pub mod PlanViews

@@ -2,12 +2,12 @@
 use Rattle.std.proofs.Common.{◌≡◌, ℕ, List, [], ◌∷◌, ◌++◌, Option, Some, None, append_assoc, ap, refl, sym, ◌∙◌}
 use Rattle.std.proofs.lemmas.List.{map_push}
 use Rattle.mam_archive.specs.Entries.{EntryView, entry_numbered}
-use Rattle.srv_state.specs.Parcels.{send_of, sends_of}
-use Rattle.srv_state.specs.State.{Hall, Kept}
+use Rattle.srv_state.specs.OutgoingStanzas.{send_of, sends_of}
+use Rattle.srv_state.specs.State.{Kept, ServerState}
 use Rattle.srv_state.specs.Steps.{Act}
-use Rattle.srv_state.specs.declared.parcel.Parcel.{Parcel}
+use Rattle.srv_state.specs.declared.outgoing_stanza.OutgoingStanza.{OutgoingStanza}
 use Rattle.im_forwarding.specs.Results.{AskerView}
-use Rattle.sm_live.specs.declared.told.Told.{Told}
+use Rattle.sm_live.specs.declared.told.SessionInfo.{SessionInfo}
 use Rattle.mam_pages.specs.Cuts.{CutView}
 use Rattle.srv_handlers.specs.Pages.{page_sent}
 use Rattle.srv_handlers.specs.Requests.{asker_of, envelope_of, paging, sending_entries, sending_entry}
@@ -15,8 +15,8 @@ use Rattle.im_stanza.specs.Views.{IqView}
 use Rattle.xml_writer.specs.Items.{ItemOut, written_item}
 
 -- one stanza more
-pub sends_push : (parcels : List Parcel) (p : Parcel) → sends_of (parcels ++ p ∷ []) ≡ sends_of parcels ++ send_of p ∷ []
-sends_push parcels p = map_push send_of parcels p
+pub sends_push : (outgoing_stanzas : List OutgoingStanza) (p : OutgoingStanza) → sends_of (outgoing_stanzas ++ p ∷ []) ≡ sends_of outgoing_stanzas ++ send_of p ∷ []
+sends_push outgoing_stanzas p = map_push send_of outgoing_stanzas p
 
 -- what is sent of one entry goes before all else
 pub entry_before : (n : ℕ) (asker : AskerView) (found : Option EntryView) (more : List (Act (List ℕ)))
@@ -46,7 +46,7 @@ entries_before n asker entries (number ∷ numbers) more =
     ∙ sym (entry_before n asker found (sending_entries written_item n asker entries numbers more))
 
 -- what a page sends to the session that asked
-pub page_paged : (q : IqView) (t : Told) (queryid : List ℕ) (kept : Kept) (cut : Option CutView) (h : Hall (List ℕ))
+pub page_paged : (q : IqView) (t : SessionInfo) (queryid : List ℕ) (kept : Kept) (cut : Option CutView) (h : ServerState (List ℕ))
     → page_sent written_item t.number (asker_of t queryid h) (envelope_of q t h) kept.entries cut ≡ paging written_item q t queryid kept cut h
 page_paged q t queryid kept None h = refl
 page_paged q t queryid kept (Some cut) h = refl

@@ -12,7 +12,7 @@ use Rattle.im_replies.specs.Requests.{bound_item, iq_error_item}
 use Rattle.im_replies.specs.Streams.{error_item}
 use Rattle.im_replies.specs.declared.conditions.StreamCondition.TheVariants.{Conflict}
 use Rattle.sm_resumption.specs.declared.answers.Ended.{Ended}
-use Rattle.srv_state.specs.State.{Hall, full_address}
+use Rattle.srv_state.specs.State.{ServerState, full_address}
 use Rattle.srv_state.specs.Steps.{Act, Bind, Say}
 use Rattle.srv_state.specs.Streams.{parting_where}
 use Rattle.im_stanza.specs.declared.conditions.Condition.TheVariants.{BadRequest}
@@ -40,7 +40,7 @@ bad_request = record { kind = Modify; condition = BadRequest }
 
 -- the session is bound; the older one with its name ends, and its connection is told so first (section 7.7.2.2). Neither
 -- answer has an address of its own
-abbrev pub binding_as : {A : Type 0} → (ItemOut → A) → ℕ → ℕ → List ℕ → Option (List ℕ) → Hall A → List (Act A)
+abbrev pub binding_as : {A : Type 0} → (ItemOut → A) → ℕ → ℕ → List ℕ → Option (List ℕ) → ServerState A → List (Act A)
 binding_as say k account id None h = Say k (say (iq_error_item (record { from = None; to = None; id = id }) bad_request)) ∷ []
 binding_as say k account id (Some resource) h =
     Bind account resource k
@@ -48,5 +48,5 @@ binding_as say k account id (Some resource) h =
     (Say k (say (bound_item id (full_address account resource h))) ∷ [])
 
 -- Ready: an `iq` of type `set` with a child `bind`
-abbrev pub at_bind : {A : Type 0} → (ItemOut → A) → ℕ → ℕ → List ℕ → Elem → Hall A → List (Act A)
+abbrev pub at_bind : {A : Type 0} → (ItemOut → A) → ℕ → ℕ → List ℕ → Elem → ServerState A → List (Act A)
 at_bind say k account id bind h = binding_as say k account id (result_ok (chosen h.next (asked_resource bind))) h

@@ -3,12 +3,12 @@ use Rattle.std.specs.Prelude.{◌≡◌, ◌<◌, ◌≤◌, ℕ, Bool, List, []
 use Rattle.mam_archive.specs.Entries.{ArchiveView, EntryView}
 use Rattle.mam_archive.specs.declared.archive.TheConstants.{GREATEST_NUMBER}
 use Rattle.srv_state.specs.Seen.{kept_of}
-use Rattle.srv_state.specs.State.{Hall, Kept, Out, Step, bare_address}
+use Rattle.srv_state.specs.State.{Kept, Out, ServerState, Step, bare_address}
 use Rattle.srv_state.specs.Steps.{appended}
 use Rattle.im_forwarding.specs.Copies.{copied_text}
 use Rattle.im_forwarding.specs.Passed.{passed_text}
 use Rattle.srv_handlers.specs.Messages.{copy_for, number_in}
-use Rattle.srv_handlers.specs.declared.parcels.Made.{Made}
+use Rattle.srv_handlers.specs.declared.outgoing_stanzas.Made.{Made}
 use Rattle.srv_route.specs.Routes.{PlanOf, Bounced, Routed}
 use Rattle.srv_route.specs.declared.routes.Plan.{Plan}
 use Rattle.srv_route.specs.declared.routes.Plan.TheVariants as plan
@@ -47,11 +47,11 @@ after_out o s = record s { outs = s.outs ++ o ∷ [] }
 -- ---- what was made for the sessions of an account
 
 -- the message itself
-abbrev pub IsPassed : MessageView → List ℕ → Hall (List ℕ) → Option Made → Type 0
+abbrev pub IsPassed : MessageView → List ℕ → ServerState (List ℕ) → Option Made → Type 0
 IsPassed m accounts h None = Unit {0}
 IsPassed m accounts h (Some made) = made.bytes.items ≡ passed_text (bare_address made.account h) (number_in made.account accounts h) m
 
 -- what is inside its copies
-abbrev pub IsInside : Bool → MessageView → List ℕ → Hall (List ℕ) → Option Made → Type 0
+abbrev pub IsInside : Bool → MessageView → List ℕ → ServerState (List ℕ) → Option Made → Type 0
 IsInside sent m accounts h None = Unit {0}
 IsInside sent m accounts h (Some made) = made.bytes.items ≡ copied_text (copy_for sent m accounts made.account h)

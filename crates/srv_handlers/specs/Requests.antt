@@ -4,7 +4,7 @@ use Rattle.std.specs.Str.{bytes_eq}
 use Rattle.mam_archive.specs.Entries.{EntryView, entry_numbered}
 use Rattle.im_forwarding.specs.Queries.{no_such_place, query_asked}
 use Rattle.im_forwarding.specs.Results.{AskerView, entry_item, fin_item}
-use Rattle.sm_live.specs.declared.told.Told.{Told}
+use Rattle.sm_live.specs.declared.told.SessionInfo.{SessionInfo}
 use Rattle.im_mam.specs.declared.archive_query.MamQuery.{MamQuery}
 use Rattle.mam_pages.specs.Cuts.{CutView}
 use Rattle.mam_pages.specs.Kept.{kept_by}
@@ -12,7 +12,7 @@ use Rattle.mam_pages.specs.PageOf.{page_of}
 use Rattle.im_payload.specs.Names.{archive, carbons, disco_info, disco_items, pings, roster, sessions as sessions_ns}
 use Rattle.im_payload.specs.Shapes.{attr_or_empty}
 use Rattle.im_replies.specs.Requests.{EnvelopeView, account_info_item, iq_error_item, items_item, result_item, roster_item, server_info_item}
-use Rattle.srv_state.specs.State.{Hall, Kept, archive_at, bare_address, session_address}
+use Rattle.srv_state.specs.State.{Kept, ServerState, archive_at, bare_address, session_address}
 use Rattle.srv_state.specs.Steps.{Act, Copy, Send}
 use Rattle.srv_handlers.specs.declared.request.Request.{Request}
 use Rattle.srv_handlers.specs.declared.request.Request.TheVariants as request
@@ -29,13 +29,13 @@ use Rattle.xml_writer.specs.Items.{ItemOut}
 -- ---- answers
 
 -- from where the request was to, to the session
-abbrev pub envelope_of : {A : Type 0} → IqView → Told → Hall A → EnvelopeView
+abbrev pub envelope_of : {A : Type 0} → IqView → SessionInfo → ServerState A → EnvelopeView
 envelope_of q t h = record { from = q.to; to = Some (session_address t.number h); id = q.id }
 
-abbrev pub answering_iq : {A : Type 0} → (ItemOut → A) → Told → ItemOut → List (Act A)
+abbrev pub answering_iq : {A : Type 0} → (ItemOut → A) → SessionInfo → ItemOut → List (Act A)
 answering_iq say t item = Send t.number (say item) ∷ []
 
-abbrev pub refusing_iq : {A : Type 0} → (ItemOut → A) → IqView → Told → StanzaError → Hall A → List (Act A)
+abbrev pub refusing_iq : {A : Type 0} → (ItemOut → A) → IqView → SessionInfo → StanzaError → ServerState A → List (Act A)
 refusing_iq say q t e h = answering_iq say t (iq_error_item (envelope_of q t h) e)
 
 abbrev pub bad_request : StanzaError
@@ -48,12 +48,12 @@ not_served = record { kind = Cancel; condition = ServiceUnavailable }
 abbrev pub no_such_node : StanzaError
 no_such_node = record { kind = Cancel; condition = ItemNotFound }
 
-abbrev pub empty_answer : {A : Type 0} → (ItemOut → A) → IqView → Told → Hall A → List (Act A)
+abbrev pub empty_answer : {A : Type 0} → (ItemOut → A) → IqView → SessionInfo → ServerState A → List (Act A)
 empty_answer say q t h = answering_iq say t (result_item (envelope_of q t h) no_nodes)
 
 -- ---- the archive (XEP-0313, section 4)
 
-abbrev pub asker_of : {A : Type 0} → Told → List ℕ → Hall A → AskerView
+abbrev pub asker_of : {A : Type 0} → SessionInfo → List ℕ → ServerState A → AskerView
 asker_of t queryid h = record { by = bare_address t.account h; full = session_address t.number h; queryid = queryid }
 
 abbrev pub sending_entry : {A : Type 0} → (ItemOut → A) → ℕ → AskerView → Option EntryView → List (Act A) → List (Act A)
@@ -66,12 +66,12 @@ sending_entries say n asker entries (number ∷ numbers) more =
     sending_entry say n asker (entry_numbered number entries) (sending_entries say n asker entries numbers more)
 
 -- each result, and then the end of the page
-abbrev pub paging : {A : Type 0} → (ItemOut → A) → IqView → Told → List ℕ → Kept → Option CutView → Hall A → List (Act A)
+abbrev pub paging : {A : Type 0} → (ItemOut → A) → IqView → SessionInfo → List ℕ → Kept → Option CutView → ServerState A → List (Act A)
 paging say q t queryid kept None h = refusing_iq say q t no_such_place h
 paging say q t queryid kept (Some cut) h =
     sending_entries say t.number (asker_of t queryid h) kept.entries cut.numbers (answering_iq say t (fin_item (envelope_of q t h) cut))
 
-abbrev pub querying_in : {A : Type 0} → (ItemOut → A) → IqView → Told → MamQuery → Option Kept → Hall A → List (Act A)
+abbrev pub querying_in : {A : Type 0} → (ItemOut → A) → IqView → SessionInfo → MamQuery → Option Kept → ServerState A → List (Act A)
 querying_in say q t query None h = []
 querying_in say q t query (Some kept) h = paging say q t query.queryid kept (page_of (kept_by kept.owner kept.entries) query.query) h
 
@@ -128,7 +128,7 @@ request_in iq.Result asked = None
 request_in iq.Error asked = None
 request_in kind asked = Some asked
 
-abbrev pub request_of : {A : Type 0} → IqView → Told → Hall A → Option Request
+abbrev pub request_of : {A : Type 0} → IqView → SessionInfo → ServerState A → Option Request
 request_of q t h = request_in q.kind (asked_of (bare_address t.account h) h.domain q (elements_of q.payload))
 
 -- ---- the row
@@ -137,7 +137,7 @@ abbrev pub info_item : Bool → EnvelopeView → ItemOut
 info_item true envelope = server_info_item envelope
 info_item false envelope = account_info_item envelope
 
-abbrev pub serving : {A : Type 0} → (ItemOut → A) → Option Request → IqView → Told → Hall A → List (Act A)
+abbrev pub serving : {A : Type 0} → (ItemOut → A) → Option Request → IqView → SessionInfo → ServerState A → List (Act A)
 serving say None q t h = []
 serving say (Some request.Ping) q t h = empty_answer say q t h
 serving say (Some (request.Info at_domain)) q t h = answering_iq say t (info_item at_domain (envelope_of q t h))
@@ -149,5 +149,5 @@ serving say (Some (request.Archive query)) q t h = querying_in say q t query (ar
 serving say (Some (request.Refused e)) q t h = refusing_iq say q t e h
 
 -- Bound: an `iq`
-abbrev pub at_iq : {A : Type 0} → (ItemOut → A) → IqView → Told → Hall A → List (Act A)
+abbrev pub at_iq : {A : Type 0} → (ItemOut → A) → IqView → SessionInfo → ServerState A → List (Act A)
 at_iq say q t h = serving say (request_of q t h) q t h

@@ -8,7 +8,7 @@ use Rattle.sm_resumption.specs.declared.answers.ResumeFault.{ResumeFault}
 use Rattle.sm_resumption.specs.declared.answers.ResumeFault.TheVariants.{TooHigh, UnknownPrevid}
 use Rattle.sm_resumption.specs.declared.answers.ResumeOk.{ResumeOk}
 use Rattle.srv_handlers.specs.Managements.{refusing}
-use Rattle.srv_state.specs.State.{Hall}
+use Rattle.srv_state.specs.State.{ServerState}
 use Rattle.srv_state.specs.Steps.{Act, Ask, Close, Resume, Say}
 use Rattle.srv_state.specs.Streams.{parting_where}
 use Rattle.srv_state.specs.declared.limits.TheConstants.{ASKS_AT}
@@ -42,6 +42,6 @@ resuming say k account previd h (Ok resumed) waiting =
     ∷ parting_where say resumed.former (say (error_item stream.Conflict))
     (Say k (say (resumed_item resumed.number resumed.handled)) ∷ saying k waiting (asking say k resumed.number (nat_le ASKS_AT (length waiting))))
 
-abbrev pub at_resume : {A : Type 0} → (ItemOut → A) → ℕ → ℕ → List ℕ → ℕ → Hall A → List (Act A)
-at_resume say k account previd h hall =
-    resuming say k account previd h (resume_answer h (session_resumed previd account hall.sessions)) (resent_where h (session_resumed previd account hall.sessions))
+abbrev pub at_resume : {A : Type 0} → (ItemOut → A) → ℕ → ℕ → List ℕ → ℕ → ServerState A → List (Act A)
+at_resume say k account previd h server_state =
+    resuming say k account previd h (resume_answer h (session_resumed previd account server_state.sessions)) (resent_where h (session_resumed previd account server_state.sessions))

@@ -1,7 +1,7 @@
 //! Archives take a message (XEP-0313, section 5): memory for an entry first, and then the entry.
 ghost use Rattle.std.specs.Prelude.{◌≡◌, ◌≢◌, ◌==◌, ℕ, OnOk, map};
 ghost use Rattle.std.specs.List.{list_any};
-ghost use Rattle.srv_state.specs.Seen.{hall_of, kept_of};
+ghost use Rattle.srv_state.specs.Seen.{kept_of, server_state_of};
 ghost use Rattle.srv_state.specs.State.{archive_at};
 ghost use Rattle.srv_state.specs.Steps.{appended};
 ghost use Rattle.srv_handlers.specs.Messages;
@@ -12,7 +12,7 @@ ghost use Rattle.srv_route.specs.Routes.{archives_of};
 use base_io::NoMemory;
 use mam_archive::{Archive, Entry, GREATEST_NUMBER};
 use srv_route::Archiving;
-use srv_state::Desk;
+use srv_state::ServerContext;
 
 // Whether a message goes to an account's archive.
 fn is_in(archiving: Archiving, account: u32) -> bool
@@ -26,44 +26,44 @@ fn is_in(archiving: Archiving, account: u32) -> bool
 }
 
 // Whether an account's archive can take no entry.
-#[tactic(auto, using(crate::proofs::ArchivePlaces::seen_there))]
-fn is_full_at(desk: &Desk, account: u32) -> bool
-    ensures { result ≡ Messages.is_full_at (archive_at account (hall_of desk.now)) }
+#[tactic(auto, using(crate::proofs::ArchivePositions::seen_there))]
+fn is_full_at(context: &ServerContext, account: u32) -> bool
+    ensures { result ≡ Messages.is_full_at (archive_at account (server_state_of context.now)) }
 {
-    match desk.archives.get(account as usize) {
+    match context.archives.get(account as usize) {
         Some(archive) => GREATEST_NUMBER <= archive.last(),
         None => false,
     }
 }
 
 /// Whether an archive that a message goes to can take no entry.
-pub(crate) fn is_full(desk: &Desk, archiving: Archiving) -> bool
-    ensures { result ≡ is_full_in (archives_of archiving) (hall_of desk.now) }
+pub(crate) fn is_full(context: &ServerContext, archiving: Archiving) -> bool
+    ensures { result ≡ is_full_in (archives_of archiving) (server_state_of context.now) }
 {
     match archiving {
         Archiving::Nowhere => false,
-        Archiving::Once(account) => is_full_at(desk, account),
-        Archiving::Both(one, other) => is_full_at(desk, one) || is_full_at(desk, other),
+        Archiving::Once(account) => is_full_at(context, account),
+        Archiving::Both(one, other) => is_full_at(context, one) || is_full_at(context, other),
     }
 }
 
 // The number of the next entry of an account's archive.
-#[tactic(auto, using(crate::proofs::ArchivePlaces::seen_there))]
-fn number_behind(desk: &Desk, account: u32) -> Option<u64>
-    ensures { result ≡ Messages.number_behind (archive_at account (hall_of desk.now)) }
+#[tactic(auto, using(crate::proofs::ArchivePositions::seen_there))]
+fn number_after(context: &ServerContext, account: u32) -> Option<u64>
+    ensures { result ≡ Messages.number_after (archive_at account (server_state_of context.now)) }
 {
-    match desk.archives.get(account as usize) {
+    match context.archives.get(account as usize) {
         Some(archive) => Some(archive.last() + 1),
         None => None,
     }
 }
 
 /// The number that a message gets in an account's archive, where it goes there.
-pub(crate) fn number_in(desk: &Desk, account: u32, archiving: Archiving) -> Option<u64>
-    ensures { result ≡ Messages.number_in account (archives_of archiving) (hall_of desk.now) }
+pub(crate) fn number_in(context: &ServerContext, account: u32, archiving: Archiving) -> Option<u64>
+    ensures { result ≡ Messages.number_in account (archives_of archiving) (server_state_of context.now) }
 {
     if is_in(archiving, account) {
-        number_behind(desk, account)
+        number_after(context, account)
     } else {
         None
     }
@@ -83,7 +83,7 @@ fn reserve(archive: &mut Archive) -> Result<(), NoMemory>
 
 /// Memory for an entry in the archive of an account. `NoMemory` also where the archive can take none, which is asked
 /// before. The room of the others stays.
-#[tactic(auto, using(crate::proofs::ArchivePlaces::seen_same, crate::proofs::ArchivePlaces::room_there, crate::proofs::ArchivePlaces::room_kept))]
+#[tactic(auto, using(crate::proofs::ArchivePositions::seen_same, crate::proofs::ArchivePositions::room_there, crate::proofs::ArchivePositions::room_kept))]
 pub(crate) fn reserve_at(archives: &mut Vec<Archive>, account: u32) -> Result<(), NoMemory>
     ensures seen { map kept_of archives.new.items ≡ map kept_of archives.old.items }
     ensures room { OnOk result (HasRoomAt account archives.new.items) }
@@ -104,7 +104,7 @@ fn append(archive: &mut Archive, entry: Entry)
 }
 
 /// An entry more in the archive of an account. It takes no memory, and the room of the others stays.
-#[tactic(auto, using(crate::proofs::ArchivePlaces::seen_longer, crate::proofs::ArchivePlaces::room_of, crate::proofs::ArchivePlaces::room_apart))]
+#[tactic(auto, using(crate::proofs::ArchivePositions::seen_longer, crate::proofs::ArchivePositions::room_of, crate::proofs::ArchivePositions::room_apart))]
 pub(crate) fn append_at(archives: &mut Vec<Archive>, account: u32, entry: Entry)
     requires { HasRoomAt account archives.old.items }
     ensures seen { map kept_of archives.new.items ≡ with_entry entry account (seen_at account archives.old.items) (map kept_of archives.old.items) }

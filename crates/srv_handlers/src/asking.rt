@@ -1,6 +1,6 @@
 //! What an `iq` asks for (RFC 6120, section 8.2.3): ping, service discovery, roster, session, carbons and the archive.
 ghost use Rattle.std.specs.Prelude.{◌≡◌, [], ◌∷◌, IfOk};
-ghost use Rattle.srv_state.specs.Seen.{hall_of};
+ghost use Rattle.srv_state.specs.Seen.{server_state_of};
 ghost use Rattle.im_forwarding.specs.Queries;
 ghost use Rattle.srv_handlers.specs.Requests;
 ghost use Rattle.srv_handlers.specs.Requests.{asked_of, get_request, info_request, node_asked, request_for, request_of, set_request};
@@ -13,8 +13,8 @@ use im_forwarding::{QueryFault, query_asked};
 use im_jid::Jid;
 use im_payload::{ARCHIVE, CARBONS, DISCO_INFO, DISCO_ITEMS, PINGS, ROSTER, SESSIONS, attr_text};
 use im_stanza::{Condition, ErrorKind, Iq, IqKind, StanzaError};
-use sm_live::Told;
-use srv_state::Desk;
+use sm_live::SessionInfo;
+use srv_state::ServerContext;
 use std::alloc::Global;
 use xml_trees::{Element, next_element};
 
@@ -165,24 +165,28 @@ fn asked_by(
 fn asked_of(alloc: Global, bare: &str, domain: &str, iq: &Iq) -> Result<Request, NoMemory>
     ensures { IfOk result (λ request. request ≡ asked_of bare.now domain.now iq.now (elements_of iq.now.payload)) }
 {
-    let Some((element, behind)) = next_element(iq.payload.as_slice()) else {
+    let Some((element, following)) = next_element(iq.payload.as_slice()) else {
         return Ok(Request::Refused(bad_request()));
     };
-    if next_element(behind).is_some() {
+    if next_element(following).is_some() {
         return Ok(Request::Refused(bad_request()));
     }
     asked_by(alloc, bare, domain, iq, element)
 }
 
 /// What an `iq` asks for. `None` where it asks for nothing: it is a result or an error.
-pub(crate) fn request_of(desk: &Desk, iq: &Iq, told: &Told) -> Result<Option<Request>, NoMemory>
-    ensures { IfOk result (λ request. request ≡ request_of iq.now told.now (hall_of desk.now)) }
+pub(crate) fn request_of(
+    context: &ServerContext,
+    iq: &Iq,
+    told: &SessionInfo,
+) -> Result<Option<Request>, NoMemory>
+    ensures { IfOk result (λ request. request ≡ request_of iq.now told.now (server_state_of context.now)) }
 {
     match iq.kind {
         IqKind::Result | IqKind::Error => Ok(None),
         _ => {
-            let bare = desk.bare_address(told.account)?;
-            let asked = asked_of(desk.alloc, bare.as_str(), desk.domain.as_str(), iq)?;
+            let bare = context.bare_address(told.account)?;
+            let asked = asked_of(context.alloc, bare.as_str(), context.domain.as_str(), iq)?;
             Ok(Some(asked))
         }
     }

@@ -6,7 +6,7 @@ ghost use Rattle.im_jid.specs.Forms.{resource_form};
 ghost use Rattle.sm_live.specs.Sessions.{session_at};
 ghost use Rattle.srv_handlers.specs.Bindings;
 ghost use Rattle.srv_handlers.specs.Bindings.{asked_resource, at_bind, binding_as, chosen};
-ghost use Rattle.srv_state.specs.Seen.{hall_of, step_of};
+ghost use Rattle.srv_state.specs.Seen.{server_state_of, step_of};
 ghost use Rattle.srv_state.specs.Steps.{Say, acted};
 ghost use Rattle.im_replies.specs.Requests.{iq_error_item};
 ghost use Rattle.xml_trees.specs.Views.{elem_view};
@@ -19,7 +19,7 @@ use im_payload::{BINDING, child_text_or_empty};
 use im_replies::{Envelope, StreamCondition, bound, footer, refusal, stream_error};
 use im_stanza::{Condition, ErrorKind, StanzaError};
 use sm_resumption::Ended;
-use srv_state::Desk;
+use srv_state::ServerContext;
 use std::alloc::Global;
 use xml_trees::Element;
 
@@ -75,42 +75,42 @@ fn former_of(ended: Option<Ended>) -> Option<u64>
 }
 
 // A resource that is none.
-fn refuse_bind(desk: &mut Desk, conn: u64, id: &str) -> Result<(), NoMemory>
-    ensures ok { OnOk result (step_of desk.new ≡ acted written_item (Say conn (written_item (iq_error_item (record { from = None; to = None; id = id.now }) Bindings.bad_request)) ∷ []) (step_of desk.old)) }
-    ensures err { OnErr result (step_of desk.new ≡ step_of desk.old) }
+fn refuse_bind(context: &mut ServerContext, conn: u64, id: &str) -> Result<(), NoMemory>
+    ensures ok { OnOk result (step_of context.new ≡ acted written_item (Say conn (written_item (iq_error_item (record { from = None; to = None; id = id.now }) Bindings.bad_request)) ∷ []) (step_of context.old)) }
+    ensures err { OnErr result (step_of context.new ≡ step_of context.old) }
 {
-    desk.out.reserve(1)?;
+    context.out.reserve(1)?;
     let envelope = Envelope {
         from: None,
         to: None,
         id,
     };
-    let answer = refusal(desk.alloc, &envelope, &bad_request())?;
-    desk.put(conn, answer);
+    let answer = refusal(context.alloc, &envelope, &bad_request())?;
+    context.put(conn, answer);
     Ok(())
 }
 
 // A session is bound, and the older one with its name ends.
 fn bind_session(
-    desk: &mut Desk,
+    context: &mut ServerContext,
     conn: u64,
     account: u32,
     id: &str,
     resource: Text,
 ) -> Result<(), NoMemory>
-    requires { session_at conn (hall_of desk.old).sessions ≡ None }
-    ensures ok { OnOk result (step_of desk.new ≡ acted written_item (binding_as written_item conn account id.now (Some resource) (hall_of desk.old)) (step_of desk.old)) }
-    ensures err { OnErr result (step_of desk.new ≡ step_of desk.old) }
+    requires { session_at conn (server_state_of context.old).sessions ≡ None }
+    ensures ok { OnOk result (step_of context.new ≡ acted written_item (binding_as written_item conn account id.now (Some resource) (server_state_of context.old)) (step_of context.old)) }
+    ensures err { OnErr result (step_of context.new ≡ step_of context.old) }
 {
-    desk.out.reserve(4)?;
-    desk.reserve_seat(account)?;
-    let error = stream_error(desk.alloc, StreamCondition::Conflict)?;
-    let footer = footer(desk.alloc)?;
-    let jid = desk.full_address(account, resource.as_str())?;
-    let answer = bound(desk.alloc, id, jid.as_str())?;
-    let session = desk.live.bind(account, resource, conn);
-    desk.part_where(former_of(session.ended), error, footer);
-    desk.put(conn, answer);
+    context.out.reserve(4)?;
+    context.reserve_session(account)?;
+    let error = stream_error(context.alloc, StreamCondition::Conflict)?;
+    let footer = footer(context.alloc)?;
+    let jid = context.full_address(account, resource.as_str())?;
+    let answer = bound(context.alloc, id, jid.as_str())?;
+    let session = context.live.bind(account, resource, conn);
+    context.part_where(former_of(session.ended), error, footer);
+    context.put(conn, answer);
     Ok(())
 }
 
@@ -122,19 +122,19 @@ fn bind_session(
 ///
 /// `NoMemory` also where each number of a session or of a queue was given. A refusal leaves all as it was.
 pub fn on_bind(
-    desk: &mut Desk,
+    context: &mut ServerContext,
     conn: u64,
     account: u32,
     id: &str,
     bind: &Element,
 ) -> Result<(), NoMemory>
-    requires { session_at conn (hall_of desk.old).sessions ≡ None }
-    ensures ok { OnOk result (step_of desk.new ≡ acted written_item (at_bind written_item conn account id.now (elem_view bind.now) (hall_of desk.old)) (step_of desk.old)) }
-    ensures err { OnErr result (step_of desk.new ≡ step_of desk.old) }
+    requires { session_at conn (server_state_of context.old).sessions ≡ None }
+    ensures ok { OnOk result (step_of context.new ≡ acted written_item (at_bind written_item conn account id.now (elem_view bind.now) (server_state_of context.old)) (step_of context.old)) }
+    ensures err { OnErr result (step_of context.new ≡ step_of context.old) }
 {
-    let asked = child_text_or_empty(desk.alloc, bind, BINDING, "resource")?;
-    match chosen_resource(desk.alloc, desk.live.next_number(), asked.as_str())? {
-        Some(resource) => bind_session(desk, conn, account, id, resource),
-        None => refuse_bind(desk, conn, id),
+    let asked = child_text_or_empty(context.alloc, bind, BINDING, "resource")?;
+    match chosen_resource(context.alloc, context.live.next_number(), asked.as_str())? {
+        Some(resource) => bind_session(context, conn, account, id, resource),
+        None => refuse_bind(context, conn, id),
     }
 }

@@ -1,22 +1,22 @@
 //! Copies of a message go to sessions that asked for them (XEP-0280, sections 7 and 8).
 ghost use Rattle.std.specs.Prelude.{◌≡◌, [], ◌++◌, IfOk, OnOk, Some};
-ghost use Rattle.srv_state.specs.Parcels.{sends_of};
-ghost use Rattle.srv_state.specs.Seen.{hall_of};
+ghost use Rattle.srv_state.specs.OutgoingStanzas.{sends_of};
+ghost use Rattle.srv_state.specs.Seen.{server_state_of};
 ghost use Rattle.srv_state.specs.State.{session_address};
 ghost use Rattle.im_forwarding.specs.Copies.{copied_text, copy_text, copy_view};
 ghost use Rattle.im_forwarding.specs.Passed.{addressed_view};
-ghost use Rattle.sm_live.specs.Sessions.{told_of};
+ghost use Rattle.sm_live.specs.Sessions.{info_of};
 ghost use Rattle.srv_handlers.specs.Messages.{copy_for, copying, copying_to};
 ghost use Rattle.srv_handlers.specs.Parts.{IsInside};
 ghost use Rattle.srv_route.specs.Routes.{archives_of};
 ghost use Rattle.xml_writer.specs.Items.{written_item};
 
 use crate::archives::number_in;
-use crate::parcels::{Made, add_stanza};
+use crate::outgoing_stanzas::{Made, add_stanza};
 use base_io::{Bytes, NoMemory};
 use im_forwarding::{Addressed, CarbonCopy, Filed};
 use srv_route::Archiving;
-use srv_state::{Desk, Parcel};
+use srv_state::{OutgoingStanza, ServerContext};
 use std::alloc::Global;
 
 // What is inside the copies for an account's sessions.
@@ -30,15 +30,15 @@ fn make(alloc: Global, account: u32, copy: &CarbonCopy<'_>) -> Result<Made, NoMe
 
 // The same, where what was made before may be for this account.
 fn made_for(
-    desk: &Desk,
+    context: &ServerContext,
     account: u32,
     copy: &CarbonCopy<'_>,
     addressed: &Addressed<'_>,
     archiving: Archiving,
     made: Option<Made>,
 ) -> Result<Made, NoMemory>
-    requires copy { copy_view copy.now ≡ copy_for copy.now.sent (addressed_view addressed.now) (archives_of archiving) account (hall_of desk.now) }
-    requires made { IsInside copy.now.sent (addressed_view addressed.now) (archives_of archiving) (hall_of desk.now) made }
+    requires copy { copy_view copy.now ≡ copy_for copy.now.sent (addressed_view addressed.now) (archives_of archiving) account (server_state_of context.now) }
+    requires made { IsInside copy.now.sent (addressed_view addressed.now) (archives_of archiving) (server_state_of context.now) made }
     ensures account { IfOk result (λ made. made.account ≡ account) }
     ensures bytes { IfOk result (λ made. made.bytes.items ≡ copied_text (copy_view copy.now)) }
 {
@@ -47,16 +47,16 @@ fn made_for(
             if made.account == account {
                 Ok(made)
             } else {
-                make(desk.alloc, account, copy)
+                make(context.alloc, account, copy)
             }
         }
-        None => make(desk.alloc, account, copy),
+        None => make(context.alloc, account, copy),
     }
 }
 
 // A copy for a session of an account, and what is made by then.
 fn copy_for(
-    desk: &Desk,
+    context: &ServerContext,
     account: u32,
     number: u64,
     addressed: &Addressed<'_>,
@@ -64,45 +64,45 @@ fn copy_for(
     sent: bool,
     made: Option<Made>,
 ) -> Result<(Bytes, Made), NoMemory>
-    requires { IsInside sent (addressed_view addressed.now) (archives_of archiving) (hall_of desk.now) made }
-    ensures bytes { IfOk result (λ pair. pair.0.items ≡ copy_text (copy_for sent (addressed_view addressed.now) (archives_of archiving) account (hall_of desk.now)) (session_address number (hall_of desk.now))) }
-    ensures made { IfOk result (λ pair. IsInside sent (addressed_view addressed.now) (archives_of archiving) (hall_of desk.now) (Some pair.1)) }
+    requires { IsInside sent (addressed_view addressed.now) (archives_of archiving) (server_state_of context.now) made }
+    ensures bytes { IfOk result (λ pair. pair.0.items ≡ copy_text (copy_for sent (addressed_view addressed.now) (archives_of archiving) account (server_state_of context.now)) (session_address number (server_state_of context.now))) }
+    ensures made { IfOk result (λ pair. IsInside sent (addressed_view addressed.now) (archives_of archiving) (server_state_of context.now) (Some pair.1)) }
 {
-    let by = desk.bare_address(account)?;
-    let full = desk.session_address(number)?;
+    let by = context.bare_address(account)?;
+    let full = context.session_address(number)?;
     let filed = Filed {
         by: by.as_str(),
-        number: number_in(desk, account, archiving),
+        number: number_in(context, account, archiving),
     };
     let copy = CarbonCopy {
         sent,
-        moment: desk.moment,
+        moment: context.moment,
         message: addressed,
         filed: &filed,
     };
-    let made = made_for(desk, account, &copy, addressed, archiving, made)?;
-    let bytes = copy.to(desk.alloc, full.as_str(), &made.bytes)?;
+    let made = made_for(context, account, &copy, addressed, archiving, made)?;
+    let bytes = copy.to(context.alloc, full.as_str(), &made.bytes)?;
     Ok((bytes, made))
 }
 
 // A copy to one session, where it lives, and what is made by then.
 fn add_copy(
-    desk: &Desk,
-    parcels: &mut Vec<Parcel>,
+    context: &ServerContext,
+    outgoing_stanzas: &mut Vec<OutgoingStanza>,
     addressed: &Addressed<'_>,
     archiving: Archiving,
     sent: bool,
     number: u64,
     made: Option<Made>,
 ) -> Result<Option<Made>, NoMemory>
-    requires { IsInside sent (addressed_view addressed.now) (archives_of archiving) (hall_of desk.now) made }
-    ensures made { IfOk result (λ made. IsInside sent (addressed_view addressed.now) (archives_of archiving) (hall_of desk.now) made) }
-    ensures sends { OnOk result (sends_of parcels.new.items ≡ sends_of parcels.old.items ++ copying_to written_item sent (addressed_view addressed.now) (archives_of archiving) number (told_of number (hall_of desk.now).sessions) (hall_of desk.now) []) }
+    requires { IsInside sent (addressed_view addressed.now) (archives_of archiving) (server_state_of context.now) made }
+    ensures made { IfOk result (λ made. IsInside sent (addressed_view addressed.now) (archives_of archiving) (server_state_of context.now) made) }
+    ensures sends { OnOk result (sends_of outgoing_stanzas.new.items ≡ sends_of outgoing_stanzas.old.items ++ copying_to written_item sent (addressed_view addressed.now) (archives_of archiving) number (info_of number (server_state_of context.now).sessions) (server_state_of context.now) []) }
 {
-    match desk.live.told(number) {
+    match context.live.told(number) {
         Some(told) => {
             let (bytes, made) = copy_for(
-                desk,
+                context,
                 told.account,
                 number,
                 addressed,
@@ -110,7 +110,7 @@ fn add_copy(
                 sent,
                 made,
             )?;
-            add_stanza(desk.alloc, parcels, number, bytes)?;
+            add_stanza(context.alloc, outgoing_stanzas, number, bytes)?;
             Ok(Some(made))
         }
         None => Ok(made),
@@ -121,18 +121,26 @@ fn add_copy(
 /// account that follow one another.
 #[tactic(auto, using(crate::proofs::Runs::copied_first))]
 pub(crate) fn add_copies(
-    desk: &Desk,
-    parcels: &mut Vec<Parcel>,
+    context: &ServerContext,
+    outgoing_stanzas: &mut Vec<OutgoingStanza>,
     addressed: &Addressed<'_>,
     archiving: Archiving,
     sent: bool,
     numbers: &[u64],
 ) -> Result<(), NoMemory>
-    ensures { OnOk result (sends_of parcels.new.items ≡ sends_of parcels.old.items ++ copying written_item sent (addressed_view addressed.now) (archives_of archiving) numbers.now (hall_of desk.now) []) }
+    ensures { OnOk result (sends_of outgoing_stanzas.new.items ≡ sends_of outgoing_stanzas.old.items ++ copying written_item sent (addressed_view addressed.now) (archives_of archiving) numbers.now (server_state_of context.now) []) }
 {
     let mut made = None;
     for number in numbers {
-        made = add_copy(desk, parcels, addressed, archiving, sent, *number, made)?;
+        made = add_copy(
+            context,
+            outgoing_stanzas,
+            addressed,
+            archiving,
+            sent,
+            *number,
+            made,
+        )?;
     }
     Ok(())
 }

@@ -12,7 +12,7 @@ mod entries;
 mod envelopes;
 mod managements;
 mod messages;
-mod parcels;
+mod outgoing_stanzas;
 mod queries;
 mod request;
 mod requests;

@@ -2,13 +2,13 @@
 ghost use Rattle.std.specs.Prelude.{◌≡◌, [], false, nat_eq, true, IfOk, OnErr, OnOk, Some};
 ghost use Rattle.base_lemmas.specs.Distinct.{are_distinct_by};
 ghost use Rattle.srv_state.specs.Handling.{counting};
-ghost use Rattle.srv_state.specs.Parcels.{sends_of};
-ghost use Rattle.srv_state.specs.Seen.{hall_of, step_of};
+ghost use Rattle.srv_state.specs.OutgoingStanzas.{sends_of};
+ghost use Rattle.srv_state.specs.Seen.{server_state_of, step_of};
 ghost use Rattle.srv_state.specs.State.{session_address};
 ghost use Rattle.srv_state.specs.Steps.{acted};
 ghost use Rattle.im_forwarding.specs.Passed;
 ghost use Rattle.im_forwarding.specs.Passed.{addressed_view};
-ghost use Rattle.sm_live.specs.Sessions.{told_of};
+ghost use Rattle.sm_live.specs.Sessions.{info_of};
 ghost use Rattle.srv_handlers.specs.Messages;
 ghost use Rattle.srv_handlers.specs.Messages.{at_message, bouncing, carrying, copying, delivering, messaging};
 ghost use Rattle.srv_handlers.specs.Parts.{plan_view};
@@ -23,9 +23,9 @@ use base_io::NoMemory;
 use im_forwarding::Addressed;
 use im_replies::bounced;
 use im_stanza::{Condition, ErrorKind, Message, StanzaError};
-use sm_live::Told;
+use sm_live::SessionInfo;
 use srv_route::{Plan, Route, archives_have_it_once, plan};
-use srv_state::{Desk, Parcel};
+use srv_state::{OutgoingStanza, ServerContext};
 
 fn no_room() -> StanzaError
     ensures { result ≡ Messages.no_room }
@@ -38,100 +38,100 @@ fn no_room() -> StanzaError
 
 // All that goes to sessions: the message, and then copies as sent and as received.
 #[tactic(auto, using(crate::proofs::Runs::all_sent))]
-fn parcels_of(
-    desk: &Desk,
+fn outgoing_stanzas_of(
+    context: &ServerContext,
     addressed: &Addressed<'_>,
     route: &Route,
-) -> Result<Vec<Parcel>, NoMemory>
-    ensures { IfOk result (λ parcels. sends_of parcels.items ≡ delivering written_item (addressed_view addressed.now) (archives_of route.now.archiving) route.now.deliver (hall_of desk.now) (copying written_item true (addressed_view addressed.now) (archives_of route.now.archiving) route.now.sent (hall_of desk.now) (copying written_item false (addressed_view addressed.now) (archives_of route.now.archiving) route.now.received (hall_of desk.now) []))) }
+) -> Result<Vec<OutgoingStanza>, NoMemory>
+    ensures { IfOk result (λ outgoing_stanzas. sends_of outgoing_stanzas.items ≡ delivering written_item (addressed_view addressed.now) (archives_of route.now.archiving) route.now.deliver (server_state_of context.now) (copying written_item true (addressed_view addressed.now) (archives_of route.now.archiving) route.now.sent (server_state_of context.now) (copying written_item false (addressed_view addressed.now) (archives_of route.now.archiving) route.now.received (server_state_of context.now) []))) }
 {
     let archiving = route.archiving;
-    let mut parcels = Vec::new(desk.alloc);
+    let mut outgoing_stanzas = Vec::new(context.alloc);
     add_deliveries(
-        desk,
-        &mut parcels,
+        context,
+        &mut outgoing_stanzas,
         addressed,
         archiving,
         route.deliver.as_slice(),
     )?;
     add_copies(
-        desk,
-        &mut parcels,
+        context,
+        &mut outgoing_stanzas,
         addressed,
         archiving,
         true,
         route.sent.as_slice(),
     )?;
     add_copies(
-        desk,
-        &mut parcels,
+        context,
+        &mut outgoing_stanzas,
         addressed,
         archiving,
         false,
         route.received.as_slice(),
     )?;
-    Ok(parcels)
+    Ok(outgoing_stanzas)
 }
 
 // The message comes back.
 fn bounce(
-    desk: &mut Desk,
+    context: &mut ServerContext,
     message: &Message,
     to: &str,
     error: &StanzaError,
-    told: &Told,
+    told: &SessionInfo,
 ) -> Result<(), NoMemory>
-    requires { Some told.now ≡ told_of told.now.number (hall_of desk.old).sessions }
-    ensures ok { OnOk result (step_of desk.new ≡ acted written_item (counting told.now (bouncing written_item message.now to.now error.now told.now)) (step_of desk.old)) }
-    ensures err { OnErr result (step_of desk.new ≡ step_of desk.old) }
+    requires { Some told.now ≡ info_of told.now.number (server_state_of context.old).sessions }
+    ensures ok { OnOk result (step_of context.new ≡ acted written_item (counting told.now (bouncing written_item message.now to.now error.now told.now)) (step_of context.old)) }
+    ensures err { OnErr result (step_of context.new ≡ step_of context.old) }
 {
-    let answer = bounced(desk.alloc, to, message.id.as_str(), error)?;
-    desk.reply(told, answer)
+    let answer = bounced(context.alloc, to, message.id.as_str(), error)?;
+    context.reply(told, answer)
 }
 
 // The message goes its way.
 fn on_routed(
-    desk: &mut Desk,
+    context: &mut ServerContext,
     message: &Message,
     to: &str,
     route: &Route,
-    told: &Told,
+    told: &SessionInfo,
 ) -> Result<(), NoMemory>
-    requires told { Some told.now ≡ told_of told.now.number (hall_of desk.old).sessions }
+    requires told { Some told.now ≡ info_of told.now.number (server_state_of context.old).sessions }
     requires apart { are_distinct_by nat_eq (archives_of route.now.archiving) ≡ true }
-    ensures ok { OnOk result (step_of desk.new ≡ acted written_item (counting told.now (carrying written_item (Passed.addressed (session_address told.now.number (hall_of desk.old)) to.now message.now) (archives_of route.now.archiving) route.now (hall_of desk.old))) (step_of desk.old)) }
-    ensures err { OnErr result (step_of desk.new ≡ step_of desk.old) }
+    ensures ok { OnOk result (step_of context.new ≡ acted written_item (counting told.now (carrying written_item (Passed.addressed (session_address told.now.number (server_state_of context.old)) to.now message.now) (archives_of route.now.archiving) route.now (server_state_of context.old))) (step_of context.old)) }
+    ensures err { OnErr result (step_of context.new ≡ step_of context.old) }
 {
-    let from = desk.session_address(told.number)?;
+    let from = context.session_address(told.number)?;
     let addressed = Addressed {
         message,
         from: from.as_str(),
         to,
     };
-    let parcels = parcels_of(desk, &addressed, route)?;
-    carry_to(desk, told, &addressed, route.archiving, parcels)
+    let outgoing_stanzas = outgoing_stanzas_of(context, &addressed, route)?;
+    carry_to(context, told, &addressed, route.archiving, outgoing_stanzas)
 }
 
 // The message goes the way that was planned.
 fn on_planned(
-    desk: &mut Desk,
+    context: &mut ServerContext,
     message: &Message,
     to: &str,
     plan: &Plan,
-    told: &Told,
+    told: &SessionInfo,
 ) -> Result<(), NoMemory>
-    requires told { Some told.now ≡ told_of told.now.number (hall_of desk.old).sessions }
+    requires told { Some told.now ≡ info_of told.now.number (server_state_of context.old).sessions }
     requires apart { are_distinct_by nat_eq (archives_in (plan_view plan.now)) ≡ true }
-    ensures ok { OnOk result (step_of desk.new ≡ acted written_item (counting told.now (messaging written_item message.now to.now told.now (plan_view plan.now) (hall_of desk.old))) (step_of desk.old)) }
-    ensures err { OnErr result (step_of desk.new ≡ step_of desk.old) }
+    ensures ok { OnOk result (step_of context.new ≡ acted written_item (counting told.now (messaging written_item message.now to.now told.now (plan_view plan.now) (server_state_of context.old))) (step_of context.old)) }
+    ensures err { OnErr result (step_of context.new ≡ step_of context.old) }
 {
     match plan {
-        Plan::Bounced(error) => bounce(desk, message, to, error, told),
+        Plan::Bounced(error) => bounce(context, message, to, error, told),
         Plan::Routed(route) => {
-            if is_full(desk, route.archiving) {
-                bounce(desk, message, to, &no_room(), told)
+            if is_full(context, route.archiving) {
+                bounce(context, message, to, &no_room(), told)
             } else {
-                on_routed(desk, message, to, route, told)
+                on_routed(context, message, to, route, told)
             }
         }
     }
@@ -152,26 +152,30 @@ fn on_planned(
 /// `NoMemory` comes where memory runs out, and where more stanzas than 32 bits count were to go out. A refusal leaves all as
 /// it was: the message doesn't count, and nothing is archived or put out.
 #[tactic(auto, using(crate::proofs::PlanViews::viewed, crate::proofs::PlanViews::viewed_archives))]
-pub fn on_message(desk: &mut Desk, message: &Message, told: &Told) -> Result<(), NoMemory>
-    requires { Some told.now ≡ told_of told.now.number (hall_of desk.old).sessions }
-    ensures ok { OnOk result (step_of desk.new ≡ acted written_item (counting told.now (at_message written_item message.now told.now (hall_of desk.old))) (step_of desk.old)) }
-    ensures err { OnErr result (step_of desk.new ≡ step_of desk.old) }
+pub fn on_message(
+    context: &mut ServerContext,
+    message: &Message,
+    told: &SessionInfo,
+) -> Result<(), NoMemory>
+    requires { Some told.now ≡ info_of told.now.number (server_state_of context.old).sessions }
+    ensures ok { OnOk result (step_of context.new ≡ acted written_item (counting told.now (at_message written_item message.now told.now (server_state_of context.old))) (step_of context.old)) }
+    ensures err { OnErr result (step_of context.new ≡ step_of context.old) }
 {
     archives_have_it_once();
-    let domain = desk.domain.as_str();
+    let domain = context.domain.as_str();
     let plan = plan(
-        desk.alloc,
+        context.alloc,
         domain,
-        &desk.accounts,
-        &desk.live,
+        &context.accounts,
+        &context.live,
         message,
         told,
     )?;
     match &message.to {
-        Some(to) => on_planned(desk, message, to.text(), &plan, told),
+        Some(to) => on_planned(context, message, to.text(), &plan, told),
         None => {
-            let bare = desk.bare_address(told.account)?;
-            on_planned(desk, message, bare.as_str(), &plan, told)
+            let bare = context.bare_address(told.account)?;
+            on_planned(context, message, bare.as_str(), &plan, told)
         }
     }
 }

@@ -2,13 +2,13 @@
 ghost use Rattle.std.specs.Prelude.{◌≡◌, ◌+◌, ◌≤◌, [], ◌∷◌, ◌++◌, length, IfOk, IfSome, OnErr, OnOk, Some};
 ghost use Rattle.std.specs.Option.{option_copied, option_map};
 ghost use Rattle.srv_state.specs.Handling.{counting};
-ghost use Rattle.srv_state.specs.Parcels.{sends_of};
-ghost use Rattle.srv_state.specs.Seen.{hall_of, kept_of, step_of};
+ghost use Rattle.srv_state.specs.OutgoingStanzas.{sends_of};
+ghost use Rattle.srv_state.specs.Seen.{kept_of, server_state_of, step_of};
 ghost use Rattle.srv_state.specs.State;
 ghost use Rattle.srv_state.specs.State.{archive_at};
 ghost use Rattle.srv_state.specs.Steps.{Send, acted};
 ghost use Rattle.im_forwarding.specs.Results.{asker_view, fin_text};
-ghost use Rattle.sm_live.specs.Sessions.{told_of};
+ghost use Rattle.sm_live.specs.Sessions.{info_of};
 ghost use Rattle.mam_pages.specs.Kept.{kept_by};
 ghost use Rattle.mam_pages.specs.PageOf.{page_of};
 ghost use Rattle.im_replies.specs.Requests.{envelope_view, iq_error_text};
@@ -25,8 +25,8 @@ use im_replies::{Envelope, refusal};
 use im_stanza::Iq;
 use mam_archive::{Archive, Entry};
 use mam_pages::{ArchiveLook, PageCut, PageFault, PageQuery, page};
-use sm_live::Told;
-use srv_state::{Desk, Parcel};
+use sm_live::SessionInfo;
+use srv_state::{OutgoingStanza, ServerContext};
 use std::alloc::Global;
 
 // The page of an archive. `None` where its place is none.
@@ -49,32 +49,32 @@ fn page_of(alloc: Global, archive: &Archive, query: &PageQuery) -> Result<Option
 #[tactic(auto, using(crate::proofs::Sendings::sends_push))]
 fn add_stanza(
     alloc: Global,
-    parcels: &mut Vec<Parcel>,
+    outgoing_stanzas: &mut Vec<OutgoingStanza>,
     number: u64,
     bytes: Bytes,
 ) -> Result<(), NoMemory>
-    ensures sends { OnOk result (sends_of parcels.new.items ≡ sends_of parcels.old.items ++ Send number bytes.items ∷ []) }
-    ensures length { OnOk result (length parcels.new.items ≡ length parcels.old.items + 1) }
+    ensures sends { OnOk result (sends_of outgoing_stanzas.new.items ≡ sends_of outgoing_stanzas.old.items ++ Send number bytes.items ∷ []) }
+    ensures length { OnOk result (length outgoing_stanzas.new.items ≡ length outgoing_stanzas.old.items + 1) }
 {
-    parcels.push(Parcel::new(alloc, number, bytes)?)?;
+    outgoing_stanzas.push(OutgoingStanza::new(alloc, number, bytes)?)?;
     Ok(())
 }
 
 // An entry of a page, where there is one.
 fn add_entry(
     alloc: Global,
-    parcels: &mut Vec<Parcel>,
+    outgoing_stanzas: &mut Vec<OutgoingStanza>,
     number: u64,
     asker: &Asker<'_>,
     entry: Option<&Entry>,
 ) -> Result<(), NoMemory>
-    ensures sends { OnOk result (sends_of parcels.new.items ≡ sends_of parcels.old.items ++ sending_entry written_item number (asker_view asker.now) (option_copied entry.entry) []) }
-    ensures length { OnOk result (length parcels.new.items ≤ length parcels.old.items + 1) }
+    ensures sends { OnOk result (sends_of outgoing_stanzas.new.items ≡ sends_of outgoing_stanzas.old.items ++ sending_entry written_item number (asker_view asker.now) (option_copied entry.entry) []) }
+    ensures length { OnOk result (length outgoing_stanzas.new.items ≤ length outgoing_stanzas.old.items + 1) }
 {
     match entry {
         Some(entry) => {
             let bytes = archived(alloc, asker, entry)?;
-            add_stanza(alloc, parcels, number, bytes)
+            add_stanza(alloc, outgoing_stanzas, number, bytes)
         }
         None => Ok(()),
     }
@@ -84,72 +84,79 @@ fn add_entry(
 #[tactic(auto, using(crate::proofs::Sendings::entry_first))]
 fn add_entries(
     alloc: Global,
-    parcels: &mut Vec<Parcel>,
+    outgoing_stanzas: &mut Vec<OutgoingStanza>,
     number: u64,
     asker: &Asker<'_>,
     archive: &Archive,
     numbers: &[u64],
 ) -> Result<(), NoMemory>
-    ensures sends { OnOk result (sends_of parcels.new.items ≡ sends_of parcels.old.items ++ sending_entries written_item number (asker_view asker.now) archive.now.entries numbers.now []) }
-    ensures length { OnOk result (length parcels.new.items ≤ length parcels.old.items + length numbers.now) }
+    ensures sends { OnOk result (sends_of outgoing_stanzas.new.items ≡ sends_of outgoing_stanzas.old.items ++ sending_entries written_item number (asker_view asker.now) archive.now.entries numbers.now []) }
+    ensures length { OnOk result (length outgoing_stanzas.new.items ≤ length outgoing_stanzas.old.items + length numbers.now) }
 {
     for at in numbers {
-        add_entry(alloc, parcels, number, asker, archive.get(*at))?;
+        add_entry(alloc, outgoing_stanzas, number, asker, archive.get(*at))?;
     }
     Ok(())
 }
 
 // The entries of a page, and its end.
 #[tactic(auto, using(crate::proofs::Sendings::entries_before))]
-fn found_parcels(
+fn found_outgoing_stanzas(
     alloc: Global,
     archive: &Archive,
     cut: &PageCut,
     asker: &Asker<'_>,
     envelope: &Envelope<'_>,
     number: u64,
-) -> Result<Vec<Parcel>, NoMemory>
-    ensures sends { IfOk result (λ parcels. sends_of parcels.items ≡ sending_entries written_item number (asker_view asker.now) archive.now.entries cut.now.numbers (Send number (fin_text (envelope_view envelope.now) cut.now) ∷ [])) }
-    ensures length { IfOk result (λ parcels. length parcels.items ≤ length cut.now.numbers + 1) }
+) -> Result<Vec<OutgoingStanza>, NoMemory>
+    ensures sends { IfOk result (λ outgoing_stanzas. sends_of outgoing_stanzas.items ≡ sending_entries written_item number (asker_view asker.now) archive.now.entries cut.now.numbers (Send number (fin_text (envelope_view envelope.now) cut.now) ∷ [])) }
+    ensures length { IfOk result (λ outgoing_stanzas. length outgoing_stanzas.items ≤ length cut.now.numbers + 1) }
 {
-    let mut parcels = Vec::new(alloc);
+    let mut outgoing_stanzas = Vec::new(alloc);
     let numbers = cut.numbers.as_slice();
-    add_entries(alloc, &mut parcels, number, asker, archive, numbers)?;
+    add_entries(
+        alloc,
+        &mut outgoing_stanzas,
+        number,
+        asker,
+        archive,
+        numbers,
+    )?;
     let end = page_end(alloc, envelope, cut)?;
-    add_stanza(alloc, &mut parcels, number, end)?;
-    Ok(parcels)
+    add_stanza(alloc, &mut outgoing_stanzas, number, end)?;
+    Ok(outgoing_stanzas)
 }
 
 // The refusal of a page whose place is none.
-fn refused_parcels(
+fn refused_outgoing_stanzas(
     alloc: Global,
     envelope: &Envelope<'_>,
     number: u64,
-) -> Result<Vec<Parcel>, NoMemory>
-    ensures sends { IfOk result (λ parcels. sends_of parcels.items ≡ Send number (iq_error_text (envelope_view envelope.now) Queries.no_such_place) ∷ []) }
-    ensures length { IfOk result (λ parcels. length parcels.items ≡ 1) }
+) -> Result<Vec<OutgoingStanza>, NoMemory>
+    ensures sends { IfOk result (λ outgoing_stanzas. sends_of outgoing_stanzas.items ≡ Send number (iq_error_text (envelope_view envelope.now) Queries.no_such_place) ∷ []) }
+    ensures length { IfOk result (λ outgoing_stanzas. length outgoing_stanzas.items ≡ 1) }
 {
     let answer = refusal(alloc, envelope, &no_such_place())?;
-    let mut parcels = Vec::new(alloc);
-    add_stanza(alloc, &mut parcels, number, answer)?;
-    Ok(parcels)
+    let mut outgoing_stanzas = Vec::new(alloc);
+    add_stanza(alloc, &mut outgoing_stanzas, number, answer)?;
+    Ok(outgoing_stanzas)
 }
 
 // What is sent of the page that a query of an archive asks for.
-fn page_parcels(
+fn page_outgoing_stanzas(
     alloc: Global,
     archive: &Archive,
     query: &PageQuery,
     asker: &Asker<'_>,
     envelope: &Envelope<'_>,
     number: u64,
-) -> Result<Vec<Parcel>, NoMemory>
-    ensures sends { IfOk result (λ parcels. sends_of parcels.items ≡ page_sent written_item number (asker_view asker.now) (envelope_view envelope.now) archive.now.entries (page_of (kept_by archive.now.owner archive.now.entries) query.now)) }
-    ensures few { IfOk result (λ parcels. length parcels.items ≤ 101) }
+) -> Result<Vec<OutgoingStanza>, NoMemory>
+    ensures sends { IfOk result (λ outgoing_stanzas. sends_of outgoing_stanzas.items ≡ page_sent written_item number (asker_view asker.now) (envelope_view envelope.now) archive.now.entries (page_of (kept_by archive.now.owner archive.now.entries) query.now)) }
+    ensures few { IfOk result (λ outgoing_stanzas. length outgoing_stanzas.items ≤ 101) }
 {
     match page_of(alloc, archive, query)? {
-        Some(cut) => found_parcels(alloc, archive, &cut, asker, envelope, number),
-        None => refused_parcels(alloc, envelope, number),
+        Some(cut) => found_outgoing_stanzas(alloc, archive, &cut, asker, envelope, number),
+        None => refused_outgoing_stanzas(alloc, envelope, number),
     }
 }
 
@@ -157,27 +164,27 @@ fn page_parcels(
 
 // What an account's archive is asked for. The session has this full address.
 #[tactic(auto, using(crate::proofs::Sendings::page_paged))]
-fn archive_parcels(
-    desk: &Desk,
+fn archive_outgoing_stanzas(
+    context: &ServerContext,
     archive: &Archive,
     query: &MamQuery,
     iq: &Iq,
     full: &str,
-    told: &Told,
-) -> Result<Vec<Parcel>, NoMemory>
-    requires { full.now ≡ State.session_address told.now.number (hall_of desk.now) }
-    ensures sends { IfOk result (λ parcels. sends_of parcels.items ≡ paging written_item iq.now told.now query.now.queryid (kept_of archive.now) (page_of (kept_by archive.now.owner archive.now.entries) query.now.query) (hall_of desk.now)) }
-    ensures few { IfOk result (λ parcels. length parcels.items ≤ 101) }
+    told: &SessionInfo,
+) -> Result<Vec<OutgoingStanza>, NoMemory>
+    requires { full.now ≡ State.session_address told.now.number (server_state_of context.now) }
+    ensures sends { IfOk result (λ outgoing_stanzas. sends_of outgoing_stanzas.items ≡ paging written_item iq.now told.now query.now.queryid (kept_of archive.now) (page_of (kept_by archive.now.owner archive.now.entries) query.now.query) (server_state_of context.now)) }
+    ensures few { IfOk result (λ outgoing_stanzas. length outgoing_stanzas.items ≤ 101) }
 {
-    let by = desk.bare_address(told.account)?;
+    let by = context.bare_address(told.account)?;
     let asker = Asker {
         by: by.as_str(),
         full,
         queryid: query.queryid.as_str(),
     };
     let envelope = envelope_to(iq, full);
-    page_parcels(
-        desk.alloc,
+    page_outgoing_stanzas(
+        context.alloc,
         archive,
         &query.query,
         &asker,
@@ -188,27 +195,27 @@ fn archive_parcels(
 
 // The archive of a session's account.
 #[tactic(auto, using(crate::proofs::ArchiveSteps::seen_at))]
-fn archive_of<'a>(desk: &'a Desk, told: &Told) -> Option<&'a Archive>
-    ensures { option_map kept_of (option_copied result) ≡ archive_at told.now.account (hall_of desk.now) }
+fn archive_of<'a>(context: &'a ServerContext, told: &SessionInfo) -> Option<&'a Archive>
+    ensures { option_map kept_of (option_copied result) ≡ archive_at told.now.account (server_state_of context.now) }
 {
-    desk.archives.get(told.account as usize)
+    context.archives.get(told.account as usize)
 }
 
 // What the archive of the session's account is asked for. Nothing is sent where it has none.
-fn query_parcels(
-    desk: &Desk,
+fn query_outgoing_stanzas(
+    context: &ServerContext,
     query: &MamQuery,
     iq: &Iq,
     full: &str,
-    told: &Told,
-) -> Result<Vec<Parcel>, NoMemory>
-    requires { full.now ≡ State.session_address told.now.number (hall_of desk.now) }
-    ensures sends { IfOk result (λ parcels. sends_of parcels.items ≡ querying_in written_item iq.now told.now query.now (archive_at told.now.account (hall_of desk.now)) (hall_of desk.now)) }
-    ensures few { IfOk result (λ parcels. length parcels.items ≤ 101) }
+    told: &SessionInfo,
+) -> Result<Vec<OutgoingStanza>, NoMemory>
+    requires { full.now ≡ State.session_address told.now.number (server_state_of context.now) }
+    ensures sends { IfOk result (λ outgoing_stanzas. sends_of outgoing_stanzas.items ≡ querying_in written_item iq.now told.now query.now (archive_at told.now.account (server_state_of context.now)) (server_state_of context.now)) }
+    ensures few { IfOk result (λ outgoing_stanzas. length outgoing_stanzas.items ≤ 101) }
 {
-    match archive_of(desk, told) {
-        Some(archive) => archive_parcels(desk, archive, query, iq, full, told),
-        None => Ok(Vec::new(desk.alloc)),
+    match archive_of(context, told) {
+        Some(archive) => archive_outgoing_stanzas(context, archive, query, iq, full, told),
+        None => Ok(Vec::new(context.alloc)),
     }
 }
 
@@ -216,20 +223,20 @@ fn query_parcels(
 /// memory is taken first; a refusal leaves all as it was.
 #[tactic(auto, using(crate::proofs::Countings::counts_first))]
 pub(crate) fn on_query(
-    desk: &mut Desk,
+    context: &mut ServerContext,
     query: &MamQuery,
     iq: &Iq,
     full: &str,
-    told: &Told,
+    told: &SessionInfo,
 ) -> Result<(), NoMemory>
-    requires told { Some told.now ≡ told_of told.now.number (hall_of desk.old).sessions }
-    requires full { full.now ≡ State.session_address told.now.number (hall_of desk.old) }
-    ensures ok { OnOk result (step_of desk.new ≡ acted written_item (counting told.now (querying_in written_item iq.now told.now query.now (archive_at told.now.account (hall_of desk.old)) (hall_of desk.old))) (step_of desk.old)) }
-    ensures err { OnErr result (step_of desk.new ≡ step_of desk.old) }
+    requires told { Some told.now ≡ info_of told.now.number (server_state_of context.old).sessions }
+    requires full { full.now ≡ State.session_address told.now.number (server_state_of context.old) }
+    ensures ok { OnOk result (step_of context.new ≡ acted written_item (counting told.now (querying_in written_item iq.now told.now query.now (archive_at told.now.account (server_state_of context.old)) (server_state_of context.old))) (step_of context.old)) }
+    ensures err { OnErr result (step_of context.new ≡ step_of context.old) }
 {
-    let parcels = query_parcels(desk, query, iq, full, told)?;
-    desk.reserve_stanzas(parcels.len() as u32)?;
-    desk.count(told);
-    desk.send_all(parcels);
+    let outgoing_stanzas = query_outgoing_stanzas(context, query, iq, full, told)?;
+    context.reserve_stanzas(outgoing_stanzas.len() as u32)?;
+    context.count(told);
+    context.send_all(outgoing_stanzas);
     Ok(())
 }

@@ -1,10 +1,10 @@
 //! The row on requests (RFC 6120, section 8.2.3): each is answered, and the answer is counted as handled with it.
 ghost use Rattle.std.specs.Prelude.{◌≡◌, ◌≤◌, [], ◌∷◌, IfOk, OnErr, OnOk, Some, length};
 ghost use Rattle.srv_state.specs.Handling.{counting};
-ghost use Rattle.srv_state.specs.Seen.{hall_of, step_of};
+ghost use Rattle.srv_state.specs.Seen.{server_state_of, step_of};
 ghost use Rattle.srv_state.specs.State;
 ghost use Rattle.srv_state.specs.Steps.{Copy, Send, acted};
-ghost use Rattle.sm_live.specs.Sessions.{told_of};
+ghost use Rattle.sm_live.specs.Sessions.{info_of};
 ghost use Rattle.im_replies.specs.Requests.{envelope_view, iq_error_item, items_item, result_item, roster_item};
 ghost use Rattle.srv_handlers.specs.Requests.{answering_iq, at_iq, info_item, serving};
 ghost use Rattle.xml_trees.specs.Trees.{no_nodes};
@@ -17,20 +17,24 @@ use crate::request::Request;
 use base_io::{Bytes, NoMemory};
 use im_replies::{Envelope, account_info, empty_result, items, refusal, roster, server_info};
 use im_stanza::{Iq, StanzaError};
-use sm_live::Told;
-use srv_state::{Desk, Parcel};
+use sm_live::SessionInfo;
+use srv_state::{OutgoingStanza, ServerContext};
 use std::alloc::Global;
 
 // ---- answers
 
 // A request is done.
-fn answer_done(desk: &mut Desk, envelope: &Envelope<'_>, told: &Told) -> Result<(), NoMemory>
-    requires { Some told.now ≡ told_of told.now.number (hall_of desk.old).sessions }
-    ensures ok { OnOk result (step_of desk.new ≡ acted written_item (counting told.now (answering_iq written_item told.now (result_item (envelope_view envelope.now) no_nodes))) (step_of desk.old)) }
-    ensures err { OnErr result (step_of desk.new ≡ step_of desk.old) }
+fn answer_done(
+    context: &mut ServerContext,
+    envelope: &Envelope<'_>,
+    told: &SessionInfo,
+) -> Result<(), NoMemory>
+    requires { Some told.now ≡ info_of told.now.number (server_state_of context.old).sessions }
+    ensures ok { OnOk result (step_of context.new ≡ acted written_item (counting told.now (answering_iq written_item told.now (result_item (envelope_view envelope.now) no_nodes))) (step_of context.old)) }
+    ensures err { OnErr result (step_of context.new ≡ step_of context.old) }
 {
-    let answer = empty_result(desk.alloc, envelope)?;
-    desk.reply(told, answer)
+    let answer = empty_result(context.alloc, envelope)?;
+    context.reply(told, answer)
 }
 
 // What the domain is, or else the account (XEP-0030, section 3.1).
@@ -45,89 +49,98 @@ fn info(alloc: Global, envelope: &Envelope<'_>, at_domain: bool) -> Result<Bytes
 }
 
 fn answer_info(
-    desk: &mut Desk,
+    context: &mut ServerContext,
     at_domain: bool,
     envelope: &Envelope<'_>,
-    told: &Told,
+    told: &SessionInfo,
 ) -> Result<(), NoMemory>
-    requires { Some told.now ≡ told_of told.now.number (hall_of desk.old).sessions }
-    ensures ok { OnOk result (step_of desk.new ≡ acted written_item (counting told.now (answering_iq written_item told.now (info_item at_domain (envelope_view envelope.now)))) (step_of desk.old)) }
-    ensures err { OnErr result (step_of desk.new ≡ step_of desk.old) }
+    requires { Some told.now ≡ info_of told.now.number (server_state_of context.old).sessions }
+    ensures ok { OnOk result (step_of context.new ≡ acted written_item (counting told.now (answering_iq written_item told.now (info_item at_domain (envelope_view envelope.now)))) (step_of context.old)) }
+    ensures err { OnErr result (step_of context.new ≡ step_of context.old) }
 {
-    let answer = info(desk.alloc, envelope, at_domain)?;
-    desk.reply(told, answer)
+    let answer = info(context.alloc, envelope, at_domain)?;
+    context.reply(told, answer)
 }
 
 // There are no items, of whatever node (XEP-0030, section 4.1).
 fn answer_items(
-    desk: &mut Desk,
+    context: &mut ServerContext,
     node: &str,
     envelope: &Envelope<'_>,
-    told: &Told,
+    told: &SessionInfo,
 ) -> Result<(), NoMemory>
-    requires { Some told.now ≡ told_of told.now.number (hall_of desk.old).sessions }
-    ensures ok { OnOk result (step_of desk.new ≡ acted written_item (counting told.now (answering_iq written_item told.now (items_item node.now (envelope_view envelope.now)))) (step_of desk.old)) }
-    ensures err { OnErr result (step_of desk.new ≡ step_of desk.old) }
+    requires { Some told.now ≡ info_of told.now.number (server_state_of context.old).sessions }
+    ensures ok { OnOk result (step_of context.new ≡ acted written_item (counting told.now (answering_iq written_item told.now (items_item node.now (envelope_view envelope.now)))) (step_of context.old)) }
+    ensures err { OnErr result (step_of context.new ≡ step_of context.old) }
 {
-    let answer = items(desk.alloc, envelope, node)?;
-    desk.reply(told, answer)
+    let answer = items(context.alloc, envelope, node)?;
+    context.reply(told, answer)
 }
 
-fn answer_roster(desk: &mut Desk, envelope: &Envelope<'_>, told: &Told) -> Result<(), NoMemory>
-    requires { Some told.now ≡ told_of told.now.number (hall_of desk.old).sessions }
-    ensures ok { OnOk result (step_of desk.new ≡ acted written_item (counting told.now (answering_iq written_item told.now (roster_item (envelope_view envelope.now)))) (step_of desk.old)) }
-    ensures err { OnErr result (step_of desk.new ≡ step_of desk.old) }
+fn answer_roster(
+    context: &mut ServerContext,
+    envelope: &Envelope<'_>,
+    told: &SessionInfo,
+) -> Result<(), NoMemory>
+    requires { Some told.now ≡ info_of told.now.number (server_state_of context.old).sessions }
+    ensures ok { OnOk result (step_of context.new ≡ acted written_item (counting told.now (answering_iq written_item told.now (roster_item (envelope_view envelope.now)))) (step_of context.old)) }
+    ensures err { OnErr result (step_of context.new ≡ step_of context.old) }
 {
-    let answer = roster(desk.alloc, envelope)?;
-    desk.reply(told, answer)
+    let answer = roster(context.alloc, envelope)?;
+    context.reply(told, answer)
 }
 
 fn refuse(
-    desk: &mut Desk,
+    context: &mut ServerContext,
     error: &StanzaError,
     envelope: &Envelope<'_>,
-    told: &Told,
+    told: &SessionInfo,
 ) -> Result<(), NoMemory>
-    requires { Some told.now ≡ told_of told.now.number (hall_of desk.old).sessions }
-    ensures ok { OnOk result (step_of desk.new ≡ acted written_item (counting told.now (answering_iq written_item told.now (iq_error_item (envelope_view envelope.now) error.now))) (step_of desk.old)) }
-    ensures err { OnErr result (step_of desk.new ≡ step_of desk.old) }
+    requires { Some told.now ≡ info_of told.now.number (server_state_of context.old).sessions }
+    ensures ok { OnOk result (step_of context.new ≡ acted written_item (counting told.now (answering_iq written_item told.now (iq_error_item (envelope_view envelope.now) error.now))) (step_of context.old)) }
+    ensures err { OnErr result (step_of context.new ≡ step_of context.old) }
 {
-    let answer = refusal(desk.alloc, envelope, error)?;
-    desk.reply(told, answer)
+    let answer = refusal(context.alloc, envelope, error)?;
+    context.reply(told, answer)
 }
 
 // ---- copies on and off (XEP-0280, sections 4 and 5)
 
 // Copies are switched on or off, and then the answer goes. All memory was taken.
 #[tactic(auto, using(crate::proofs::Countings::counts_first, crate::proofs::Countings::lives_counted))]
-fn switch(desk: &mut Desk, told: &Told, on: bool, parcel: Parcel)
-    requires told { Some told.now ≡ told_of told.now.number (hall_of desk.old).sessions }
-    requires to { parcel.number ≡ told.now.number }
-    requires room { 1 ≤ desk.old.live.room }
-    requires out { 3 ≤ desk.old.out.spare }
-    requires requests { 1 ≤ length desk.old.stock.requests.items }
-    requires overflows { 1 ≤ length desk.old.stock.overflows.items }
-    ensures { step_of desk.new ≡ acted written_item (counting told.now (Copy told.now.number on ∷ Send told.now.number parcel.shown.items ∷ [])) (step_of desk.old) }
+fn switch(
+    context: &mut ServerContext,
+    told: &SessionInfo,
+    on: bool,
+    outgoing_stanza: OutgoingStanza,
+)
+    requires told { Some told.now ≡ info_of told.now.number (server_state_of context.old).sessions }
+    requires to { outgoing_stanza.number ≡ told.now.number }
+    requires room { 1 ≤ context.old.live.room }
+    requires out { 3 ≤ context.old.out.spare }
+    requires requests { 1 ≤ length context.old.prebuilt.requests.items }
+    requires overflows { 1 ≤ length context.old.prebuilt.overflows.items }
+    ensures { step_of context.new ≡ acted written_item (counting told.now (Copy told.now.number on ∷ Send told.now.number outgoing_stanza.shown.items ∷ [])) (step_of context.old) }
 {
-    desk.count(told);
-    desk.live.set_carbons(told.number, on);
-    desk.send(parcel);
+    context.count(told);
+    context.live.set_carbons(told.number, on);
+    context.send(outgoing_stanza);
 }
 
 fn answer_switch(
-    desk: &mut Desk,
+    context: &mut ServerContext,
     on: bool,
     envelope: &Envelope<'_>,
-    told: &Told,
+    told: &SessionInfo,
 ) -> Result<(), NoMemory>
-    requires { Some told.now ≡ told_of told.now.number (hall_of desk.old).sessions }
-    ensures ok { OnOk result (step_of desk.new ≡ acted written_item (counting told.now (Copy told.now.number on ∷ answering_iq written_item told.now (result_item (envelope_view envelope.now) no_nodes))) (step_of desk.old)) }
-    ensures err { OnErr result (step_of desk.new ≡ step_of desk.old) }
+    requires { Some told.now ≡ info_of told.now.number (server_state_of context.old).sessions }
+    ensures ok { OnOk result (step_of context.new ≡ acted written_item (counting told.now (Copy told.now.number on ∷ answering_iq written_item told.now (result_item (envelope_view envelope.now) no_nodes))) (step_of context.old)) }
+    ensures err { OnErr result (step_of context.new ≡ step_of context.old) }
 {
-    let answer = empty_result(desk.alloc, envelope)?;
-    let parcel = Parcel::new(desk.alloc, told.number, answer)?;
-    desk.reserve_stanzas(1)?;
-    switch(desk, told, on, parcel);
+    let answer = empty_result(context.alloc, envelope)?;
+    let outgoing_stanza = OutgoingStanza::new(context.alloc, told.number, answer)?;
+    context.reserve_stanzas(1)?;
+    switch(context, told, on, outgoing_stanza);
     Ok(())
 }
 
@@ -135,38 +148,43 @@ fn answer_switch(
 
 // What is asked for is done and answered. The session has this full address.
 fn serve(
-    desk: &mut Desk,
+    context: &mut ServerContext,
     request: &Request,
     iq: &Iq,
     full: &str,
-    told: &Told,
+    told: &SessionInfo,
 ) -> Result<(), NoMemory>
-    requires told { Some told.now ≡ told_of told.now.number (hall_of desk.old).sessions }
-    requires full { full.now ≡ State.session_address told.now.number (hall_of desk.old) }
-    ensures ok { OnOk result (step_of desk.new ≡ acted written_item (counting told.now (serving written_item (Some request.now) iq.now told.now (hall_of desk.old))) (step_of desk.old)) }
-    ensures err { OnErr result (step_of desk.new ≡ step_of desk.old) }
+    requires told { Some told.now ≡ info_of told.now.number (server_state_of context.old).sessions }
+    requires full { full.now ≡ State.session_address told.now.number (server_state_of context.old) }
+    ensures ok { OnOk result (step_of context.new ≡ acted written_item (counting told.now (serving written_item (Some request.now) iq.now told.now (server_state_of context.old))) (step_of context.old)) }
+    ensures err { OnErr result (step_of context.new ≡ step_of context.old) }
 {
     let envelope = envelope_to(iq, full);
     match request {
-        Request::Ping => answer_done(desk, &envelope, told),
-        Request::Info { at_domain } => answer_info(desk, *at_domain, &envelope, told),
-        Request::Items { node } => answer_items(desk, node.as_str(), &envelope, told),
-        Request::Roster => answer_roster(desk, &envelope, told),
-        Request::Session => answer_done(desk, &envelope, told),
-        Request::Carbons { on } => answer_switch(desk, *on, &envelope, told),
-        Request::Archive(query) => on_query(desk, query, iq, full, told),
-        Request::Refused(error) => refuse(desk, error, &envelope, told),
+        Request::Ping => answer_done(context, &envelope, told),
+        Request::Info { at_domain } => answer_info(context, *at_domain, &envelope, told),
+        Request::Items { node } => answer_items(context, node.as_str(), &envelope, told),
+        Request::Roster => answer_roster(context, &envelope, told),
+        Request::Session => answer_done(context, &envelope, told),
+        Request::Carbons { on } => answer_switch(context, *on, &envelope, told),
+        Request::Archive(query) => on_query(context, query, iq, full, told),
+        Request::Refused(error) => refuse(context, error, &envelope, told),
     }
 }
 
 // What is asked for, by a session.
-fn serve_session(desk: &mut Desk, request: &Request, iq: &Iq, told: &Told) -> Result<(), NoMemory>
-    requires { Some told.now ≡ told_of told.now.number (hall_of desk.old).sessions }
-    ensures ok { OnOk result (step_of desk.new ≡ acted written_item (counting told.now (serving written_item (Some request.now) iq.now told.now (hall_of desk.old))) (step_of desk.old)) }
-    ensures err { OnErr result (step_of desk.new ≡ step_of desk.old) }
+fn serve_session(
+    context: &mut ServerContext,
+    request: &Request,
+    iq: &Iq,
+    told: &SessionInfo,
+) -> Result<(), NoMemory>
+    requires { Some told.now ≡ info_of told.now.number (server_state_of context.old).sessions }
+    ensures ok { OnOk result (step_of context.new ≡ acted written_item (counting told.now (serving written_item (Some request.now) iq.now told.now (server_state_of context.old))) (step_of context.old)) }
+    ensures err { OnErr result (step_of context.new ≡ step_of context.old) }
 {
-    let full = desk.session_address(told.number)?;
-    serve(desk, request, iq, full.as_str(), told)
+    let full = context.session_address(told.number)?;
+    serve(context, request, iq, full.as_str(), told)
 }
 
 /// An `iq` of a session that is on a connection (RFC 6120, section 8.2.3). A result and an error ask for nothing, and get
@@ -186,15 +204,15 @@ fn serve_session(desk: &mut Desk, request: &Request, iq: &Iq, told: &Told) -> Re
 ///
 /// The `iq` counts as handled before all that, where the session's stanzas are counted (XEP-0198, section 4). A refusal, where
 /// memory ran out, leaves all as it was: nothing is sent, nothing counts, and copies stay switched as they were.
-pub fn on_iq(desk: &mut Desk, iq: &Iq, told: &Told) -> Result<(), NoMemory>
-    requires { Some told.now ≡ told_of told.now.number (hall_of desk.old).sessions }
-    ensures ok { OnOk result (step_of desk.new ≡ acted written_item (counting told.now (at_iq written_item iq.now told.now (hall_of desk.old))) (step_of desk.old)) }
-    ensures err { OnErr result (step_of desk.new ≡ step_of desk.old) }
+pub fn on_iq(context: &mut ServerContext, iq: &Iq, told: &SessionInfo) -> Result<(), NoMemory>
+    requires { Some told.now ≡ info_of told.now.number (server_state_of context.old).sessions }
+    ensures ok { OnOk result (step_of context.new ≡ acted written_item (counting told.now (at_iq written_item iq.now told.now (server_state_of context.old))) (step_of context.old)) }
+    ensures err { OnErr result (step_of context.new ≡ step_of context.old) }
 {
-    match request_of(desk, iq, told)? {
-        Some(request) => serve_session(desk, &request, iq, told),
+    match request_of(context, iq, told)? {
+        Some(request) => serve_session(context, &request, iq, told),
         None => {
-            desk.count(told);
+            context.count(told);
             Ok(())
         }
     }

@@ -5,7 +5,7 @@ use Rattle.std.proofs.lemmas.Option.{slice_get-get_or}
 use Rattle.std.specs.List.{slice_get}
 use Rattle.std.specs.Option.{option_map, option_or}
 use Rattle.std.specs.Str.{bytes_eq}
-use Rattle.base_io.specs.Names.{is_among, place_of}
+use Rattle.base_io.specs.Names.{is_among, position_of}
 use Rattle.srv_login.specs.Accounts.{FoundView, IsIndexed, account_from, account_named, accounts_fault, fault_of, first_fault, is_normal_local, names_of}
 use Rattle.srv_login.specs.declared.account.Account.{Account}
 use Rattle.srv_login.specs.declared.accounts_fault.AccountsFault.{AccountsFault}
@@ -29,16 +29,16 @@ first_fault-append before (a ∷ xs) ys =
     ∙ ap (λ (b : List Account). option_or (first_fault before (a ∷ xs)) (first_fault b ys)) (append_assoc before (a ∷ []) xs)
 
 -- behind accounts with nothing wrong, what is wrong with the next is what is wrong with all
-pub fault_behind : (xs : List Account) (a : Account) (more : List Account) → accounts_fault xs ≡ None
+pub fault_after : (xs : List Account) (a : Account) (more : List Account) → accounts_fault xs ≡ None
     → accounts_fault (xs ++ a ∷ more) ≡ option_or (fault_of xs a) (first_fault (xs ++ a ∷ []) more)
-fault_behind xs a more right = first_fault-append [] xs (a ∷ more) ∙ ap (λ (f : Option AccountsFault). option_or f (first_fault xs (a ∷ more))) right
+fault_after xs a more right = first_fault-append [] xs (a ∷ more) ∙ ap (λ (f : Option AccountsFault). option_or f (first_fault xs (a ∷ more))) right
 
 pub right_push : (xs : List Account) (a : Account) → accounts_fault xs ≡ None → fault_of xs a ≡ None → accounts_fault (xs ++ a ∷ []) ≡ None
-right_push xs a right fits = fault_behind xs a [] right ∙ ap (λ (f : Option AccountsFault). option_or f None) fits
+right_push xs a right fits = fault_after xs a [] right ∙ ap (λ (f : Option AccountsFault). option_or f None) fits
 
-pub wrong_behind : (xs : List Account) (a : Account) (more : List Account) (fault : AccountsFault) → accounts_fault xs ≡ None → fault_of xs a ≡ Some fault
+pub wrong_after : (xs : List Account) (a : Account) (more : List Account) (fault : AccountsFault) → accounts_fault xs ≡ None → fault_of xs a ≡ Some fault
     → accounts_fault (xs ++ a ∷ more) ≡ Some fault
-wrong_behind xs a more fault right wrong = fault_behind xs a more right ∙ ap (λ (f : Option AccountsFault). option_or f (first_fault (xs ++ a ∷ []) more)) wrong
+wrong_after xs a more fault right wrong = fault_after xs a more right ∙ ap (λ (f : Option AccountsFault). option_or f (first_fault (xs ++ a ∷ []) more)) wrong
 
 -- ---- one account
 
@@ -68,7 +68,7 @@ counted_at before (x ∷ xs) (suc i) a right at =
 -- ---- an account by its name
 
 abbrev found_at : ℕ → Account → FoundView
-found_at place a = record { place = place; credentials = a.credentials }
+found_at position a = record { position = position; credentials = a.credentials }
 
 none_step : {A : Type 0} (hit : Bool) (p : Option ℕ) (x : A) (rest : Option A) → cond hit (Some 0) (option_map (λ i. suc i) p) ≡ None → (p ≡ None → rest ≡ None)
     → cond hit (Some x) rest ≡ None
@@ -76,32 +76,32 @@ none_step true p x rest e step = absurd (cc e)
 none_step false None x rest e step = step refl
 none_step false (Some i) x rest e step = absurd (cc e)
 
-none_from : (start : ℕ) (name : List ℕ) (xs : List Account) → place_of name (names_of xs) ≡ None → account_from start name xs ≡ None
+none_from : (start : ℕ) (name : List ℕ) (xs : List Account) → position_of name (names_of xs) ≡ None → account_from start name xs ≡ None
 none_from start name [] e = refl
 none_from start name (a ∷ more) e =
-    none_step (bytes_eq name a.name) (place_of name (names_of more)) (found_at start a) (account_from (start + 1) name more) e (none_from (start + 1) name more)
+    none_step (bytes_eq name a.name) (position_of name (names_of more)) (found_at start a) (account_from (start + 1) name more) e (none_from (start + 1) name more)
 
-some_step : (start : ℕ) (a : Account) (more : List Account) (place : ℕ) (hit : Bool) (p : Option ℕ) (rest : Option FoundView) (x : Account)
-    → cond hit (Some 0) (option_map (λ i. suc i) p) ≡ Some place → slice_get (a ∷ more) place ≡ Some x
+some_step : (start : ℕ) (a : Account) (more : List Account) (position : ℕ) (hit : Bool) (p : Option ℕ) (rest : Option FoundView) (x : Account)
+    → cond hit (Some 0) (option_map (λ i. suc i) p) ≡ Some position → slice_get (a ∷ more) position ≡ Some x
     → ((i : ℕ) → p ≡ Some i → slice_get more i ≡ Some x → rest ≡ Some (found_at (start + 1 + i) x))
-    → cond hit (Some (found_at start a)) rest ≡ Some (found_at (start + place) x)
+    → cond hit (Some (found_at start a)) rest ≡ Some (found_at (start + position) x)
 some_step start a more zero true p rest x e at step =
     let same : a ≡ x = cc at in
     let sum : start + 0 ≡ start = omega arith in
     rw (sum, same) refl
-some_step start a more (suc place) true p rest x e at step = absurd (cc e)
-some_step start a more place false None rest x e at step = absurd (cc e)
+some_step start a more (suc position) true p rest x e at step = absurd (cc e)
+some_step start a more position false None rest x e at step = absurd (cc e)
 some_step start a more zero false (Some i) rest x e at step = absurd (cc e)
-some_step start a more (suc place) false (Some i) rest x e at step =
-    let same : i ≡ place = cc e in
-    let sum : start + 1 + place ≡ start + suc place = omega arith in
-    step place (ap Some same) at ∙ ap (λ (n : ℕ). Some (found_at n x)) sum
+some_step start a more (suc position) false (Some i) rest x e at step =
+    let same : i ≡ position = cc e in
+    let sum : start + 1 + position ≡ start + suc position = omega arith in
+    step position (ap Some same) at ∙ ap (λ (n : ℕ). Some (found_at n x)) sum
 
-some_from : (start : ℕ) (name : List ℕ) (xs : List Account) (place : ℕ) (x : Account) → place_of name (names_of xs) ≡ Some place → slice_get xs place ≡ Some x
-    → account_from start name xs ≡ Some (found_at (start + place) x)
-some_from start name [] place x e at = absurd (cc e)
-some_from start name (a ∷ more) place x e at =
-    some_step start a more place (bytes_eq name a.name) (place_of name (names_of more)) (account_from (start + 1) name more) x e at
+some_from : (start : ℕ) (name : List ℕ) (xs : List Account) (position : ℕ) (x : Account) → position_of name (names_of xs) ≡ Some position → slice_get xs position ≡ Some x
+    → account_from start name xs ≡ Some (found_at (start + position) x)
+some_from start name [] position x e at = absurd (cc e)
+some_from start name (a ∷ more) position x e at =
+    some_step start a more position (bytes_eq name a.name) (position_of name (names_of more)) (account_from (start + 1) name more) x e at
     (λ i is there. some_from (start + 1) name more i x is there)
 
 -- the account at an index
@@ -109,15 +109,15 @@ pub there_at : (xs ys : List Account) (i : ℕ) (x : Account) → ys ≡ xs → 
 there_at xs ys i x same within is = slice_get-get_or xs i x within ∙ ap (λ (a : Account). Some a) (sym (is ∙ ap (λ (l : List Account). get_or l i x) same))
 
 -- no account is found where the name has no place
-pub named_nowhere : (name : List ℕ) (xs : List Account) → place_of name (names_of xs) ≡ None → account_named name xs ≡ None
+pub named_nowhere : (name : List ℕ) (xs : List Account) → position_of name (names_of xs) ≡ None → account_named name xs ≡ None
 named_nowhere name xs e = none_from 0 name xs e
 
 -- the account at the place of a name is the one that is found
-pub named_there : (name : List ℕ) (xs : List Account) (place : ℕ) (x : Account) → place_of name (names_of xs) ≡ Some place → slice_get xs place ≡ Some x
-    → account_named name xs ≡ Some (record { place = place; credentials = x.credentials })
-named_there name xs place x e at =
-    let sum : 0 + place ≡ place = omega arith in
-    some_from 0 name xs place x e at ∙ ap (λ (n : ℕ). Some (found_at n x)) sum
+pub named_there : (name : List ℕ) (xs : List Account) (position : ℕ) (x : Account) → position_of name (names_of xs) ≡ Some position → slice_get xs position ≡ Some x
+    → account_named name xs ≡ Some (record { position = position; credentials = x.credentials })
+named_there name xs position x e at =
+    let sum : 0 + position ≡ position = omega arith in
+    some_from 0 name xs position x e at ∙ ap (λ (n : ℕ). Some (found_at n x)) sum
 
 -- ---- how accounts are kept
 
@@ -144,7 +144,7 @@ went_on xs a rest all e = append_assoc xs (a ∷ []) rest ∙ e
 -- what is wrong so far is what is wrong with the list
 pub wrong_so : (xs : List Account) (a : Account) (rest all : List Account) (fault : AccountsFault) → accounts_fault xs ≡ None → fault_of xs a ≡ Some fault → xs ++ a ∷ rest ≡ all
     → accounts_fault all ≡ Some fault
-wrong_so xs a rest all fault right wrong e = rw (← e) (wrong_behind xs a rest fault right wrong)
+wrong_so xs a rest all fault right wrong e = rw (← e) (wrong_after xs a rest fault right wrong)
 
 pub room_left : (xs : List Account) (a : Account) (rest all : List Account) → xs ++ a ∷ rest ≡ all → length all < 2 ^ 32 → length xs + 1 < 2 ^ 32
 room_left xs a rest all e small =

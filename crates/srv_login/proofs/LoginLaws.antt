@@ -46,7 +46,7 @@ answer_by tail accounts mechanism read other m p scram is = rw (scram, is) refl
 
 found_by : (tail : List ℕ) (accounts : List Account) (first : ClientFirst) (name : List ℕ) (read : Result ClientFirst ScramFault) (found : FoundView)
     → read ≡ Ok first → first.name ≡ name → account_named name accounts ≡ Some found
-    → begun_with tail accounts read ≡ Begins (record { account = found.place; exchange = begun_server first found.credentials tail })
+    → begun_with tail accounts read ≡ Begins (record { account = found.position; exchange = begun_server first found.credentials tail })
 found_by tail accounts first name read found is_read is_named there =
     ap (begun_with tail accounts) is_read
     ∙ ap (λ (n : List ℕ). begun_by first tail (account_named n accounts)) is_named
@@ -59,23 +59,23 @@ succeeded : (n : Negotiation) (e : Elem) (payload message : List ℕ) → carrie
 succeeded n e payload message carried accepts = ap (ended_of n) carried ∙ ap (ended_with n.account) accepts
 
 pub passwords_log_in : PasswordsLogIn
-passwords_log_in given entropy accounts place allowed tail there =
+passwords_log_in given entropy accounts position allowed tail there =
     let through = goes_through read_back given allowed in
     let exchange = server_given given through.first in
     record {
       client = through.client;
       begins = through.begins;
-      negotiation = record { account = place; exchange = exchange };
+      negotiation = record { account = position; exchange = exchange };
       challenged = λ e read.
           answer_by (added_nonce entropy) accounts (auth_mechanism e) (auth_read e) _ (codes "SCRAM-SHA-256") through.client.message
           (mechanism_is e (codes "SCRAM-SHA-256") through.client.message read) read
           ∙ ap (λ (t : List ℕ). begun_with t accounts (client_first_of through.client.message)) (sym tail)
           ∙ found_by given.tail accounts through.first given.name (client_first_of through.client.message)
-          (record { place = place; credentials = credentials_of given.password given.salt given.iterations }) through.is_read through.name there;
+          (record { position = position; credentials = credentials_of given.password given.salt given.iterations }) through.is_read through.name there;
       reply = through.reply;
       replies = through.replies;
       succeeds = λ e carried.
-          succeeded (record { account = place; exchange = exchange }) e through.reply.message (server_final_message through.reply.verifier) carried through.accepts;
+          succeeded (record { account = position; exchange = exchange }) e through.reply.message (server_final_message through.reply.verifier) carried through.accepts;
       checks = through.checks;
     }
 

@@ -29,20 +29,20 @@ names_of accounts = map (λ (account : Account). account.name) accounts
 
 -- its place, and what the server keeps of its password
 pub record FoundView : Type 0 where
-  pub place : ℕ
+  pub position : ℕ
   pub credentials : CredentialsView
 
 -- the first account of that name among those that begin at a place
 abbrev pub account_from : ℕ → List ℕ → List Account → Option FoundView
-account_from place name [] = None
-account_from place name (a ∷ more) =
-    if bytes_eq name a.name then Some (record { place = place; credentials = a.credentials }) else account_from (place + 1) name more
+account_from position name [] = None
+account_from position name (a ∷ more) =
+    if bytes_eq name a.name then Some (record { position = position; credentials = a.credentials }) else account_from (position + 1) name more
 
 abbrev pub account_named : List ℕ → List Account → Option FoundView
 account_named name accounts = account_from 0 name accounts
 
 abbrev pub found_view : Found → FoundView
-found_view found = record { place = found.place; credentials = found.credentials.now }
+found_view found = record { position = found.position; credentials = found.credentials.now }
 
 -- ---- what is wrong with a list of accounts
 

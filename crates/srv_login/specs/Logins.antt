@@ -16,7 +16,7 @@ use Rattle.xml_trees.specs.Trees.{Elem}
 -- The exchange goes through: the client begins, an `auth` with its first message is answered by a challenge, the client
 -- replies to that, a `response` with the reply succeeds for the account at the place, and the client accepts the server's
 -- final message.
-pub record LogsIn (given : Given) (entropy : List ℕ) (accounts : List Account) (place : ℕ) : Type 0 where
+pub record LogsIn (given : Given) (entropy : List ℕ) (accounts : List Account) (position : ℕ) : Type 0 where
   pub client : ClientView
   pub begins : begun_client given.name given.password given.nonce ≡ Ok client
   pub negotiation : Negotiation
@@ -24,15 +24,15 @@ pub record LogsIn (given : Given) (entropy : List ℕ) (accounts : List Account)
   pub reply : ReplyView
   pub replies : reply_of client negotiation.exchange.message ≡ Ok reply
   pub succeeds : (e : Elem) → carrier_read (codes "response") e ≡ Ok reply.message
-      → final_answer e negotiation ≡ Ok (record { account = place; message = server_final_message reply.verifier })
+      → final_answer e negotiation ≡ Ok (record { account = position; message = server_final_message reply.verifier })
   pub checks : check_of (expecting client (Ok reply)) (server_final_message reply.verifier) ≡ Ok tt
 
 -- with credentials of the client's password, whatever the other accounts are
 abbrev pub PasswordsLogIn : Type 0
-PasswordsLogIn = (given : Given) (entropy : List ℕ) (accounts : List Account) (place : ℕ)
+PasswordsLogIn = (given : Given) (entropy : List ℕ) (accounts : List Account) (position : ℕ)
     → IsAllowed given → given.tail ≡ added_nonce entropy
-    → account_named given.name accounts ≡ Some (record { place = place; credentials = credentials_of given.password given.salt given.iterations })
-    → LogsIn given entropy accounts place
+    → account_named given.name accounts ≡ Some (record { position = position; credentials = credentials_of given.password given.salt given.iterations })
+    → LogsIn given entropy accounts position
 
 -- The element carries a final message within the grammar, with the whole nonce and the right proof, and what is answered
 -- is the account of the negotiation with the verifier.

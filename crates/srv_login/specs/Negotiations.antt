@@ -38,7 +38,7 @@ is_scram (Some mechanism) = bytes_eq mechanism (codes "SCRAM-SHA-256")
 -- the exchange with the account that was found, or none
 abbrev pub begun_by : ClientFirst → List ℕ → Option FoundView → AuthAnswer
 begun_by first tail None = auth.Fails condition.NotAuthorized
-begun_by first tail (Some found) = auth.Begins (record { account = found.place; exchange = begun_server first found.credentials tail })
+begun_by first tail (Some found) = auth.Begins (record { account = found.position; exchange = begun_server first found.credentials tail })
 
 -- why a first message begins no exchange
 abbrev pub first_condition : ScramFault → SaslCondition

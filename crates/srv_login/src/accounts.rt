@@ -1,7 +1,7 @@
 //! The accounts of a server, found by their names.
 ghost use Rattle.std.specs.Prelude.{◌≡◌, ◌≢◌, ◌+◌, ◌^◌, ◌<◌, ◌≤◌, ◌==◌, [], ◌∷◌, ◌++◌, None, Some, length, slice_get, IfErr, IfOk, IfSome, OnErr, OnOk};
 ghost use Rattle.std.specs.Option.{option_copied, option_map};
-ghost use Rattle.base_io.specs.Names.{place_of};
+ghost use Rattle.base_io.specs.Names.{position_of};
 ghost use Rattle.srv_login.specs.Accounts.{account_named, accounts_fault, fault_of, found_view, is_normal_local, names_of};
 
 use crate::account::{Account, AccountList};
@@ -35,7 +35,7 @@ impl Model for Accounts {
 /// An account that was found: its place from 0, and its credentials.
 #[derive(Clone, Copy)]
 pub struct Found<'a> {
-    pub place: u32,
+    pub position: u32,
     pub credentials: &'a Credentials,
 }
 
@@ -82,15 +82,15 @@ impl Accounts {
         ensures ok { OnOk result (fault_of self.now account.now ≡ None) }
         ensures refused { IfErr result (λ e. e ≢ AccountsFault.NoMemory → fault_of self.now account.now ≡ Some e) }
     {
-        let place = self.len();
+        let position = self.len();
         if !is_normal_local(alloc, account.name.as_str())? {
-            return Err(AccountsFault::BadName(place));
+            return Err(AccountsFault::BadName(position));
         }
         if self.index.contains(account.name.as_str()) {
-            return Err(AccountsFault::Twice(place));
+            return Err(AccountsFault::Twice(position));
         }
         if account.credentials.iterations == 0 {
-            return Err(AccountsFault::NoIterations(place));
+            return Err(AccountsFault::NoIterations(position));
         }
         Ok(())
     }
@@ -133,33 +133,33 @@ impl Accounts {
     }
 
     /// The account at a place. `None` exactly where there is none.
-    pub fn get(&self, place: u32) -> Option<&Account>
-        ensures { option_copied result ≡ slice_get self.now place }
+    pub fn get(&self, position: u32) -> Option<&Account>
+        ensures { option_copied result ≡ slice_get self.now position }
     {
-        self.as_slice().get(place as usize)
+        self.as_slice().get(position as usize)
     }
 
     /// The place of the account with a name, from 0. It is found in a time that grows with the logarithm of their number.
-    pub fn place(&self, name: &str) -> Option<u32>
-        ensures place { result ≡ place_of name.now (names_of self.now) }
-        ensures there { IfSome result (λ place. place < length self.now) }
+    pub fn position(&self, name: &str) -> Option<u32>
+        ensures position { result ≡ position_of name.now (names_of self.now) }
+        ensures there { IfSome result (λ position. position < length self.now) }
     {
-        let place = self.index.find(name)?;
-        Some(place as u32)
+        let position = self.index.find(name)?;
+        Some(position as u32)
     }
 
-    /// The place and the credentials of the account with a name, in the time of `place`. `None` exactly where no account
-    /// has it.
+    /// The place and the credentials of the account with a name, in the time of `position`. `None` exactly where no
+    /// account has it.
     pub fn find(&self, name: &str) -> Option<Found<'_>>
         ensures found { option_map found_view result ≡ account_named name.now self.now }
         ensures counted { IfSome result (λ found. 1 ≤ found.credentials.now.iterations) }
     {
-        match self.place(name) {
+        match self.position(name) {
             None => None,
-            Some(place) => {
-                let account = &self.as_slice()[place as usize];
+            Some(position) => {
+                let account = &self.as_slice()[position as usize];
                 Some(Found {
-                    place,
+                    position,
                     credentials: &account.credentials,
                 })
             }

@@ -20,13 +20,13 @@ pub enum AccountsFault {
 impl fmt::Display for AccountsFault {
     fn fmt<W: fmt::Write>(&self, f: &mut fmt::Formatter<W>) -> fmt::Result {
         match self {
-            AccountsFault::BadName(place) => {
+            AccountsFault::BadName(position) => {
                 write!(f, "the name of account {place} is not in normal form")
             }
-            AccountsFault::Twice(place) => {
+            AccountsFault::Twice(position) => {
                 write!(f, "an earlier account has the name of account {place}")
             }
-            AccountsFault::NoIterations(place) => {
+            AccountsFault::NoIterations(position) => {
                 write!(f, "account {place} counts no iteration")
             }
             AccountsFault::NoMemory => f.write_str("out of memory"),

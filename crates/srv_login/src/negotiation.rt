@@ -70,7 +70,7 @@ fn begin(
         Ok(tail) => {
             let exchange = ScramServer::first(alloc, first, found.credentials, tail)?;
             Ok(AuthAnswer::Begins(Negotiation {
-                account: found.place,
+                account: found.position,
                 exchange,
             }))
         }

@@ -23,18 +23,18 @@ AreFound sessions [] = Unit {0}
 AreFound sessions (t ∷ ts) = (session_of t.shown.number sessions ≡ Some t) × AreFound sessions ts
 
 -- those that come later are found behind one more
-found_behind : {A : Type 0} (next low : ℕ) (s : Session A) (sessions ts : List (Session A)) → RisesTo next low ts → s.shown.number < low → AreFound sessions ts → AreFound (s ∷ sessions) ts
-found_behind next low s sessions [] rise below found = tt
-found_behind next low s sessions (t ∷ ts) rise below found = (
+found_after : {A : Type 0} (next low : ℕ) (s : Session A) (sessions ts : List (Session A)) → RisesTo next low ts → s.shown.number < low → AreFound sessions ts → AreFound (s ∷ sessions) ts
+found_after next low s sessions [] rise below found = tt
+found_after next low s sessions (t ∷ ts) rise below found = (
   rw (ne_eqb s.shown.number t.shown.number (λ e. omega (arith, e, rise.0))) found.0,
-  found_behind next (t.shown.number + 1) s sessions ts rise.1 (omega (arith, rise.0)) found.1,
+  found_after next (t.shown.number + 1) s sessions ts rise.1 (omega (arith, rise.0)) found.1,
 )
 
 pub all_found : {A : Type 0} (next low : ℕ) (sessions : List (Session A)) → RisesTo next low sessions → AreFound sessions sessions
 all_found next low [] rise = tt
 all_found next low (s ∷ sessions) rise = (
   rw (eq-eqb s.shown.number s.shown.number refl) refl,
-  found_behind next (s.shown.number + 1) s sessions sessions rise.1 (omega arith) (all_found next (s.shown.number + 1) sessions rise.1),
+  found_after next (s.shown.number + 1) s sessions sessions rise.1 (omega arith) (all_found next (s.shown.number + 1) sessions rise.1),
 )
 
 pub filter_found : {A : Type 0} (p : Session A → Bool) (sessions ts : List (Session A)) → AreFound sessions ts → AreFound sessions (filter p ts)

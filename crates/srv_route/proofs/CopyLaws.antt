@@ -5,7 +5,7 @@ use Rattle.std.proofs.lemmas.List.Elements.{All-append, All-filter, All-nil, fil
 use Rattle.std.specs.List.{list_any}
 use Rattle.im_extensions.specs.Given.{is_private}
 use Rattle.sm_live.specs.Sessions.{Session, is_of, number_of, sessions_of}
-use Rattle.sm_live.specs.declared.told.Told.{Told}
+use Rattle.sm_live.specs.declared.told.SessionInfo.{SessionInfo}
 use Rattle.sm_resumption.specs.declared.session.SessionView.{SessionView}
 use Rattle.srv_route.proofs.PlanCases.{planned_has_all}
 use Rattle.srv_route.specs.Destinations.{Destination}
@@ -18,7 +18,7 @@ use Rattle.im_stanza.specs.declared.conditions.Condition.{Condition}
 use Rattle.im_stanza.specs.declared.kinds.MessageKind.{MessageKind}
 
 -- a session that wants a copy asked for it, and isn't the one that sent the message
-wanted : (sender : Told) (deliver : List ℕ) (v : SessionView) → wants_copy (having_it sender deliver) v ≡ true → (v.carbons ≡ true) × (v.number ≢ sender.number)
+wanted : (sender : SessionInfo) (deliver : List ℕ) (v : SessionView) → wants_copy (having_it sender deliver) v ≡ true → (v.carbons ≡ true) × (v.number ≢ sender.number)
 wanted sender deliver v wants =
     let parts = and_parts v.carbons (not (list_any (λ n. n == v.number) (having_it sender deliver))) wants in
     let others = or_parts (sender.number == v.number) (list_any (λ n. n == v.number) deliver) (not-true (list_any (λ n. n == v.number) (having_it sender deliver)) parts.1) in
@@ -31,7 +31,7 @@ copied_all P account having sessions holds =
     let wants = filter_passes (λ t. wants_copy having t.shown) (sessions_of account sessions) in
     λ k t within. holds (get_or (copied_of account having sessions) k t) (wants k t within) (mine k t within)
 
-sent_all : {A : Type 0} (P : Session A → Type 0) (m : MessageView) (sender : Told) (deliver : List ℕ) (sessions : List (Session A)) →
+sent_all : {A : Type 0} (P : Session A → Type 0) (m : MessageView) (sender : SessionInfo) (deliver : List ℕ) (sessions : List (Session A)) →
     ((t : Session A) → wants_copy (having_it sender deliver) t.shown ≡ true → is_of sender.account t ≡ true → P t) → All P (sent_copies m sender deliver sessions)
 sent_all P m sender deliver sessions holds =
     elim (cases_Bool (is_copied m)) [
@@ -39,7 +39,7 @@ sent_all P m sender deliver sessions holds =
       | inr not_copied ↦ rw not_copied (All-nil P)
     ]
 
-received_all : {A : Type 0} (P : Session A → Type 0) (m : MessageView) (sender : Told) (account : ℕ) (deliver : List ℕ) (sessions : List (Session A)) →
+received_all : {A : Type 0} (P : Session A → Type 0) (m : MessageView) (sender : SessionInfo) (account : ℕ) (deliver : List ℕ) (sessions : List (Session A)) →
     ((t : Session A) → wants_copy (having_it sender deliver) t.shown ≡ true → is_of account t ≡ true → (sender.account == account) ≡ false → P t) → All P (received_copies m sender account deliver sessions)
 received_all P m sender account deliver sessions holds =
     elim (cases_Bool (is_copied m && not (sender.account == account))) [
@@ -67,7 +67,7 @@ refused_received condition kind =
 
 -- ---- the laws
 
-pub senders_left_out : {A : Type 0} (d : Destination) (m : MessageView) (sender : Told) (sessions : List (Session A)) → All (λ t. number_of t ≢ sender.number) (sent_in (planned d m sender sessions) ++ received_in (planned d m sender sessions))
+pub senders_left_out : {A : Type 0} (d : Destination) (m : MessageView) (sender : SessionInfo) (sessions : List (Session A)) → All (λ t. number_of t ≢ sender.number) (sent_in (planned d m sender sessions) ++ received_in (planned d m sender sessions))
 senders_left_out {A = A} d m sender sessions =
     let Other : Session A → Type 0 = λ t. number_of t ≢ sender.number in
     planned_has_all m sender sessions (λ p. All Other (sent_in p ++ received_in p))
@@ -78,7 +78,7 @@ senders_left_out {A = A} d m sender sessions =
     (sent_all Other m sender numbers sessions (λ t wants mine. (wanted sender numbers t.shown wants).1))
     (received_all Other m sender account numbers sessions (λ t wants mine differ. (wanted sender numbers t.shown wants).1))) d
 
-pub sent_as_asked : {A : Type 0} (d : Destination) (m : MessageView) (sender : Told) (sessions : List (Session A)) →
+pub sent_as_asked : {A : Type 0} (d : Destination) (m : MessageView) (sender : SessionInfo) (sessions : List (Session A)) →
     All (λ t. (t.shown.carbons ≡ true) × (t.shown.account ≡ sender.account)) (sent_in (planned d m sender sessions))
 sent_as_asked {A = A} d m sender sessions =
     let Asked : Session A → Type 0 = λ t. (t.shown.carbons ≡ true) × (t.shown.account ≡ sender.account) in
@@ -87,7 +87,7 @@ sent_as_asked {A = A} d m sender sessions =
     let numbers = map number_of deliver in
     sent_all Asked m sender numbers sessions (λ t wants mine. ((wanted sender numbers t.shown wants).0, eqb-true t.shown.account sender.account mine))) d
 
-pub received_as_asked : {A : Type 0} (d : Destination) (m : MessageView) (sender : Told) (sessions : List (Session A)) →
+pub received_as_asked : {A : Type 0} (d : Destination) (m : MessageView) (sender : SessionInfo) (sessions : List (Session A)) →
     All (λ t. (t.shown.carbons ≡ true) × (t.shown.account ≢ sender.account)) (received_in (planned d m sender sessions))
 received_as_asked {A = A} d m sender sessions =
     let Asked : Session A → Type 0 = λ t. (t.shown.carbons ≡ true) × (t.shown.account ≢ sender.account) in
@@ -97,7 +97,7 @@ received_as_asked {A = A} d m sender sessions =
     received_all Asked m sender account numbers sessions
     (λ t wants mine differ. ((wanted sender numbers t.shown wants).0, λ e. eqb-false sender.account account differ (sym e ∙ eqb-true t.shown.account account mine)))) d
 
-pub not_copied : {A : Type 0} (d : Destination) (m : MessageView) (sender : Told) (sessions : List (Session A)) → is_copied m ≡ false → (sent_in (planned d m sender sessions) ≡ []) × (received_in (planned d m sender sessions) ≡ [])
+pub not_copied : {A : Type 0} (d : Destination) (m : MessageView) (sender : SessionInfo) (sessions : List (Session A)) → is_copied m ≡ false → (sent_in (planned d m sender sessions) ≡ []) × (received_in (planned d m sender sessions) ≡ [])
 not_copied {A = A} d m sender sessions is =
     planned_has_all m sender sessions (λ p. (sent_in p ≡ []) × (received_in p ≡ [])) (λ condition. (refused_sent {A = A} condition m.kind, refused_received {A = A} condition m.kind))
     (λ account deliver. (rw is refl, rw is refl)) d

@@ -7,7 +7,7 @@ use Rattle.std.proofs.lemmas.Option.{none-some, same_Some}
 use Rattle.std.specs.List.{list_any}
 use Rattle.sm_live.specs.Rule.{RisesTo}
 use Rattle.sm_live.specs.Sessions.{Session, is_named, is_numbered, is_of, number_of, session_named, session_of, sessions_of}
-use Rattle.sm_live.specs.declared.told.Told.{Told}
+use Rattle.sm_live.specs.declared.told.SessionInfo.{SessionInfo}
 use Rattle.srv_route.proofs.Chosen.{AreFound, all_found}
 use Rattle.srv_route.proofs.CopyLaws.{refused_received, refused_sent}
 use Rattle.srv_route.proofs.PlanCases.{planned_has}
@@ -127,7 +127,7 @@ among n (t ∷ ts) =
           ]
     ]
 
-also_having : (n : ℕ) (sender : Told) (deliver : List ℕ) → list_any (λ x. x == n) deliver ≡ true → list_any (λ x. x == n) (having_it sender deliver) ≡ true
+also_having : (n : ℕ) (sender : SessionInfo) (deliver : List ℕ) → list_any (λ x. x == n) deliver ≡ true → list_any (λ x. x == n) (having_it sender deliver) ≡ true
 also_having n sender deliver there =
     elim (cases_Bool (sender.number == n)) [
       | inl here ↦ rw here refl
@@ -136,28 +136,28 @@ also_having n sender deliver there =
 
 -- ---- copies
 
-sent_none : {A : Type 0} (n : ℕ) (m : MessageView) (sender : Told) (deliver : List ℕ) (sessions : List (Session A)) → list_any (λ x. x == n) deliver ≡ true → times n (sent_copies m sender deliver sessions) ≡ 0
+sent_none : {A : Type 0} (n : ℕ) (m : MessageView) (sender : SessionInfo) (deliver : List ℕ) (sessions : List (Session A)) → list_any (λ x. x == n) deliver ≡ true → times n (sent_copies m sender deliver sessions) ≡ 0
 sent_none n m sender deliver sessions there =
     elim (cases_Bool (is_copied m)) [
       | inl copied ↦ rw copied (times_having n (having_it sender deliver) (sessions_of sender.account sessions) (also_having n sender deliver there))
       | inr uncopied ↦ rw uncopied refl
     ]
 
-received_none : {A : Type 0} (n : ℕ) (m : MessageView) (sender : Told) (account : ℕ) (deliver : List ℕ) (sessions : List (Session A)) → list_any (λ x. x == n) deliver ≡ true → times n (received_copies m sender account deliver sessions) ≡ 0
+received_none : {A : Type 0} (n : ℕ) (m : MessageView) (sender : SessionInfo) (account : ℕ) (deliver : List ℕ) (sessions : List (Session A)) → list_any (λ x. x == n) deliver ≡ true → times n (received_copies m sender account deliver sessions) ≡ 0
 received_none n m sender account deliver sessions there =
     elim (cases_Bool (is_copied m && not (sender.account == account))) [
       | inl copied ↦ rw copied (times_having n (having_it sender deliver) (sessions_of account sessions) (also_having n sender deliver there))
       | inr uncopied ↦ rw uncopied refl
     ]
 
-sent_few : {A : Type 0} (n : ℕ) (m : MessageView) (sender : Told) (deliver : List ℕ) (sessions : List (Session A)) → times n (sent_copies m sender deliver sessions) ≤ times n (sessions_of sender.account sessions)
+sent_few : {A : Type 0} (n : ℕ) (m : MessageView) (sender : SessionInfo) (deliver : List ℕ) (sessions : List (Session A)) → times n (sent_copies m sender deliver sessions) ≤ times n (sessions_of sender.account sessions)
 sent_few n m sender deliver sessions =
     elim (cases_Bool (is_copied m)) [
       | inl copied ↦ rw copied (times_filter (λ t. wants_copy (having_it sender deliver) t.shown) n (sessions_of sender.account sessions))
       | inr uncopied ↦ rw uncopied (omega arith)
     ]
 
-received_few : {A : Type 0} (n : ℕ) (m : MessageView) (sender : Told) (account : ℕ) (deliver : List ℕ) (sessions : List (Session A)) →
+received_few : {A : Type 0} (n : ℕ) (m : MessageView) (sender : SessionInfo) (account : ℕ) (deliver : List ℕ) (sessions : List (Session A)) →
     (times n (received_copies m sender account deliver sessions) ≡ 0) ⊎ ((sender.account ≢ account) × (times n (received_copies m sender account deliver sessions) ≤ times n (sessions_of account sessions)))
 received_few n m sender account deliver sessions =
     elim (cases_Bool (is_copied m && not (sender.account == account))) [
@@ -169,7 +169,7 @@ received_few n m sender account deliver sessions =
       | inr uncopied ↦ inl (rw uncopied refl)
     ]
 
-copies_few : {A : Type 0} (next n : ℕ) (m : MessageView) (sender : Told) (account : ℕ) (deliver : List ℕ) (sessions : List (Session A)) → RisesTo next 1 sessions →
+copies_few : {A : Type 0} (next n : ℕ) (m : MessageView) (sender : SessionInfo) (account : ℕ) (deliver : List ℕ) (sessions : List (Session A)) → RisesTo next 1 sessions →
     times n (sent_copies m sender deliver sessions) + times n (received_copies m sender account deliver sessions) ≤ 1
 copies_few next n m sender account deliver sessions rise =
     let all = times_rise next 1 n sessions rise in
@@ -190,7 +190,7 @@ one_few n t =
       | inr other ↦ rw other (omega arith)
     ]
 
-all_few : {A : Type 0} (next n account : ℕ) (m : MessageView) (sender : Told) (deliver sessions : List (Session A)) → RisesTo next 1 sessions → times n deliver ≤ 1 →
+all_few : {A : Type 0} (next n account : ℕ) (m : MessageView) (sender : SessionInfo) (deliver sessions : List (Session A)) → RisesTo next 1 sessions → times n deliver ≤ 1 →
     times n deliver + (times n (sent_copies m sender (map number_of deliver) sessions) + times n (received_copies m sender account (map number_of deliver) sessions)) ≤ 1
 all_few next n account m sender deliver sessions rise few =
     let numbers = map number_of deliver in
@@ -206,7 +206,7 @@ refused_delivered condition kind =
       | inr unanswered ↦ rw unanswered refl
     ]
 
-route_few : {A : Type 0} (next n account : ℕ) (m : MessageView) (sender : Told) (deliver sessions : List (Session A)) → RisesTo next 1 sessions → times n deliver ≤ 1 →
+route_few : {A : Type 0} (next n account : ℕ) (m : MessageView) (sender : SessionInfo) (deliver sessions : List (Session A)) → RisesTo next 1 sessions → times n deliver ≤ 1 →
     count_by (is_numbered n) (deliver ++ (sent_copies m sender (map number_of deliver) sessions ++ received_copies m sender account (map number_of deliver) sessions)) ≤ 1
 route_few next n account m sender deliver sessions rise few =
     let numbers = map number_of deliver in
@@ -215,7 +215,7 @@ route_few next n account m sender deliver sessions rise few =
     subst (λ k. k ≤ 1) (times_is n (deliver ++ (sent ++ received)))
     (omega (arith, times_append n deliver (sent ++ received), times_append n sent received, all_few next n account m sender deliver sessions rise few))
 
-pub given_once : {A : Type 0} (next n : ℕ) (d : Destination) (m : MessageView) (sender : Told) (sessions : List (Session A)) → RisesTo next 1 sessions →
+pub given_once : {A : Type 0} (next n : ℕ) (d : Destination) (m : MessageView) (sender : SessionInfo) (sessions : List (Session A)) → RisesTo next 1 sessions →
     count_by (is_numbered n) (delivered_in (planned d m sender sessions) ++ (sent_in (planned d m sender sessions) ++ received_in (planned d m sender sessions))) ≤ 1
 given_once {A = A} next n d m sender sessions rise =
     planned_has m sender sessions (λ p. count_by (is_numbered n) (delivered_in p ++ (sent_in p ++ received_in p)) ≤ 1)
@@ -248,14 +248,14 @@ all_live next sessions rise = found_all sessions sessions (all_found next 1 sess
 some_live : {A : Type 0} (next account : ℕ) (p : Session A → Bool) (sessions : List (Session A)) → RisesTo next 1 sessions → All (Live sessions) (filter p (sessions_of account sessions))
 some_live next account p sessions rise = All-filter p (Live sessions) (sessions_of account sessions) (All-filter (is_of account) (Live sessions) sessions (all_live next sessions rise))
 
-sent_live : {A : Type 0} (next : ℕ) (m : MessageView) (sender : Told) (deliver : List ℕ) (sessions : List (Session A)) → RisesTo next 1 sessions → All (Live sessions) (sent_copies m sender deliver sessions)
+sent_live : {A : Type 0} (next : ℕ) (m : MessageView) (sender : SessionInfo) (deliver : List ℕ) (sessions : List (Session A)) → RisesTo next 1 sessions → All (Live sessions) (sent_copies m sender deliver sessions)
 sent_live next m sender deliver sessions rise =
     elim (cases_Bool (is_copied m)) [
       | inl copied ↦ rw copied (some_live next sender.account (λ t. wants_copy (having_it sender deliver) t.shown) sessions rise)
       | inr uncopied ↦ rw uncopied (All-nil (Live sessions))
     ]
 
-received_live : {A : Type 0} (next : ℕ) (m : MessageView) (sender : Told) (account : ℕ) (deliver : List ℕ) (sessions : List (Session A)) → RisesTo next 1 sessions → All (Live sessions) (received_copies m sender account deliver sessions)
+received_live : {A : Type 0} (next : ℕ) (m : MessageView) (sender : SessionInfo) (account : ℕ) (deliver : List ℕ) (sessions : List (Session A)) → RisesTo next 1 sessions → All (Live sessions) (received_copies m sender account deliver sessions)
 received_live next m sender account deliver sessions rise =
     elim (cases_Bool (is_copied m && not (sender.account == account))) [
       | inl copied ↦ rw copied (some_live next account (λ t. wants_copy (having_it sender deliver) t.shown) sessions rise)
@@ -266,7 +266,7 @@ one_live : {A : Type 0} (next account : ℕ) (resource : List ℕ) (t : Session 
 one_live next account resource t sessions rise is =
     All-cons (Live sessions) t [] (found_by (is_named account resource) t sessions sessions (all_found next 1 sessions rise) is) (All-nil (Live sessions))
 
-route_live : {A : Type 0} (next account : ℕ) (m : MessageView) (sender : Told) (deliver sessions : List (Session A)) → RisesTo next 1 sessions → All (Live sessions) deliver →
+route_live : {A : Type 0} (next account : ℕ) (m : MessageView) (sender : SessionInfo) (deliver sessions : List (Session A)) → RisesTo next 1 sessions → All (Live sessions) deliver →
     All (Live sessions) (deliver ++ (sent_copies m sender (map number_of deliver) sessions ++ received_copies m sender account (map number_of deliver) sessions))
 route_live next account m sender deliver sessions rise live =
     let numbers = map number_of deliver in
@@ -275,7 +275,7 @@ route_live next account m sender deliver sessions rise live =
     All-append (Live sessions) deliver (sent ++ received) live
     (All-append (Live sessions) sent received (sent_live next m sender numbers sessions rise) (received_live next m sender account numbers sessions rise))
 
-pub given_live : {A : Type 0} (next : ℕ) (d : Destination) (m : MessageView) (sender : Told) (sessions : List (Session A)) → RisesTo next 1 sessions →
+pub given_live : {A : Type 0} (next : ℕ) (d : Destination) (m : MessageView) (sender : SessionInfo) (sessions : List (Session A)) → RisesTo next 1 sessions →
     All (λ t. session_of (number_of t) sessions ≡ Some t) (delivered_in (planned d m sender sessions) ++ (sent_in (planned d m sender sessions) ++ received_in (planned d m sender sessions)))
 given_live {A = A} next d m sender sessions rise =
     planned_has m sender sessions (λ p. All (Live sessions) (delivered_in p ++ (sent_in p ++ received_in p)))

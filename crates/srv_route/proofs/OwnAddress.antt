@@ -4,7 +4,7 @@ use Rattle.std.proofs.lemmas.Bool.{cases_Bool}
 use Rattle.std.proofs.lemmas.List.{append-nil, append_assoc}
 use Rattle.std.proofs.lemmas.Option.{none-some, same_Some}
 use Rattle.base_lemmas.proofs.Bytes.{bytes_eq-from_same, bytes_eq-self, same-from_bytes_eq}
-use Rattle.base_io.specs.Names.{place_of}
+use Rattle.base_io.specs.Names.{position_of}
 use Rattle.im_jid.proofs.NormalAgain.{are_joined}
 use Rattle.im_jid.specs.Cuts.{domain_of, local_of, resource_of}
 use Rattle.im_jid.specs.Forms.{domain_form}
@@ -18,14 +18,14 @@ use Rattle.srv_route.specs.Destinations.{Bare, destination_at}
 abbrev Differ : List Account → Type 0
 Differ accounts = (i j : ℕ) (a b : Account) → slice_get accounts i ≡ Some a → slice_get accounts j ≡ Some b → a.name ≡ b.name → i ≡ j
 
-own_place : (accounts : List Account) (i : ℕ) (a : Account) → Differ accounts → slice_get accounts i ≡ Some a → place_of a.name (names_of accounts) ≡ Some i
-own_place [] i a differ there = absurd (none-some a there)
-own_place (x ∷ accounts) zero a differ there = rw (bytes_eq-from_same a.name x.name (ap (λ (y : Account). y.name) (sym (same_Some x a there)))) refl
-own_place (x ∷ accounts) (suc i) a differ there =
+own_position : (accounts : List Account) (i : ℕ) (a : Account) → Differ accounts → slice_get accounts i ≡ Some a → position_of a.name (names_of accounts) ≡ Some i
+own_position [] i a differ there = absurd (none-some a there)
+own_position (x ∷ accounts) zero a differ there = rw (bytes_eq-from_same a.name x.name (ap (λ (y : Account). y.name) (sym (same_Some x a there)))) refl
+own_position (x ∷ accounts) (suc i) a differ there =
     elim (cases_Bool (bytes_eq a.name x.name)) [
       | inl same ↦ absurd (omega (arith, differ (suc i) 0 a x there refl (same-from_bytes_eq a.name x.name same)))
       | inr other ↦
-          let rest = own_place accounts i a (λ j k b c here also e. omega (arith, differ (suc j) (suc k) b c here also e)) there in
+          let rest = own_position accounts i a (λ j k b c here also e. omega (arith, differ (suc j) (suc k) b c here also e)) there in
           rw (other, rest) refl
     ]
 
@@ -37,9 +37,9 @@ pub own_address : (domain : List ℕ) (accounts : List Account) (a : Account) (i
 own_address domain accounts a i normal right there =
     let are = (accounts_right accounts).0 right in
     let joined = are_joined (Some a.name) domain None (record { local_stays = are.names i a there; domain_stays = normal; resource_stays = tt }) in
-    let place = own_place accounts i a are.differ there in
+    let position = own_position accounts i a are.differ there in
     let text = own_text a.name domain in
     let domain_is : domain_of (bare_text a.name domain) ≡ domain = subst (λ t. domain_of t ≡ domain) text joined.domain_is in
     let local_is : local_of (bare_text a.name domain) ≡ Some a.name = subst (λ t. local_of t ≡ Some a.name) text joined.local_is in
     let resource_is : resource_of (bare_text a.name domain) ≡ None = subst (λ t. resource_of t ≡ None) text joined.resource_is in
-    rw (domain_is, local_is, resource_is, bytes_eq-self domain, place) refl
+    rw (domain_is, local_is, resource_is, bytes_eq-self domain, position) refl

@@ -2,7 +2,7 @@
 use Rattle.std.proofs.Common.{◌≡◌, ℕ, List, [], ◌∷◌, Option, Some, None, refl, inl, inr}
 use Rattle.std.proofs.lemmas.Bool.{cases_Bool}
 use Rattle.sm_live.specs.Sessions.{Session, session_named}
-use Rattle.sm_live.specs.declared.told.Told.{Told}
+use Rattle.sm_live.specs.declared.told.SessionInfo.{SessionInfo}
 use Rattle.srv_route.specs.Destinations.{Destination, RemoteDomain, NoUser, Bare, Full}
 use Rattle.srv_route.specs.Messages.{is_chat, is_for_users}
 use Rattle.srv_route.specs.Plans.{planned, ready_of, refused, routed, to_full, to_user}
@@ -11,7 +11,7 @@ use Rattle.im_stanza.specs.Views.{MessageView}
 use Rattle.im_stanza.specs.declared.conditions.Condition.{Condition}
 use Rattle.im_stanza.specs.declared.conditions.Condition.TheVariants.{RemoteServerNotFound, ServiceUnavailable}
 
-module _ {A : Type 0} (m : MessageView) (sender : Told) (sessions : List (Session A)) (P : PlanOf (Session A) → Type 0) where
+module _ {A : Type 0} (m : MessageView) (sender : SessionInfo) (sessions : List (Session A)) (P : PlanOf (Session A) → Type 0) where
   user_has : (account : ℕ) (deliver : List (Session A)) → P (refused ServiceUnavailable m.kind) → P (routed m sender account deliver sessions) → P (to_user m sender account deliver sessions)
   user_has account deliver refuses goes =
       elim (cases_Bool (is_for_users m.kind)) [

@@ -3,7 +3,7 @@ use Rattle.std.proofs.Common.{◌≡◌, ℕ, Bool, true, false, ◌==◌, nat_e
 use Rattle.std.proofs.lemmas.Bool.{cases_Bool, eq-eqb}
 use Rattle.base_lemmas.specs.Distinct.{are_distinct_by}
 use Rattle.sm_live.specs.Sessions.{Session, session_named}
-use Rattle.sm_live.specs.declared.told.Told.{Told}
+use Rattle.sm_live.specs.declared.told.SessionInfo.{SessionInfo}
 use Rattle.srv_route.proofs.PlanCases.{planned_has_all}
 use Rattle.srv_route.specs.Destinations.{Destination, RemoteDomain, NoUser, Bare, Full}
 use Rattle.srv_route.specs.Messages.{is_archived, is_chat, is_for_users, is_kept_kind}
@@ -19,31 +19,31 @@ use Rattle.im_stanza.specs.declared.kinds.MessageKind.TheVariants.{Chat, Normal,
 
 -- ---- to a resource that no session has
 
-absent_chat : {A : Type 0} (m : MessageView) (sender : Told) (account : ℕ) (sessions : List (Session A)) → m.kind ≡ Chat → to_full m sender account None sessions ≡ to_bare m sender account sessions
+absent_chat : {A : Type 0} (m : MessageView) (sender : SessionInfo) (account : ℕ) (sessions : List (Session A)) → m.kind ≡ Chat → to_full m sender account None sessions ≡ to_bare m sender account sessions
 absent_chat m sender account sessions is = rw is refl
 
-absent_normal : {A : Type 0} (m : MessageView) (sender : Told) (account : ℕ) (sessions : List (Session A)) → m.kind ≡ Normal → delivered_in (to_full m sender account None sessions) ≡ []
+absent_normal : {A : Type 0} (m : MessageView) (sender : SessionInfo) (account : ℕ) (sessions : List (Session A)) → m.kind ≡ Normal → delivered_in (to_full m sender account None sessions) ≡ []
 absent_normal m sender account sessions is = rw is refl
 
-absent_headline : {A : Type 0} (m : MessageView) (sender : Told) (account : ℕ) (sessions : List (Session A)) → m.kind ≡ Headline → to_full m sender account None sessions ≡ dropped
+absent_headline : {A : Type 0} (m : MessageView) (sender : SessionInfo) (account : ℕ) (sessions : List (Session A)) → m.kind ≡ Headline → to_full m sender account None sessions ≡ dropped
 absent_headline m sender account sessions is = rw is refl
 
-pub absent : {A B : Type 0} (f : PlanOf (Session A) → B) (y : B) (d : Destination) (m : MessageView) (sender : Told) (account : ℕ) (resource : List ℕ) (sessions : List (Session A)) →
+pub absent : {A B : Type 0} (f : PlanOf (Session A) → B) (y : B) (d : Destination) (m : MessageView) (sender : SessionInfo) (account : ℕ) (resource : List ℕ) (sessions : List (Session A)) →
     d ≡ Full account resource → session_named account resource sessions ≡ None → f (to_full m sender account None sessions) ≡ y → f (planned d m sender sessions) ≡ y
 absent f y d m sender account resource sessions there none is =
     ap (λ x. f (planned x m sender sessions)) there ∙ ap (λ o. f (to_full m sender account o sessions)) none ∙ is
 
-pub chat_falls_back : {A : Type 0} (d : Destination) (m : MessageView) (sender : Told) (account : ℕ) (resource : List ℕ) (sessions : List (Session A)) →
+pub chat_falls_back : {A : Type 0} (d : Destination) (m : MessageView) (sender : SessionInfo) (account : ℕ) (resource : List ℕ) (sessions : List (Session A)) →
     d ≡ Full account resource → session_named account resource sessions ≡ None → m.kind ≡ Chat → planned d m sender sessions ≡ to_bare m sender account sessions
 chat_falls_back d m sender account resource sessions there none is =
     absent (λ p. p) (to_bare m sender account sessions) d m sender account resource sessions there none (absent_chat m sender account sessions is)
 
-pub normal_stays : {A : Type 0} (d : Destination) (m : MessageView) (sender : Told) (account : ℕ) (resource : List ℕ) (sessions : List (Session A)) →
+pub normal_stays : {A : Type 0} (d : Destination) (m : MessageView) (sender : SessionInfo) (account : ℕ) (resource : List ℕ) (sessions : List (Session A)) →
     d ≡ Full account resource → session_named account resource sessions ≡ None → m.kind ≡ Normal → delivered_in (planned d m sender sessions) ≡ []
 normal_stays d m sender account resource sessions there none is =
     absent delivered_in [] d m sender account resource sessions there none (absent_normal m sender account sessions is)
 
-pub headline_is_dropped : {A : Type 0} (d : Destination) (m : MessageView) (sender : Told) (account : ℕ) (resource : List ℕ) (sessions : List (Session A)) →
+pub headline_is_dropped : {A : Type 0} (d : Destination) (m : MessageView) (sender : SessionInfo) (account : ℕ) (resource : List ℕ) (sessions : List (Session A)) →
     d ≡ Full account resource → session_named account resource sessions ≡ None → m.kind ≡ Headline → planned d m sender sessions ≡ dropped
 headline_is_dropped d m sender account resource sessions there none is =
     absent (λ p. p) dropped d m sender account resource sessions there none (absent_headline m sender account sessions is)
@@ -53,7 +53,7 @@ headline_is_dropped d m sender account resource sessions there none is =
 error_refused : (A : Type 0) (condition : Condition) (kind : MessageKind) → kind ≡ Error → is_bounced (refused {A = A} condition kind) ≡ false
 error_refused A condition kind is = rw is refl
 
-pub error_not_answered : {A : Type 0} (d : Destination) (m : MessageView) (sender : Told) (sessions : List (Session A)) → m.kind ≡ Error → is_bounced (planned d m sender sessions) ≡ false
+pub error_not_answered : {A : Type 0} (d : Destination) (m : MessageView) (sender : SessionInfo) (sessions : List (Session A)) → m.kind ≡ Error → is_bounced (planned d m sender sessions) ≡ false
 error_not_answered {A = A} d m sender sessions is =
     planned_has_all m sender sessions (λ p. is_bounced p ≡ false) (λ condition. error_refused A condition m.kind is) (λ account deliver. refl) d
 
@@ -77,14 +77,14 @@ kept_for_users Error is = refl
 unarchived : (m : MessageView) (sender account : ℕ) → is_for_users m.kind ≡ false → archives_of (archiving_of m sender account) ≡ []
 unarchived m sender account is = rw (kept_for_users m.kind is) refl
 
-user_archives : {A : Type 0} (m : MessageView) (sender : Told) (account : ℕ) (deliver sessions : List (Session A)) → archives_in (to_user m sender account deliver sessions) ≡ archives_of (archiving_of m sender.account account)
+user_archives : {A : Type 0} (m : MessageView) (sender : SessionInfo) (account : ℕ) (deliver sessions : List (Session A)) → archives_in (to_user m sender account deliver sessions) ≡ archives_of (archiving_of m sender.account account)
 user_archives {A = A} m sender account deliver sessions =
     elim (cases_Bool (is_for_users m.kind)) [
       | inl right ↦ rw right refl
       | inr wrong ↦ rw wrong (refused_nowhere A ServiceUnavailable m.kind ∙ sym (unarchived m sender.account account wrong))
     ]
 
-full_archives : {A : Type 0} (m : MessageView) (sender : Told) (account : ℕ) (o : Option (Session A)) (sessions : List (Session A)) → archives_in (to_full m sender account o sessions) ≡ archives_of (archiving_of m sender.account account)
+full_archives : {A : Type 0} (m : MessageView) (sender : SessionInfo) (account : ℕ) (o : Option (Session A)) (sessions : List (Session A)) → archives_in (to_full m sender account o sessions) ≡ archives_of (archiving_of m sender.account account)
 full_archives m sender account (Some t) sessions = refl
 full_archives m sender account None sessions =
     elim (cases_Bool (is_chat m.kind)) [
@@ -92,15 +92,15 @@ full_archives m sender account None sessions =
       | inr wrong ↦ rw wrong (user_archives m sender account [] sessions)
     ]
 
-pub bare_archives : {A : Type 0} (d : Destination) (m : MessageView) (sender : Told) (account : ℕ) (sessions : List (Session A)) → d ≡ Bare account → archives_in (planned d m sender sessions) ≡ archives_of (archiving_of m sender.account account)
+pub bare_archives : {A : Type 0} (d : Destination) (m : MessageView) (sender : SessionInfo) (account : ℕ) (sessions : List (Session A)) → d ≡ Bare account → archives_in (planned d m sender sessions) ≡ archives_of (archiving_of m sender.account account)
 bare_archives d m sender account sessions there = ap (λ x. archives_in (planned x m sender sessions)) there ∙ user_archives m sender account (ready_of account sessions) sessions
 
-pub resource_archives : {A : Type 0} (d : Destination) (m : MessageView) (sender : Told) (account : ℕ) (resource : List ℕ) (sessions : List (Session A)) → d ≡ Full account resource →
+pub resource_archives : {A : Type 0} (d : Destination) (m : MessageView) (sender : SessionInfo) (account : ℕ) (resource : List ℕ) (sessions : List (Session A)) → d ≡ Full account resource →
     archives_in (planned d m sender sessions) ≡ archives_of (archiving_of m sender.account account)
 resource_archives d m sender account resource sessions there =
     ap (λ x. archives_in (planned x m sender sessions)) there ∙ full_archives m sender account (session_named account resource sessions) sessions
 
-pub same_archives : {A : Type 0} (d : Destination) (m : MessageView) (sender : Told) (sessions others : List (Session A)) → archives_in (planned d m sender sessions) ≡ archives_in (planned d m sender others)
+pub same_archives : {A : Type 0} (d : Destination) (m : MessageView) (sender : SessionInfo) (sessions others : List (Session A)) → archives_in (planned d m sender sessions) ≡ archives_in (planned d m sender others)
 same_archives RemoteDomain m sender sessions others = refl
 same_archives NoUser m sender sessions others = refl
 same_archives (Bare account) m sender sessions others =
@@ -116,10 +116,10 @@ distinct_by true true sender account is = refl
 distinct_by true false sender account is = two_archives sender account is
 distinct_by false same sender account is = refl
 
-pub archived_once : {A : Type 0} (d : Destination) (m : MessageView) (sender : Told) (sessions : List (Session A)) → are_distinct_by nat_eq (archives_in (planned d m sender sessions)) ≡ true
+pub archived_once : {A : Type 0} (d : Destination) (m : MessageView) (sender : SessionInfo) (sessions : List (Session A)) → are_distinct_by nat_eq (archives_in (planned d m sender sessions)) ≡ true
 archived_once {A = A} d m sender sessions =
     planned_has_all m sender sessions (λ p. are_distinct_by nat_eq (archives_in p) ≡ true) (λ condition. ap (are_distinct_by nat_eq) (refused_nowhere A condition m.kind))
     (λ account deliver. distinct_by (is_archived m) (sender.account == account) sender.account account refl) d
 
-pub own_archive : {A : Type 0} (d : Destination) (m : MessageView) (sender : Told) (sessions : List (Session A)) → d ≡ Bare sender.account → is_archived m ≡ true → archives_in (planned d m sender sessions) ≡ sender.account ∷ []
+pub own_archive : {A : Type 0} (d : Destination) (m : MessageView) (sender : SessionInfo) (sessions : List (Session A)) → d ≡ Bare sender.account → is_archived m ≡ true → archives_in (planned d m sender sessions) ≡ sender.account ∷ []
 own_archive d m sender sessions there kept = bare_archives d m sender sender.account sessions there ∙ rw (kept, eq-eqb sender.account sender.account refl) refl

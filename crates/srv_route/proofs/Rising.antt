@@ -14,22 +14,22 @@ use Rattle.sm_live.specs.Sessions.{Session, is_of, number_of, sessions_of}
 
 -- ---- a search answers whether the number is there
 
-at_place : (x i : ℕ) (xs : List ℕ) → i < length xs → get_or xs i 0 ≡ x → list_any (λ n. n == x) xs ≡ true
-at_place x i [] within is = absurd (omega (arith, within))
-at_place x zero (n ∷ xs) within is = rw (subst (λ m. (m == x) ≡ true) (sym is) (eq-eqb x x refl)) refl
-at_place x (suc i) (n ∷ xs) within is =
+at_position : (x i : ℕ) (xs : List ℕ) → i < length xs → get_or xs i 0 ≡ x → list_any (λ n. n == x) xs ≡ true
+at_position x i [] within is = absurd (omega (arith, within))
+at_position x zero (n ∷ xs) within is = rw (subst (λ m. (m == x) ≡ true) (sym is) (eq-eqb x x refl)) refl
+at_position x (suc i) (n ∷ xs) within is =
     elim (cases_Bool (n == x)) [
       | inl here ↦ rw here refl
-      | inr other ↦ rw other (at_place x i xs (omega (arith, within)) is)
+      | inr other ↦ rw other (at_position x i xs (omega (arith, within)) is)
     ]
 
-at_no_place : (x : ℕ) (xs : List ℕ) → ((k : ℕ) → k < length xs → get_or xs k 0 ≢ x) → list_any (λ n. n == x) xs ≡ false
-at_no_place x [] differs = refl
-at_no_place x (n ∷ xs) differs = rw (ne_eqb n x (differs 0 (omega arith))) (at_no_place x xs (λ k within. differs (suc k) (omega (arith, within))))
+at_no_position : (x : ℕ) (xs : List ℕ) → ((k : ℕ) → k < length xs → get_or xs k 0 ≢ x) → list_any (λ n. n == x) xs ≡ false
+at_no_position x [] differs = refl
+at_no_position x (n ∷ xs) differs = rw (ne_eqb n x (differs 0 (omega arith))) (at_no_position x xs (λ k within. differs (suc k) (omega (arith, within))))
 
 -- below or above the number
-off_place : (x i : ℕ) (xs : List ℕ) → (i ≤ length xs) × ((k : ℕ) → k < i → get_or xs k 0 < x) × ((k : ℕ) → i ≤ k → k < length xs → x < get_or xs k 0) → (k : ℕ) → k < length xs → get_or xs k 0 ≢ x
-off_place x i xs parted k within is =
+off_position : (x i : ℕ) (xs : List ℕ) → (i ≤ length xs) × ((k : ℕ) → k < i → get_or xs k 0 < x) × ((k : ℕ) → i ≤ k → k < length xs → x < get_or xs k 0) → (k : ℕ) → k < length xs → get_or xs k 0 ≢ x
+off_position x i xs parted k within is =
     elim (cases_lt k i) [
       | inl lower ↦ omega (arith, parted.1 k lower, is)
       | inr higher ↦ omega (arith, parted.2 k higher within, is)
@@ -38,9 +38,9 @@ off_place x i xs parted k within is =
 pub searched_is : (xs : List ℕ) (x : ℕ) (r : Result ℕ ℕ) → IsStrictlySortedBy nat_cmp xs → IsBinarySearchResult (λ y. nat_cmp y x) xs r → is_ok r ≡ list_any (λ n. n == x) xs
 searched_is xs x (Ok i) rising found =
     let there = searched xs x (Ok i) found (λ i j. non_decreasing_from_sorted xs rising i j 0) in
-    sym (at_place x i xs there.0 there.1)
+    sym (at_position x i xs there.0 there.1)
 searched_is xs x (Err i) rising found =
-    sym (at_no_place x xs (off_place x i xs (searched xs x (Err i) found (λ i j. non_decreasing_from_sorted xs rising i j 0))))
+    sym (at_no_position x xs (off_position x i xs (searched xs x (Err i) found (λ i j. non_decreasing_from_sorted xs rising i j 0))))
 
 -- ---- numbers of sessions ascend
 

@@ -1,7 +1,7 @@
 -- What the code asks of sessions by their numbers, and what it makes of that.
 use Rattle.std.specs.Prelude.{ℕ, Bool, false, List, Option, Some, None, filter, map, if◌then◌else◌}
 use Rattle.sm_live.specs.Sessions.{Session, number_of, session_of}
-use Rattle.sm_live.specs.declared.told.Told.{Told}
+use Rattle.sm_live.specs.declared.told.SessionInfo.{SessionInfo}
 use Rattle.sm_resumption.specs.declared.session.SessionView.{SessionView}
 use Rattle.srv_route.specs.Messages.{is_for_users}
 use Rattle.srv_route.specs.Numbered.{numbered}
@@ -22,7 +22,7 @@ abbrev pub chosen : {A : Type 0} → (SessionView → Bool) → List (Session A)
 chosen p sessions numbers = filter (λ n. passes p (session_of n sessions)) numbers
 
 -- the way of a message to the sessions of an account that have these numbers
-abbrev pub route_to : {A : Type 0} → MessageView → Told → ℕ → List ℕ → List (Session A) → RouteOf ℕ
+abbrev pub route_to : {A : Type 0} → MessageView → SessionInfo → ℕ → List ℕ → List (Session A) → RouteOf ℕ
 route_to m sender account deliver sessions = record {
   archiving = archiving_of m sender.account account;
   deliver = deliver;
@@ -31,7 +31,7 @@ route_to m sender account deliver sessions = record {
 }
 
 -- the plan for it, where it is a message for users
-abbrev pub user_plan : {A : Type 0} → MessageView → Told → ℕ → List ℕ → List (Session A) → Plan
+abbrev pub user_plan : {A : Type 0} → MessageView → SessionInfo → ℕ → List ℕ → List (Session A) → Plan
 user_plan {A = A} m sender account deliver sessions =
     if is_for_users m.kind then plan.Routed (route_to m sender account deliver sessions)
     else numbered (refused {A = A} ServiceUnavailable m.kind)

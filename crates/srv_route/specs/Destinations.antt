@@ -2,7 +2,7 @@
 use Rattle.std.specs.Prelude.{ℕ, List, Option, Some, None, if◌then◌else◌}
 use Rattle.std.specs.Option.{option_and_then}
 use Rattle.std.specs.Str.{bytes_eq}
-use Rattle.base_io.specs.Names.{place_of}
+use Rattle.base_io.specs.Names.{position_of}
 use Rattle.im_jid.specs.Cuts.{domain_of, local_of, resource_of}
 use Rattle.srv_login.specs.Accounts.{names_of}
 use Rattle.srv_login.specs.declared.account.Account.{Account}
@@ -25,7 +25,7 @@ at_user (Some account) resource = at_resource account resource
 
 -- the account that an address of this domain names, by its place
 abbrev pub account_in : List ℕ → List Account → Option ℕ
-account_in to accounts = option_and_then (λ name. place_of name (names_of accounts)) (local_of to)
+account_in to accounts = option_and_then (λ name. position_of name (names_of accounts)) (local_of to)
 
 abbrev pub destination_at : List ℕ → List Account → List ℕ → Destination
 destination_at domain accounts to =

@@ -16,7 +16,7 @@ use crate::routes::{Plan, Route};
 use base_io::{NoMemory, Numbers};
 use im_jid::Jid;
 use im_stanza::{Condition, ErrorKind, Message, MessageKind, StanzaError};
-use sm_live::{Live, Told};
+use sm_live::{Live, SessionInfo};
 use srv_login::Accounts;
 use std::alloc::Global;
 
@@ -24,7 +24,7 @@ use std::alloc::Global;
 fn account_in(to: &Jid, accounts: &Accounts) -> Option<u32>
     ensures { result ≡ account_in to.now accounts.now }
 {
-    accounts.place(to.local()?)
+    accounts.position(to.local()?)
 }
 
 fn archiving_of(message: &Message, sender: u32, account: u32) -> Archiving
@@ -62,7 +62,7 @@ fn route_to(
     alloc: Global,
     live: &Live,
     message: &Message,
-    sender: &Told,
+    sender: &SessionInfo,
     account: u32,
     deliver: Numbers,
 ) -> Result<Route, NoMemory>
@@ -91,7 +91,7 @@ fn to_user(
     alloc: Global,
     live: &Live,
     message: &Message,
-    sender: &Told,
+    sender: &SessionInfo,
     account: u32,
     deliver: Numbers,
 ) -> Result<Plan, NoMemory>
@@ -111,7 +111,7 @@ fn to_bare(
     alloc: Global,
     live: &Live,
     message: &Message,
-    sender: &Told,
+    sender: &SessionInfo,
     account: u32,
 ) -> Result<Plan, NoMemory>
     ensures { IfOk result (λ plan. plan ≡ numbered (Plans.to_bare message.now sender.now account live.now.sessions)) }
@@ -126,7 +126,7 @@ fn to_absent(
     alloc: Global,
     live: &Live,
     message: &Message,
-    sender: &Told,
+    sender: &SessionInfo,
     account: u32,
 ) -> Result<Plan, NoMemory>
     ensures { IfOk result (λ plan. plan ≡ numbered (Plans.to_full message.now sender.now account None live.now.sessions)) }
@@ -144,13 +144,13 @@ fn to_full(
     alloc: Global,
     live: &Live,
     message: &Message,
-    sender: &Told,
+    sender: &SessionInfo,
     account: u32,
     resource: &str,
 ) -> Result<Plan, NoMemory>
     ensures { IfOk result (λ plan. plan ≡ numbered (Plans.to_full message.now sender.now account (session_named account resource.now live.now.sessions) live.now.sessions)) }
 {
-    match live.told_named(account, resource) {
+    match live.info_named(account, resource) {
         Some(told) => {
             let mut deliver = Numbers::new(alloc);
             deliver.push(told.number)?;
@@ -183,7 +183,7 @@ pub fn plan(
     accounts: &Accounts,
     live: &Live,
     message: &Message,
-    sender: &Told,
+    sender: &SessionInfo,
 ) -> Result<Plan, NoMemory>
     ensures { IfOk result (λ plan. plan ≡ numbered (plan_of domain.now accounts.now live.now.sessions message.now sender.now)) }
 {

@@ -3,4 +3,4 @@ pub mod Outputs
 pub mod Lengths
 pub mod AddressTexts
 -- ---- what is told of a session
-pub mod ToldFacts
+pub mod InfoFacts

@@ -12,4 +12,4 @@ pub mod Handling
 pub mod Moments
 -- ---- view
 pub mod Seen
-pub mod Parcels
+pub mod OutgoingStanzas

@@ -10,7 +10,7 @@ use Rattle.srv_login.specs.declared.sasl_condition.SaslCondition.TheVariants.{Ab
 use Rattle.im_replies.specs.Sasl.{challenge_item, failure_item, success_item}
 use Rattle.im_replies.specs.Streams.{error_item}
 use Rattle.im_replies.specs.declared.conditions.StreamCondition.TheVariants.{NotAuthorized, PolicyViolation}
-use Rattle.srv_state.specs.State.{Hall, conn_at}
+use Rattle.srv_state.specs.State.{ServerState, conn_at}
 use Rattle.srv_state.specs.Steps.{Act, Enter, Fail, Say}
 use Rattle.srv_state.specs.Streams.{at_any, ending, parting}
 use Rattle.srv_state.specs.declared.connection.Connection.{Connection}
@@ -45,7 +45,7 @@ finishing say k left (Ok login) = Say k (say (success_item login.message)) ∷ E
 finishing say k left (Err why) = failing say k why left
 
 -- Login: `auth`
-abbrev pub at_auth : {A : Type 0} → (ItemOut → A) → ℕ → Elem → Standing → Hall A → List (Act A)
+abbrev pub at_auth : {A : Type 0} → (ItemOut → A) → ℕ → Elem → Standing → ServerState A → List (Act A)
 at_auth say k e st h = beginning say k st.tries (auth_answer e st.entropy h.accounts)
 
 -- the exchange in hand
@@ -56,7 +56,7 @@ negotiation_in p = None
 abbrev pub negotiation_of : Connection → Option Negotiation
 negotiation_of c = negotiation_in c.phase
 
-abbrev pub negotiation_at : {A : Type 0} → ℕ → Hall A → Option Negotiation
+abbrev pub negotiation_at : {A : Type 0} → ℕ → ServerState A → Option Negotiation
 negotiation_at k h = option_and_then negotiation_of (conn_at k h)
 
 abbrev pub answering : {A : Type 0} → (ItemOut → A) → ℕ → Tries → Option (Result LoginView SaslCondition) → List (Act A)
@@ -64,21 +64,21 @@ answering say k left None = []
 answering say k left (Some answer) = finishing say k left answer
 
 -- Challenge: `response`
-abbrev pub at_response : {A : Type 0} → (ItemOut → A) → ℕ → Elem → Standing → Hall A → List (Act A)
+abbrev pub at_response : {A : Type 0} → (ItemOut → A) → ℕ → Elem → Standing → ServerState A → List (Act A)
 at_response say k e st h = answering say k st.tries (option_map (final_answer e) (negotiation_at k h))
 
 -- ---- the phases
 
 -- Login, Challenge: `abort` (section 6.4.4), a stanza, and what no phase awaits
-abbrev pub at_login_other : {A : Type 0} → (ItemOut → A) → ℕ → Word → Standing → Hall A → List (Act A)
+abbrev pub at_login_other : {A : Type 0} → (ItemOut → A) → ℕ → Word → Standing → ServerState A → List (Act A)
 at_login_other say k word.Abort st h = failing say k Aborted st.tries
 at_login_other say k (word.Stanza long read) st h = ending say k NotAuthorized st h
 at_login_other say k w st h = at_any say k w st h
 
-abbrev pub at_login : {A : Type 0} → (ItemOut → A) → ℕ → Word → Standing → Hall A → List (Act A)
+abbrev pub at_login : {A : Type 0} → (ItemOut → A) → ℕ → Word → Standing → ServerState A → List (Act A)
 at_login say k (word.Auth e bad) st h = at_auth say k e st h
 at_login say k w st h = at_login_other say k w st h
 
-abbrev pub at_challenge : {A : Type 0} → (ItemOut → A) → ℕ → Word → Standing → Hall A → List (Act A)
+abbrev pub at_challenge : {A : Type 0} → (ItemOut → A) → ℕ → Word → Standing → ServerState A → List (Act A)
 at_challenge say k (word.Response e bad) st h = at_response say k e st h
 at_challenge say k w st h = at_login_other say k w st h

@@ -1,8 +1,8 @@
 -- What clauses see of the code: the definitions at lists of bytes, without the room that lists have.
 use Rattle.std.specs.Prelude.{ℕ, List, map}
 use Rattle.mam_archive.specs.Entries.{ArchiveView}
-use Rattle.srv_state.specs.State.{Hall, Kept, Out, Put, Shut, Step, Took}
-use Rattle.srv_state.specs.declared.desk.Desk.{Desk}
+use Rattle.srv_state.specs.State.{Kept, Out, Put, ServerState, Shut, Step, Took}
+use Rattle.srv_state.specs.declared.context.ServerContext.{ServerContext}
 use Rattle.srv_state.specs.declared.output.Output.{Output}
 use Rattle.srv_state.specs.declared.output.Output.TheVariants as output
 
@@ -17,8 +17,8 @@ outs_of outputs = map out_of outputs
 abbrev pub kept_of : ArchiveView → Kept
 kept_of a = record { owner = a.owner; keep = a.keep; last = a.last; entries = a.entries }
 
-abbrev pub hall_of : Desk → Hall (List ℕ)
-hall_of d = record {
+abbrev pub server_state_of : ServerContext → ServerState (List ℕ)
+server_state_of d = record {
   domain = d.domain;
   accounts = d.accounts;
   archives = map kept_of d.archives.items;
@@ -28,5 +28,5 @@ hall_of d = record {
   moment = d.moment;
 }
 
-abbrev pub step_of : Desk → Step (List ℕ)
-step_of d = record { hall = hall_of d; outs = outs_of d.out.items }
+abbrev pub step_of : ServerContext → Step (List ℕ)
+step_of d = record { server_state = server_state_of d; outs = outs_of d.out.items }

@@ -2,12 +2,12 @@
 use Rattle.std.specs.Prelude.{ℕ, ℤ, ◌+◌, ◌==◌, nat_le, not, ◌&&◌, Bool, true, false, if◌then◌else◌, List, [], ◌∷◌, ◌++◌, Option, Some, None, slice_set}
 use Rattle.sm_acks.specs.declared.end.TheConstants.{MOST_UNACKNOWLEDGED}
 use Rattle.mam_archive.specs.Entries.{EntryView, newest, numbered}
-use Rattle.sm_live.specs.Sessions.{Session, acknowledged, after_resume, asks, bound, copies, enables, handles, presents, session_resumed, told_of, waits, with_session, without, without_at}
-use Rattle.sm_live.specs.declared.told.Told.{Told}
+use Rattle.sm_live.specs.Sessions.{Session, acknowledged, after_resume, asks, bound, copies, enables, handles, info_of, presents, session_resumed, waits, with_session, without, without_at}
+use Rattle.sm_live.specs.declared.told.SessionInfo.{SessionInfo}
 use Rattle.im_replies.specs.Management.{request_item}
 use Rattle.im_replies.specs.Streams.{error_item}
 use Rattle.im_replies.specs.declared.conditions.StreamCondition.TheVariants.{ResourceConstraint}
-use Rattle.srv_state.specs.State.{Hall, Kept, Out, Put, Shut, Step, Took, archive_at, with_conn, with_sessions, without_conn}
+use Rattle.srv_state.specs.State.{Kept, Out, Put, ServerState, Shut, Step, Took, archive_at, with_conn, with_sessions, without_conn}
 use Rattle.srv_state.specs.declared.connection.Connection.{Connection}
 use Rattle.srv_state.specs.declared.connection.Phase.{Phase}
 use Rattle.srv_state.specs.declared.connection.Phase.TheVariants as phase
@@ -49,11 +49,11 @@ pub data Act (A : Type 0) : Type 0 where
 
 -- ---- the state alone
 
-abbrev pub in_hall : {A : Type 0} → (Hall A → Hall A) → Step A → Step A
-in_hall f s = record s { hall = f s.hall }
+abbrev pub in_server_state : {A : Type 0} → (ServerState A → ServerState A) → Step A → Step A
+in_server_state f s = record s { server_state = f s.server_state }
 
 abbrev pub in_sessions : {A : Type 0} → (List (Session A) → List (Session A)) → Step A → Step A
-in_sessions f s = record s { hall = with_sessions (f s.hall.sessions) s.hall }
+in_sessions f s = record s { server_state = with_sessions (f s.server_state.sessions) s.server_state }
 
 abbrev pub in_phase : Phase → Connection → Connection
 in_phase phase c = record c { phase = phase }
@@ -61,14 +61,14 @@ in_phase phase c = record c { phase = phase }
 abbrev pub after_failure : Tries → Connection → Connection
 after_failure left c = record c { phase = phase.Login; tries = left }
 
-abbrev pub binds : {A : Type 0} → ℕ → List ℕ → ℕ → Hall A → Hall A
+abbrev pub binds : {A : Type 0} → ℕ → List ℕ → ℕ → ServerState A → ServerState A
 binds account resource k h = record h { sessions = bound h.next account resource k h.sessions; next = h.next + 1 }
 
 -- an entry more, of which the newest are kept
 abbrev pub appended : EntryView → Kept → Kept
 appended e a = record a { last = a.last + 1; entries = newest a.keep (a.entries ++ numbered (a.last + 1) e ∷ []) }
 
-abbrev pub archived_in : {A : Type 0} → EntryView → ℕ → Option Kept → Hall A → Hall A
+abbrev pub archived_in : {A : Type 0} → EntryView → ℕ → Option Kept → ServerState A → ServerState A
 archived_in e account None h = h
 archived_in e account (Some kept) h = record h { archives = slice_set h.archives account (appended e kept) }
 
@@ -83,7 +83,7 @@ put_where (Some k) a s = put k a s
 
 abbrev pub shut : {A : Type 0} → ℕ → Step A → Step A
 shut k s = record {
-  hall = with_sessions (without_at k s.hall.sessions) (without_conn k s.hall);
+  server_state = with_sessions (without_at k s.server_state.sessions) (without_conn k s.server_state);
   outs = s.outs ++ Shut k ∷ [];
 }
 
@@ -101,7 +101,7 @@ part_where say (Some k) error s = part say k error s
 -- ---- a stanza to a session (XEP-0198, section 4)
 
 -- an `r`, where as many stanzas wait and none is unanswered
-abbrev pub is_due : Told → Bool
+abbrev pub is_due : SessionInfo → Bool
 is_due t = nat_le ASKS_AT (t.waiting + 1) && not t.asked
 
 abbrev pub ask_where : {A : Type 0} → (ItemOut → A) → ℕ → Option ℕ → Bool → Step A → Step A
@@ -110,31 +110,31 @@ ask_where say n None true s = s
 ask_where say n (Some k) true s = put k (say request_item) (in_sessions (with_session n (asks true)) s)
 
 -- one stanza more waits, and goes out where the session is attached
-abbrev pub queue : {A : Type 0} → (ItemOut → A) → ℕ → A → Told → Step A → Step A
+abbrev pub queue : {A : Type 0} → (ItemOut → A) → ℕ → A → SessionInfo → Step A → Step A
 queue say n a t s = ask_where say n t.conn (is_due t) (put_where t.conn a (in_sessions (with_session n (waits a)) s))
 
 -- as many wait as may, and the session ends
-abbrev pub overflow : {A : Type 0} → (ItemOut → A) → ℕ → Told → Step A → Step A
+abbrev pub overflow : {A : Type 0} → (ItemOut → A) → ℕ → SessionInfo → Step A → Step A
 overflow say n t s = part_where say t.conn (say (error_item ResourceConstraint)) (in_sessions (without n) s)
 
-abbrev pub send_told : {A : Type 0} → (ItemOut → A) → ℕ → A → Option Told → Step A → Step A
-send_told say n a None s = s
-send_told say n a (Some t) s =
+abbrev pub send_by_info : {A : Type 0} → (ItemOut → A) → ℕ → A → Option SessionInfo → Step A → Step A
+send_by_info say n a None s = s
+send_by_info say n a (Some t) s =
     if not t.counted then put_where t.conn a s
     else (if t.waiting == MOST_UNACKNOWLEDGED then overflow say n t s else queue say n a t s)
 
 -- to the session with a number, where it lives
 abbrev pub send : {A : Type 0} → (ItemOut → A) → ℕ → A → Step A → Step A
-send say n a s = send_told say n a (told_of n s.hall.sessions) s
+send say n a s = send_by_info say n a (info_of n s.server_state.sessions) s
 
 -- ---- one step, and all of a row
 
 abbrev pub act : {A : Type 0} → (ItemOut → A) → Act A → Step A → Step A
 act say (Say k a) s = put k a s
 act say (Close k) s = shut k s
-act say (Enter k phase) s = in_hall (with_conn k (in_phase phase)) s
-act say (Fail k left) s = in_hall (with_conn k (after_failure left)) s
-act say (Bind account resource k) s = in_hall (binds account resource k) s
+act say (Enter k phase) s = in_server_state (with_conn k (in_phase phase)) s
+act say (Fail k left) s = in_server_state (with_conn k (after_failure left)) s
+act say (Bind account resource k) s = in_server_state (binds account resource k) s
 act say (Resume previd account h k) s = in_sessions (λ sessions. after_resume h k (session_resumed previd account sessions) sessions) s
 act say (Enable n resume) s = in_sessions (with_session n (enables resume)) s
 act say (Acknowledge n h) s = in_sessions (with_session n (acknowledged h)) s
@@ -143,7 +143,7 @@ act say (Handle n) s = in_sessions (with_session n handles) s
 act say (Present n available priority) s = in_sessions (with_session n (presents available priority)) s
 act say (Copy n on) s = in_sessions (with_session n (copies on)) s
 act say (Send n a) s = send say n a s
-act say (Archive account e) s = in_hall (λ h. archived_in e account (archive_at account h) h) s
+act say (Archive account e) s = in_server_state (λ h. archived_in e account (archive_at account h) h) s
 act say (Tell from to origin) s = told_out from to origin s
 
 abbrev pub acted : {A : Type 0} → (ItemOut → A) → List (Act A) → Step A → Step A

@@ -10,7 +10,7 @@ use Rattle.xml_names.specs.declared.headers.Header.{Header}
 use Rattle.im_replies.specs.Streams.{error_item, header_item, login_features_item, session_features_item}
 use Rattle.im_replies.specs.declared.conditions.StreamCondition.{StreamCondition}
 use Rattle.im_replies.specs.declared.conditions.StreamCondition.TheVariants as stream
-use Rattle.srv_state.specs.State.{Hall, conn_at}
+use Rattle.srv_state.specs.State.{ServerState, conn_at}
 use Rattle.srv_state.specs.Steps.{Act, Close, Enter, Say}
 use Rattle.srv_state.specs.declared.connection.Connection.{Connection}
 use Rattle.srv_state.specs.declared.connection.Phase.{Phase}
@@ -34,7 +34,7 @@ stage_of (phase.Ready account) = stage.Ready account
 abbrev pub standing_of : Connection → Standing
 standing_of c = record { stage = stage_of c.phase; tries = c.tries; entropy = c.entropy }
 
-abbrev pub standing_at : {A : Type 0} → ℕ → Hall A → Option Standing
+abbrev pub standing_at : {A : Type 0} → ℕ → ServerState A → Option Standing
 standing_at k h = option_map standing_of (conn_at k h)
 
 -- ---- ends
@@ -52,12 +52,12 @@ abbrev pub parting_where : {A : Type 0} → (ItemOut → A) → Option ℕ → A
 parting_where say None error more = more
 parting_where say (Some k) error more = Say k error ∷ Say k (say Closing) ∷ Close k ∷ more
 
-abbrev pub ending_in : {A : Type 0} → (ItemOut → A) → ℕ → StreamCondition → Stage → List ℕ → Hall A → List (Act A)
+abbrev pub ending_in : {A : Type 0} → (ItemOut → A) → ℕ → StreamCondition → Stage → List ℕ → ServerState A → List (Act A)
 ending_in say k condition stage.Start entropy h = Say k (say (header_item h.domain k entropy)) ∷ parting say k (say (error_item condition))
 ending_in say k condition s entropy h = parting say k (say (error_item condition))
 
 -- a stream error ends the stream, behind the header where that wasn't put (section 4.9.1)
-abbrev pub ending : {A : Type 0} → (ItemOut → A) → ℕ → StreamCondition → Standing → Hall A → List (Act A)
+abbrev pub ending : {A : Type 0} → (ItemOut → A) → ℕ → StreamCondition → Standing → ServerState A → List (Act A)
 ending say k condition st h = ending_in say k condition st.stage st.entropy h
 
 -- ---- headers
@@ -68,12 +68,12 @@ header_condition header.UnsupportedVersion = stream.UnsupportedVersion
 header_condition header.HostUnknown = stream.HostUnknown
 
 -- the stream opens: the header, and what can be negotiated (section 4.3.2)
-abbrev pub opening : {A : Type 0} → (ItemOut → A) → ℕ → List ℕ → Stage → Hall A → List (Act A)
+abbrev pub opening : {A : Type 0} → (ItemOut → A) → ℕ → List ℕ → Stage → ServerState A → List (Act A)
 opening say k entropy (stage.Restart account) h =
     Say k (say (header_item h.domain k entropy)) ∷ Say k (say session_features_item) ∷ Enter k (phase.Ready account) ∷ []
 opening say k entropy s h = Say k (say (header_item h.domain k entropy)) ∷ Say k (say login_features_item) ∷ Enter k phase.Login ∷ []
 
-abbrev pub answering_header : {A : Type 0} → (ItemOut → A) → ℕ → Standing → HeaderAnswer → Hall A → List (Act A)
+abbrev pub answering_header : {A : Type 0} → (ItemOut → A) → ℕ → Standing → HeaderAnswer → ServerState A → List (Act A)
 answering_header say k st Opens h = opening say k st.entropy st.stage h
 answering_header say k st (Refused why) h = ending say k (header_condition why) st h
 
@@ -82,12 +82,12 @@ awaits_header stage.Start = true
 awaits_header (stage.Restart account) = true
 awaits_header s = false
 
-abbrev pub header_in : {A : Type 0} → (ItemOut → A) → ℕ → Header → Standing → Bool → Hall A → List (Act A)
+abbrev pub header_in : {A : Type 0} → (ItemOut → A) → ℕ → Header → Standing → Bool → ServerState A → List (Act A)
 header_in say k header st true h = answering_header say k st (header_answer h.domain header) h
 header_in say k header st false h = ending say k stream.UnsupportedStanzaType st h
 
 -- Start, Restart: a header. Elsewhere it is out of place
-abbrev pub at_header : {A : Type 0} → (ItemOut → A) → ℕ → Header → Standing → Hall A → List (Act A)
+abbrev pub at_header : {A : Type 0} → (ItemOut → A) → ℕ → Header → Standing → ServerState A → List (Act A)
 at_header say k header st h = header_in say k header st (awaits_header st.stage) h
 
 -- ---- rows of any phase
@@ -97,7 +97,7 @@ field_condition true = stream.BadFormat
 field_condition false = stream.UnsupportedStanzaType
 
 -- an element that its phase doesn't await
-abbrev pub at_any : {A : Type 0} → (ItemOut → A) → ℕ → Word → Standing → Hall A → List (Act A)
+abbrev pub at_any : {A : Type 0} → (ItemOut → A) → ℕ → Word → Standing → ServerState A → List (Act A)
 at_any say k word.BadField st h = ending say k stream.BadFormat st h
 at_any say k (word.Auth e bad) st h = ending say k (field_condition bad) st h
 at_any say k (word.Response e bad) st h = ending say k (field_condition bad) st h

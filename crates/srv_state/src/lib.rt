@@ -4,23 +4,23 @@
 
 mod addresses;
 mod connection;
-mod desk;
+mod context;
 mod handling;
 mod limits;
 mod logins;
+mod outgoing_stanza;
 mod output;
-mod parcel;
+mod prebuilt;
 mod reading;
 mod sending;
-mod stock;
 mod streams;
 mod word;
 
 pub use connection::{Connection, Phase, Stage, Standing, Tries};
-pub use desk::Desk;
+pub use context::ServerContext;
 pub use limits::{ASKS_AT, MOST_STANZA_BYTES};
+pub use outgoing_stanza::OutgoingStanza;
 pub use output::{Output, Outputs};
-pub use parcel::Parcel;
+pub use prebuilt::{MadeRequest, Overflow, Prebuilt};
 pub use reading::word_of;
-pub use stock::{MadeRequest, Overflow, Stock};
 pub use word::Word;

@@ -4,14 +4,14 @@ ghost use Rattle.std.specs.Option.{option_copied, option_map};
 ghost use Rattle.srv_login.specs.Negotiations.{condition_name, final_answer, final_seen};
 ghost use Rattle.im_replies.specs.Sasl.{challenge_item, failure_item, success_item};
 ghost use Rattle.srv_state.specs.Logins.{answering, at_auth, at_challenge, at_login, at_login_other, at_response, failing, negotiation_at, negotiation_in};
-ghost use Rattle.srv_state.specs.Seen.{hall_of, step_of};
+ghost use Rattle.srv_state.specs.Seen.{server_state_of, step_of};
 ghost use Rattle.srv_state.specs.Steps.{Enter, Fail, Say, acted};
 ghost use Rattle.srv_state.specs.declared.connection.Tries.TheVariants as tries;
 ghost use Rattle.xml_trees.specs.Views.{elem_view};
 ghost use Rattle.xml_writer.specs.Items.{written_item};
 
 use crate::connection::{Phase, Standing, Tries};
-use crate::desk::Desk;
+use crate::context::ServerContext;
 use crate::word::Word;
 use base_io::{Bytes, NoMemory};
 use im_replies::{StreamCondition, challenge, failure, footer, stream_error, success};
@@ -32,7 +32,7 @@ impl Phase {
     }
 }
 
-impl Desk {
+impl ServerContext {
     // ---- failures
 
     // A failure behind which the client may try again.
@@ -89,7 +89,7 @@ impl Desk {
     }
 
     fn on_auth(&mut self, conn: u64, element: &Element, standing: &Standing) -> Result<(), NoMemory>
-        ensures ok { OnOk result (step_of self.new ≡ acted written_item (at_auth written_item conn (elem_view element.now) standing.now (hall_of self.old)) (step_of self.old)) }
+        ensures ok { OnOk result (step_of self.new ≡ acted written_item (at_auth written_item conn (elem_view element.now) standing.now (server_state_of self.old)) (step_of self.old)) }
         ensures err { OnErr result (step_of self.new ≡ step_of self.old) }
     {
         match auth_answer(self.alloc, element, &standing.entropy, &self.accounts)? {
@@ -102,7 +102,7 @@ impl Desk {
 
     // The exchange of a connection.
     fn negotiation(&self, conn: u64) -> Option<&Negotiation>
-        ensures { option_copied result ≡ negotiation_at conn (hall_of self.now) }
+        ensures { option_copied result ≡ negotiation_at conn (server_state_of self.now) }
     {
         match self.conns.get(&conn) {
             Some(connection) => connection.phase.negotiation(),
@@ -112,7 +112,7 @@ impl Desk {
 
     // How a `response` is answered in the exchange.
     fn judge_response(&self, conn: u64, element: &Element) -> Result<Option<FinalAnswer>, NoMemory>
-        ensures { IfOk result (λ answer. option_map final_seen answer ≡ option_map (final_answer (elem_view element.now)) (negotiation_at conn (hall_of self.now))) }
+        ensures { IfOk result (λ answer. option_map final_seen answer ≡ option_map (final_answer (elem_view element.now)) (negotiation_at conn (server_state_of self.now))) }
     {
         match self.negotiation(conn) {
             Some(negotiation) => {
@@ -162,7 +162,7 @@ impl Desk {
         element: &Element,
         standing: &Standing,
     ) -> Result<(), NoMemory>
-        ensures ok { OnOk result (step_of self.new ≡ acted written_item (at_response written_item conn (elem_view element.now) standing.now (hall_of self.old)) (step_of self.old)) }
+        ensures ok { OnOk result (step_of self.new ≡ acted written_item (at_response written_item conn (elem_view element.now) standing.now (server_state_of self.old)) (step_of self.old)) }
         ensures err { OnErr result (step_of self.new ≡ step_of self.old) }
     {
         let answer = self.judge_response(conn, element)?;
@@ -178,7 +178,7 @@ impl Desk {
         word: &Word,
         standing: &Standing,
     ) -> Result<(), NoMemory>
-        ensures ok { OnOk result (step_of self.new ≡ acted written_item (at_login_other written_item conn word.now standing.now (hall_of self.old)) (step_of self.old)) }
+        ensures ok { OnOk result (step_of self.new ≡ acted written_item (at_login_other written_item conn word.now standing.now (server_state_of self.old)) (step_of self.old)) }
         ensures err { OnErr result (step_of self.new ≡ step_of self.old) }
     {
         match word {
@@ -191,7 +191,7 @@ impl Desk {
     /// An element where a login is awaited (RFC 6120, section 6.4.2): `auth` gets its challenge or a failure, `abort` a
     /// failure, a stanza ends the stream, and all else goes as by `on_any`. A refusal leaves all as it was.
     pub fn on_login(&mut self, conn: u64, word: &Word, standing: &Standing) -> Result<(), NoMemory>
-        ensures ok { OnOk result (step_of self.new ≡ acted written_item (at_login written_item conn word.now standing.now (hall_of self.old)) (step_of self.old)) }
+        ensures ok { OnOk result (step_of self.new ≡ acted written_item (at_login written_item conn word.now standing.now (server_state_of self.old)) (step_of self.old)) }
         ensures err { OnErr result (step_of self.new ≡ step_of self.old) }
     {
         match word {
@@ -208,7 +208,7 @@ impl Desk {
         word: &Word,
         standing: &Standing,
     ) -> Result<(), NoMemory>
-        ensures ok { OnOk result (step_of self.new ≡ acted written_item (at_challenge written_item conn word.now standing.now (hall_of self.old)) (step_of self.old)) }
+        ensures ok { OnOk result (step_of self.new ≡ acted written_item (at_challenge written_item conn word.now standing.now (server_state_of self.old)) (step_of self.old)) }
         ensures err { OnErr result (step_of self.new ≡ step_of self.old) }
     {
         match word {

@@ -1,6 +1,6 @@
 //! How a stream begins and ends (RFC 6120, sections 4.3 to 4.9).
 ghost use Rattle.std.specs.Prelude.{◌≡◌, true, OnErr, OnOk};
-ghost use Rattle.srv_state.specs.Seen.{hall_of, step_of};
+ghost use Rattle.srv_state.specs.Seen.{server_state_of, step_of};
 ghost use Rattle.srv_state.specs.Steps.{acted};
 ghost use Rattle.srv_state.specs.Streams;
 ghost use Rattle.srv_state.specs.Streams.{at_any, at_header, closing, ending, ending_in, field_condition, header_condition, header_in, opening, parting};
@@ -9,7 +9,7 @@ ghost use Rattle.srv_state.specs.declared.connection.Stage.TheVariants as stage;
 ghost use Rattle.xml_writer.specs.Items.{written_item};
 
 use crate::connection::{Phase, Stage, Standing};
-use crate::desk::Desk;
+use crate::context::ServerContext;
 use crate::word::Word;
 use base_io::NoMemory;
 use im_replies::{StreamCondition, footer, header, login_features, session_features, stream_error};
@@ -45,7 +45,7 @@ impl Stage {
     }
 }
 
-impl Desk {
+impl ServerContext {
     // Ends a stream with an error, where the header was put.
     fn end_opened(&mut self, conn: u64, condition: StreamCondition) -> Result<(), NoMemory>
         ensures ok { OnOk result (step_of self.new ≡ acted written_item (parting written_item conn (written_item (error_item condition))) (step_of self.old)) }
@@ -65,7 +65,7 @@ impl Desk {
         condition: StreamCondition,
         entropy: &[u8; 24],
     ) -> Result<(), NoMemory>
-        ensures ok { OnOk result (step_of self.new ≡ acted written_item (ending_in written_item conn condition stage.Start entropy.now (hall_of self.old)) (step_of self.old)) }
+        ensures ok { OnOk result (step_of self.new ≡ acted written_item (ending_in written_item conn condition stage.Start entropy.now (server_state_of self.old)) (step_of self.old)) }
         ensures err { OnErr result (step_of self.new ≡ step_of self.old) }
     {
         self.out.reserve(4)?;
@@ -85,7 +85,7 @@ impl Desk {
         condition: StreamCondition,
         standing: &Standing,
     ) -> Result<(), NoMemory>
-        ensures ok { OnOk result (step_of self.new ≡ acted written_item (ending written_item conn condition standing.now (hall_of self.old)) (step_of self.old)) }
+        ensures ok { OnOk result (step_of self.new ≡ acted written_item (ending written_item conn condition standing.now (server_state_of self.old)) (step_of self.old)) }
         ensures err { OnErr result (step_of self.new ≡ step_of self.old) }
     {
         match standing.stage {
@@ -108,7 +108,7 @@ impl Desk {
 
     // The stream opens for a login.
     fn open_login(&mut self, conn: u64, entropy: &[u8; 24]) -> Result<(), NoMemory>
-        ensures ok { OnOk result (step_of self.new ≡ acted written_item (opening written_item conn entropy.now stage.Start (hall_of self.old)) (step_of self.old)) }
+        ensures ok { OnOk result (step_of self.new ≡ acted written_item (opening written_item conn entropy.now stage.Start (server_state_of self.old)) (step_of self.old)) }
         ensures err { OnErr result (step_of self.new ≡ step_of self.old) }
     {
         self.out.reserve(2)?;
@@ -122,7 +122,7 @@ impl Desk {
 
     // The stream opens behind a login.
     fn open_session(&mut self, conn: u64, entropy: &[u8; 24], account: u32) -> Result<(), NoMemory>
-        ensures ok { OnOk result (step_of self.new ≡ acted written_item (opening written_item conn entropy.now (stage.Restart account) (hall_of self.old)) (step_of self.old)) }
+        ensures ok { OnOk result (step_of self.new ≡ acted written_item (opening written_item conn entropy.now (stage.Restart account) (server_state_of self.old)) (step_of self.old)) }
         ensures err { OnErr result (step_of self.new ≡ step_of self.old) }
     {
         self.out.reserve(2)?;
@@ -136,7 +136,7 @@ impl Desk {
 
     // The stream opens.
     fn open(&mut self, conn: u64, standing: &Standing) -> Result<(), NoMemory>
-        ensures ok { OnOk result (step_of self.new ≡ acted written_item (opening written_item conn standing.now.entropy standing.now.stage (hall_of self.old)) (step_of self.old)) }
+        ensures ok { OnOk result (step_of self.new ≡ acted written_item (opening written_item conn standing.now.entropy standing.now.stage (server_state_of self.old)) (step_of self.old)) }
         ensures err { OnErr result (step_of self.new ≡ step_of self.old) }
     {
         match standing.stage {
@@ -152,7 +152,7 @@ impl Desk {
         header: &Header,
         standing: &Standing,
     ) -> Result<(), NoMemory>
-        ensures ok { OnOk result (step_of self.new ≡ acted written_item (header_in written_item conn header.now standing.now true (hall_of self.old)) (step_of self.old)) }
+        ensures ok { OnOk result (step_of self.new ≡ acted written_item (header_in written_item conn header.now standing.now true (server_state_of self.old)) (step_of self.old)) }
         ensures err { OnErr result (step_of self.new ≡ step_of self.old) }
     {
         match judge_header(self.alloc, self.domain.as_str(), header)? {
@@ -168,7 +168,7 @@ impl Desk {
         header: &Header,
         standing: &Standing,
     ) -> Result<(), NoMemory>
-        ensures ok { OnOk result (step_of self.new ≡ acted written_item (at_header written_item conn header.now standing.now (hall_of self.old)) (step_of self.old)) }
+        ensures ok { OnOk result (step_of self.new ≡ acted written_item (at_header written_item conn header.now standing.now (server_state_of self.old)) (step_of self.old)) }
         ensures err { OnErr result (step_of self.new ≡ step_of self.old) }
     {
         if standing.stage.awaits_header() {
@@ -181,7 +181,7 @@ impl Desk {
     /// An element that its phase doesn't await (RFC 6120, section 4.9.3): it ends the stream. A refusal leaves all as it
     /// was.
     pub fn on_any(&mut self, conn: u64, word: &Word, standing: &Standing) -> Result<(), NoMemory>
-        ensures ok { OnOk result (step_of self.new ≡ acted written_item (at_any written_item conn word.now standing.now (hall_of self.old)) (step_of self.old)) }
+        ensures ok { OnOk result (step_of self.new ≡ acted written_item (at_any written_item conn word.now standing.now (server_state_of self.old)) (step_of self.old)) }
         ensures err { OnErr result (step_of self.new ≡ step_of self.old) }
     {
         match word {

@@ -136,8 +136,8 @@ fn a_message_is_held_once(rt: HostRuntime) {
 fn turn(rt: &impl Abort, alloc: Global, log: &mut Log) {
     begin(rt, alloc, log, &["b", "d"]);
     let more = fin(rt, alloc, "d", false);
-    let turned = log.fin_then_begin(alloc, "q", &more, text(rt, alloc, "r"));
-    let _ = turned.expect(rt, "a next page");
+    let rendered = log.fin_then_begin(alloc, "q", &more, text(rt, alloc, "r"));
+    let _ = rendered.expect(rt, "a next page");
 }
 
 /// Asks anew for the page that was begun, takes it over with f, and answers where the log breaks.

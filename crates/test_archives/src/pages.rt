@@ -4,7 +4,7 @@ ghost use Rattle.std.specs.Prelude.{◌≤◌};
 use crate::archives::{append, text};
 use base_io::Text;
 use mam_archive::{Archive, id_of_number, number_of};
-use mam_pages::{ArchiveLook, Fin, PageCut, PageFault, PageQuery, Place, page};
+use mam_pages::{ArchiveLook, Fin, PageCut, PageFault, PagePosition, PageQuery, page};
 use std::alloc::Global;
 use std::process::Abort;
 
@@ -134,13 +134,13 @@ fn id(rt: &impl Abort, alloc: Global, number: u64) -> Text {
     id_of_number(alloc, number).expect(rt, "memory")
 }
 
-fn place(rt: &impl Abort, alloc: Global, at: At) -> Place {
+fn position(rt: &impl Abort, alloc: Global, at: At) -> PagePosition {
     match at {
-        At::First => Place::First,
-        At::After(number) => Place::After(id(rt, alloc, number)),
-        At::Before(number) => Place::Before(id(rt, alloc, number)),
-        At::Last => Place::Last,
-        At::AfterId(id) => Place::After(text(rt, alloc, id)),
+        At::First => PagePosition::First,
+        At::After(number) => PagePosition::After(id(rt, alloc, number)),
+        At::Before(number) => PagePosition::Before(id(rt, alloc, number)),
+        At::Last => PagePosition::Last,
+        At::AfterId(id) => PagePosition::After(text(rt, alloc, id)),
     }
 }
 
@@ -158,7 +158,7 @@ fn query(rt: &impl Abort, alloc: Global, asked: Asked) -> PageQuery {
         peer: peer(rt, alloc, with),
         start,
         end,
-        place: place(rt, alloc, at),
+        position: position(rt, alloc, at),
         max,
     }
 }

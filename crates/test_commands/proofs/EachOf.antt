@@ -12,11 +12,11 @@ EachAt P n [] = Unit {0}
 EachAt P n (x ∷ xs) = P n x × EachAt P (n + 1) xs
 
 pub one_at : {A : Type 0} (P : ℕ → A → Type 0) (n : ℕ) (xs : List A) → EachAt P n xs → (i k : ℕ) (x : A) → slice_get xs i ≡ Some x → k ≡ i + n → P k x
-one_at P n [] each i k x is place = absurd (none-some x is)
-one_at P n (y ∷ ys) each zero k x is place =
-    let here : k ≡ n = place ∙ zero-add n in
+one_at P n [] each i k x is position = absurd (none-some x is)
+one_at P n (y ∷ ys) each zero k x is position =
+    let here : k ≡ n = position ∙ zero-add n in
     rw (here, ← same_Some y x is) each.0
-one_at P n (y ∷ ys) each (suc i) k x is place = one_at P (n + 1) ys each.1 i k x is (omega (arith, place))
+one_at P n (y ∷ ys) each (suc i) k x is position = one_at P (n + 1) ys each.1 i k x is (omega (arith, position))
 
 -- each element and the next one
 abbrev pub EachMove : {A : Type 0} → (A → A → Type 0) → List A → Type 0

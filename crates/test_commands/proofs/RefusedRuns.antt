@@ -16,7 +16,7 @@ use Rattle.cmd_report.specs.Lawful.{last_logged}
 use Rattle.cmd_report.specs.LawfulRuns.{AreRuns, IsLastNumber, IsLoggedInRuns, IsPagedInRuns}
 use Rattle.cmd_report.specs.Lines.{entry_line}
 use Rattle.cmd_report.specs.Reports.{DeviceView, ReportView}
-use Rattle.cmd_report.specs.Worlds.{World}
+use Rattle.cmd_report.specs.Worlds.{ReportWorld}
 use Rattle.cmd_report.specs.declared.report.LoggedLine.{LoggedLine}
 use Rattle.cmd_report.specs.declared.report.PageLine.{PageLine}
 use Rattle.test_commands.proofs.FirstLines.{first_id, second_id, stamp_first, text_length}
@@ -143,15 +143,15 @@ held_and_never_taken law = false≢true law.runs.1.0.held.0
 -- Law 5.
 
 -- a world, by the archive of b, the pages of q and how many it asked for
-abbrev moment : List EntryView → List LogPage → ℕ → World
+abbrev moment : List EntryView → List LogPage → ℕ → ReportWorld
 moment kept pages many = world [] kept (p_page ∷ []) 1 pages many
 
 -- q asks for its first page, and takes it over, while b's archive keeps these
-abbrev once : List EntryView → List EntryView → List World
+abbrev once : List EntryView → List EntryView → List ReportWorld
 once asking taking = moment asking [] 0 ∷ moment asking [] 1 ∷ moment taking [] 1 ∷ moment taking (q_first ∷ []) 1 ∷ []
 
 -- and its second page
-abbrev twice : List EntryView → List EntryView → List EntryView → List EntryView → List World
+abbrev twice : List EntryView → List EntryView → List EntryView → List EntryView → List ReportWorld
 twice asking taking asking_again taking_again =
     once asking taking
     ++ moment asking_again (q_first ∷ []) 1
@@ -171,8 +171,8 @@ kept_then = z 3 ∷ s 4 ∷ []
 abbrev kept_last : List EntryView
 kept_last = s 4 ∷ t 5 ∷ []
 
-asked_behind_another_id : IsPagedInRuns 2 (once kept_first kept_first) run_schedule (of_q_so (q_paged (asked (Some (id_of 1)) 1 None ∷ []) (logged false (x 1) ∷ []))) → ⊥
-asked_behind_another_id law = go law.pages.1.0.tiles.0
+asked_after_another_id : IsPagedInRuns 2 (once kept_first kept_first) run_schedule (of_q_so (q_paged (asked (Some (id_of 1)) 1 None ∷ []) (logged false (x 1) ∷ []))) → ⊥
+asked_after_another_id law = go law.pages.1.0.tiles.0
   where
     go : (Some (id_of 1) ≡ None) ⊎ (Some (id_of 1) ≡ last_logged []) → ⊥
     go (inl none) = none-some (id_of 1) (sym none)
@@ -185,9 +185,9 @@ an_empty_page_that_is_not_complete : IsPagedInRuns 2 (once kept_first kept_first
 an_empty_page_that_is_not_complete law = omega (arith, law.pages.1.0.tiles.2 refl)
 
 -- the archive kept x alone
-an_empty_page_without_an_id_behind_entries :
+an_empty_page_without_an_id_after_entries :
     IsPagedInRuns 2 (twice (x 1 ∷ []) (x 1 ∷ []) (x 1 ∷ []) (x 1 ∷ [])) run_schedule (of_q_so (q_paged (asked None 1 None ∷ asked None 0 (Some 1) ∷ []) (logged false (x 1) ∷ []))) → ⊥
-an_empty_page_without_an_id_behind_entries law = omega (arith, law.pages.1.0.tiles.5.3 refl)
+an_empty_page_without_an_id_after_entries law = omega (arith, law.pages.1.0.tiles.5.3 refl)
 
 -- x was purged, and w follows it
 a_break_not_told : IsPagedInRuns 2 (twice kept_first kept_first kept_next kept_next) run_schedule (of_q_so (q_paged two_pages (logged false (x 1) ∷ logged false (w 2) ∷ []))) → ⊥
@@ -196,9 +196,9 @@ a_break_not_told law = false≢true law.pages.1.0.tiles.5.4.0
 a_break_within_a_page : IsPagedInRuns 2 (once kept_first kept_then) run_schedule (of_q_so (q_paged (asked None 2 None ∷ []) (logged false (x 1) ∷ logged true (z 3) ∷ []))) → ⊥
 a_break_within_a_page law = false≢true (sym law.pages.1.0.tiles.4.1.0)
 
-a_break_behind_the_last_id :
+a_break_after_the_last_id :
     IsPagedInRuns 2 (twice kept_first kept_first kept_first kept_then) run_schedule (of_q_so (q_paged (asked None 1 None ∷ asked (Some (id_of 1)) 1 None ∷ []) (logged false (x 1) ∷ logged true (z 3) ∷ []))) → ⊥
-a_break_behind_the_last_id law = false≢true (sym law.pages.1.0.tiles.5.4.0)
+a_break_after_the_last_id law = false≢true (sym law.pages.1.0.tiles.5.4.0)
 
 logged_and_in_no_page : IsPagedInRuns 2 (once kept_first kept_first) run_schedule (of_q_so (q_paged (asked None 1 None ∷ []) (logged false (x 1) ∷ logged false (w 2) ∷ []))) → ⊥
 logged_and_in_no_page law = omega (arith, ap length law.pages.1.0.tiles.5)
@@ -241,15 +241,15 @@ older_than_when_asked law =
     omega (arith, fresh.0)
 
 -- s was taken after the third page had been taken over
-abbrev worlds_behind : List World
-worlds_behind =
+abbrev worlds_after : List ReportWorld
+worlds_after =
     moment kept_next (q_first ∷ q_second ∷ []) 2
     ∷ moment kept_next (q_first ∷ q_second ∷ []) 3
     ∷ moment kept_next (q_first ∷ q_second ∷ q_third ∷ []) 3
     ∷ moment kept_then (q_first ∷ q_second ∷ q_third ∷ []) 3 ∷ []
 
 -- The field `known` refuses it too, which says the same of every page, complete or not.
-newer_than_when_taken_over : IsPagedInRuns 2 worlds_behind run_schedule (of_q_so q_right) → ⊥
+newer_than_when_taken_over : IsPagedInRuns 2 worlds_after run_schedule (of_q_so q_right) → ⊥
 newer_than_when_taken_over law =
     let third = asked (Some (id_of 3)) 1 (Some 2) in
     let fresh = law.pages.1.0.fresh 2 2 4 third refl refl (omega arith, omega arith, refl) 0 1 _ _ _ _ refl refl (omega arith, omega arith) refl refl (omega arith, omega arith) in
@@ -264,7 +264,7 @@ a_break_and_nothing_purged law =
     omega (arith, purged)
 
 -- w was kept when the second page, which begins behind it, had been taken over, and was purged before the third
-abbrev worlds_skipping : List World
+abbrev worlds_skipping : List ReportWorld
 worlds_skipping =
     twice kept_first kept_first kept_next kept_next
     ++ moment kept_then (q_first ∷ q_second ∷ []) 2
@@ -284,11 +284,11 @@ a_purged_entry_is_brought law =
     omega (arith, oldest.0)
 
 -- x was purged when the second page was asked for behind it
-asked_behind_a_purged_id :
+asked_after_a_purged_id :
     IsPagedInRuns 2 (twice kept_first kept_first kept_next kept_next) run_schedule (of_q_so (q_paged (asked None 1 None ∷ asked (Some (id_of 1)) 1 None ∷ []) (logged false (x 1) ∷ logged false (w 2) ∷ []))) → ⊥
-asked_behind_a_purged_id law =
-    let behind = law.pages.1.0.behind 1 1 (asked (Some (id_of 1)) 1 None) refl (omega arith) (omega arith, omega arith, refl) 4 _ _ refl refl (omega arith, omega arith) in
-    omega (arith, behind)
+asked_after_a_purged_id law =
+    let following = law.pages.1.0.following 1 1 (asked (Some (id_of 1)) 1 None) refl (omega arith) (omega arith, omega arith, refl) 4 _ _ refl refl (omega arith, omega arith) in
+    omega (arith, following)
 
 -- x was taken after the first page had been taken over
 brought_before_it_was_taken : IsPagedInRuns 2 (once [] []) run_schedule (of_q_so (q_paged (asked None 1 None ∷ []) (logged false (x 1) ∷ []))) → ⊥

@@ -9,7 +9,7 @@ use Rattle.cmd_report.specs.EntryLines.{EntryLineView}
 use Rattle.cmd_report.specs.Lawful.{AreOutcomes, FollowsSubmission, IsAcknowledgedRight, IsLogged, IsOnceInOrder, IsPaged, IsTakenRight, Precedes}
 use Rattle.cmd_report.specs.LawfulRuns.{IsInForm}
 use Rattle.cmd_report.specs.Reports.{DeviceView, ReportView}
-use Rattle.cmd_report.specs.Worlds.{World}
+use Rattle.cmd_report.specs.Worlds.{ReportWorld}
 use Rattle.cmd_report.specs.declared.report.HeldLine.{HeldLine}
 use Rattle.cmd_report.specs.declared.report.LoggedLine.{LoggedLine}
 use Rattle.cmd_report.specs.declared.report.PageLine.{PageLine}
@@ -226,7 +226,7 @@ abbrev q_complete : DeviceView
 q_complete = q_paged (asked None 1 None ∷ asked (Some (id_of 1)) 1 (Some 2) ∷ []) two_logged
 
 -- z was taken before the second page was asked for
-abbrev worlds_ahead : List World
+abbrev worlds_ahead : List ReportWorld
 worlds_ahead = moment three_kept (first_page ∷ []) 1 ∷ moment three_kept (first_page ∷ []) 2 ∷ moment three_kept (first_page ∷ second_page ∷ []) 2 ∷ []
 
 older_than_when_asked : IsPaged worlds_ahead wire_schedule (of_q_so q_complete) → ⊥
@@ -235,14 +235,14 @@ older_than_when_asked law =
     omega (arith, fresh.0)
 
 -- w was taken after the second page had been taken over
-abbrev worlds_behind : List World
-worlds_behind =
+abbrev worlds_after : List ReportWorld
+worlds_after =
     moment one_kept (first_page ∷ []) 1
     ∷ moment one_kept (first_page ∷ []) 2
     ∷ moment one_kept (first_page ∷ second_page ∷ []) 2
     ∷ moment two_kept (first_page ∷ second_page ∷ []) 2 ∷ []
 
-newer_than_when_taken_over : IsPaged worlds_behind wire_schedule (of_q_so q_complete) → ⊥
+newer_than_when_taken_over : IsPaged worlds_after wire_schedule (of_q_so q_complete) → ⊥
 newer_than_when_taken_over law =
     let fresh = law.pages.1.0.fresh 1 2 (asked (Some (id_of 1)) 1 (Some 2)) refl refl 0 1 _ _ _ _ refl refl (omega arith, omega arith) refl refl (omega arith, omega arith) in
     omega (arith, fresh.1)

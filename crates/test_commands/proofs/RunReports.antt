@@ -8,7 +8,7 @@ use Rattle.mam_log.specs.LogPages.{LogPage}
 use Rattle.mam_log.specs.declared.log_entry.LogEntry.{LogEntry}
 use Rattle.cmd_report.specs.Lines.{entry_line}
 use Rattle.cmd_report.specs.Reports.{AccountView, DeviceView, ReportView}
-use Rattle.cmd_report.specs.Worlds.{World}
+use Rattle.cmd_report.specs.Worlds.{ReportWorld}
 use Rattle.cmd_report.specs.declared.report.ConnEnd.TheVariants.{Cut}
 use Rattle.cmd_report.specs.declared.report.ConnLine.{ConnLine}
 use Rattle.cmd_report.specs.declared.report.HeldLine.{HeldLine}
@@ -115,14 +115,14 @@ abbrev pub q_third : LogPage
 q_third = page (Some (id_of 3)) (s 4 ∷ []) true 2
 
 -- a world, by the archives of a and of b, the pages of p and of q, and how many each asked for
-abbrev pub world : List EntryView → List EntryView → List LogPage → ℕ → List LogPage → ℕ → World
+abbrev pub world : List EntryView → List EntryView → List LogPage → ℕ → List LogPage → ℕ → ReportWorld
 world in_a in_b p_pages p_asked q_pages q_asked = record {
   archive = λ account. if bytes_eq account a then in_a else in_b;
   pages = λ device. if bytes_eq device p then p_pages else q_pages;
   asked = λ device. if bytes_eq device p then p_asked else q_asked;
 }
 
-abbrev pub worlds : List World
+abbrev pub worlds : List ReportWorld
 worlds =
     world [] [] [] 0 [] 0
     ∷ world [] [] [] 1 [] 0

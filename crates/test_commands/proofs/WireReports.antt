@@ -5,7 +5,7 @@ use Rattle.mam_archive.specs.Entries.{EntryView}
 use Rattle.mam_archive.specs.Ids.{id_of}
 use Rattle.mam_log.specs.LogPages.{LogPage}
 use Rattle.cmd_report.specs.Reports.{AccountView, DeviceView, ReportView}
-use Rattle.cmd_report.specs.Worlds.{World}
+use Rattle.cmd_report.specs.Worlds.{ReportWorld}
 use Rattle.cmd_report.specs.declared.report.ConnEnd.TheVariants.{Cut}
 use Rattle.cmd_report.specs.declared.report.ConnLine.{ConnLine}
 use Rattle.cmd_report.specs.EntryLines.{EntryLineView}
@@ -152,7 +152,7 @@ abbrev pub second_page : LogPage
 second_page = page (Some (id_of 1)) (w_kept 2 ∷ []) false 2
 
 -- a world, by the one content of both archives, the pages of q and how many it asked for
-abbrev pub moment : List EntryView → List LogPage → ℕ → World
+abbrev pub moment : List EntryView → List LogPage → ℕ → ReportWorld
 moment kept pages asked = world kept kept [] 0 pages asked
 
 abbrev pub one_kept : List EntryView
@@ -165,10 +165,10 @@ abbrev pub three_kept : List EntryView
 three_kept = x_kept 1 ∷ w_kept 2 ∷ z_kept 3 ∷ []
 
 -- up to the first page of q
-abbrev pub worlds_once : List World
+abbrev pub worlds_once : List ReportWorld
 worlds_once = moment [] [] 0 ∷ moment two_kept [] 0 ∷ moment two_kept [] 1 ∷ moment two_kept (first_page ∷ []) 1 ∷ []
 
-abbrev pub worlds : List World
+abbrev pub worlds : List ReportWorld
 worlds =
     moment [] [] 0
     ∷ moment two_kept [] 0

@@ -4,7 +4,7 @@ use Rattle.std.proofs.lemmas.Bool.{false≢true}
 use Rattle.std.specs.Fmt.{digits}
 use Rattle.mam_archive.specs.Ids.{id_of}
 use Rattle.cmd_direct.specs.Direct.{direct_report}
-use Rattle.cmd_report.specs.Worlds.{World}
+use Rattle.cmd_report.specs.Worlds.{ReportWorld}
 use Rattle.cmd_direct.specs.History.{direct_history, world_after}
 use Rattle.cmd_report.specs.Lawful.{IsLawful}
 use Rattle.cmd_report.specs.LawfulRuns.{IsLawfulKeeping}
@@ -92,10 +92,10 @@ abbrev of_p_so : DeviceView → ReportView
 of_p_so of_p = reported One (untimed ∷ []) 1 (entry 1 ∷ []) of_p
 
 -- the worlds before and after the catch-up
-abbrev above : World
+abbrev above : ReportWorld
 above = world_after MOST_KEPT (steps_of schedule.lines) (Account (codes "a") ∷ Device (codes "p") (codes "a") ∷ Say (codes "p") (codes "a") (codes "hi") ∷ [])
 
-abbrev below : World
+abbrev below : ReportWorld
 below = world_after MOST_KEPT (steps_of schedule.lines) (steps_of schedule.lines)
 
 the_right_report : direct_report schedule ≡ of_p_so p_right

@@ -21,9 +21,9 @@ second_page : page_answered (Some (codes "0000000000000002")) 2 three ≡ Some (
 unfolding hex16_of
 second_page = refl
 
-page_behind_last : page_answered (Some (codes "0000000000000003")) 2 three ≡ Some (record { entries = []; complete = true; count = 3 })
+page_after_last : page_answered (Some (codes "0000000000000003")) 2 three ≡ Some (record { entries = []; complete = true; count = 3 })
 unfolding hex16_of
-page_behind_last = refl
+page_after_last = refl
 
 no_entries : page_answered None 5 (kept_by (codes "alice@chat.example") []) ≡ Some (record { entries = []; complete = true; count = 0 })
 no_entries = refl

@@ -56,8 +56,8 @@ phone = record {
   held = record { id = codes "0000000000000002" } ∷ [];
 }
 
-abbrev desk : DeviceView
-desk = record {
+abbrev context : DeviceView
+context = record {
   name = codes "desk";
   account = codes "bob";
   epoch = 0;
@@ -77,7 +77,7 @@ every_kind = record {
   takes = record { device = codes "phone"; epoch = 2; n = 1; account = codes "bob"; moment = Some 1500 } ∷ [];
   accounts = alice ∷ bob ∷ [];
   conns = conn 1 Cut ∷ conn 2 Left ∷ conn 3 Shut ∷ conn 4 Open ∷ [];
-  devices = phone ∷ desk ∷ [];
+  devices = phone ∷ context ∷ [];
 }
 
 a_line_of_each_kind : text_of every_kind ≡ ended (

@@ -14,7 +14,7 @@ use Rattle.mam_pages.specs.Kept.{first_number, last_number}
 use Rattle.cmd_report.specs.Lawful.{AreOutcomes, IsAcknowledgedRight, IsOfSchedule, IsOnceInOrder, Passes, last_logged}
 use Rattle.cmd_report.specs.LawfulRuns.{ArePagesOfRuns, EndsWhole, IsFirstNumber, IsFreshTo, IsGivenBy, IsInForm, IsKeptWhenAsked, IsLastNumber, IsLoggedInRuns, IsOldestKept, IsPagedInRuns, IsPurgedBy, IsRunsOf, IsTakenAndKept, KeepsLaws, lines_of_page, logged_before}
 use Rattle.cmd_report.specs.Reports.{DeviceView}
-use Rattle.cmd_report.specs.Worlds.{World}
+use Rattle.cmd_report.specs.Worlds.{ReportWorld}
 use Rattle.cmd_report.specs.declared.report.RefusedWhy.TheVariants.{NotBound}
 use Rattle.cmd_schedule.specs.declared.schedule.Version.TheVariants.{Two}
 use Rattle.test_commands.proofs.EachOf.{EachMove, not_falling, one_at, one_move}
@@ -168,19 +168,19 @@ last_of : (n last : ℕ) → n ≤ GREATEST_NUMBER → IsLastNumber (Some (id_of
 last_of n last low is = id_of_same n last (omega (arith, low)) (omega (arith, is.1)) is.2
 
 -- the moves at which the page was asked for, and those at which it was taken over
-abbrev Asks : DeviceView → ℕ → ℕ → World → World → Type 0
+abbrev Asks : DeviceView → ℕ → ℕ → ReportWorld → ReportWorld → Type 0
 Asks d k last before after = Passes k (before.asked d.name) (after.asked d.name) → last_number (before.archive d.account) ≤ last
 
-abbrev Takes : DeviceView → ℕ → ℕ → World → World → Type 0
+abbrev Takes : DeviceView → ℕ → ℕ → ReportWorld → ReportWorld → Type 0
 Takes d k last before after = Passes k (length (before.pages d.name)) (length (after.pages d.name)) → last ≤ last_number (after.archive d.account)
 
-abbrev AsksKept : DeviceView → ℕ → ℕ → World → World → Type 0
+abbrev AsksKept : DeviceView → ℕ → ℕ → ReportWorld → ReportWorld → Type 0
 AsksKept d k first before after = Passes k (before.asked d.name) (after.asked d.name) → first_number (before.archive d.account) ≤ first
 
-abbrev TakesOldest : DeviceView → ℕ → ℕ → World → World → Type 0
+abbrev TakesOldest : DeviceView → ℕ → ℕ → ReportWorld → ReportWorld → Type 0
 TakesOldest d k first before after = Passes k (length (before.pages d.name)) (length (after.pages d.name)) → first ≤ first_number (after.archive d.account)
 
-abbrev Purges : DeviceView → ℕ → ℕ → World → World → Type 0
+abbrev Purges : DeviceView → ℕ → ℕ → ReportWorld → ReportWorld → Type 0
 Purges d k last before after = Passes k (length (before.pages d.name)) (length (after.pages d.name)) → last < first_number (after.archive d.account)
 
 fresh_by_moves : (d : DeviceView) (k last : ℕ) → EachMove (Asks d k last) worlds → EachMove (Takes d k last) worlds → IsFreshTo worlds d k last
@@ -238,8 +238,8 @@ q_oldest_second =
     (λ p. omega (arith, p.1), (λ p. omega (arith, p.1), (λ p. omega (arith, p.1), (λ p. omega (arith, p.1), (λ p. omega (arith, p.1), (λ p. omega (arith, p.1), (λ p. omega (arith, p.1), (λ p. omega arith, (λ p. omega arith, (λ p. omega arith, (λ p. omega arith, (λ p. omega arith, tt))))))))))))
 
 -- its third was asked for behind z
-q_behind : IsKeptWhenAsked worlds q_right 2 3
-q_behind = kept_by_moves q_right 2 3 (λ p. omega arith, (λ p. omega arith, (λ p. omega arith, (λ p. omega arith, (λ p. omega arith, (λ p. omega arith, (λ p. omega arith, (λ p. omega arith, (λ p. omega arith, (λ p. omega arith, (λ p. omega arith, (λ p. omega (arith, p.0), tt))))))))))))
+q_after : IsKeptWhenAsked worlds q_right 2 3
+q_after = kept_by_moves q_right 2 3 (λ p. omega arith, (λ p. omega arith, (λ p. omega arith, (λ p. omega arith, (λ p. omega arith, (λ p. omega arith, (λ p. omega arith, (λ p. omega arith, (λ p. omega arith, (λ p. omega arith, (λ p. omega arith, (λ p. omega (arith, p.0), tt))))))))))))
 
 p_given : IsGivenBy worlds p_right 0 0
 p_given = given_by_moves p_right 0 0 (λ p. omega arith, (λ p. omega arith, (λ p. omega arith, (λ p. omega arith, (λ p. omega arith, (λ p. omega arith, (λ p. omega arith, (λ p. omega arith, (λ p. omega arith, (λ p. omega arith, (λ p. omega arith, (λ p. omega arith, tt))))))))))))
@@ -277,7 +277,7 @@ p_paged = record {
       one_at (λ k page. (first : ℕ) → IsFirstNumber (lines_of_page k p_right) first → IsOldestKept worlds p_right k first) 0 p_right.pages
       (λ first is. absurd is, tt)
       k k page here (omega arith) first is;
-  behind = λ k last page here one is.
+  following = λ k last page here one is.
       one_at (λ k page. (last : ℕ) → 1 ≤ last → IsLastNumber page.after last → IsKeptWhenAsked worlds p_right k last) 0 p_right.pages
       (λ last one is. absurd (omega (arith, one, is)), tt)
       k k page here (omega arith) last one is;
@@ -350,12 +350,12 @@ q_paged = record {
         ),
       )
       k k page here (omega arith) first none is;
-  behind = λ k last page here one is.
+  following = λ k last page here one is.
       one_at (λ k page. (last : ℕ) → 1 ≤ last → IsLastNumber page.after last → IsKeptWhenAsked worlds q_right k last) 0 q_right.pages (
         λ last one is. absurd (omega (arith, one, is)),
         (
           λ last one is. absurd (omega (arith, one, is)),
-          (λ last one is. rw (← last_of 3 last (omega arith) is) q_behind, tt),
+          (λ last one is. rw (← last_of 3 last (omega arith) is) q_after, tt),
         ),
       )
       k k page here (omega arith) last one is;

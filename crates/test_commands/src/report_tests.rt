@@ -127,7 +127,7 @@ fn known_twice(rt: &impl Abort, alloc: Global) -> LogEntries {
 }
 
 // Of two pages, the second behind a break.
-fn logged_behind_break(rt: &impl Abort, alloc: Global) -> LoggedLines {
+fn logged_after_break(rt: &impl Abort, alloc: Global) -> LoggedLines {
     logged_lines(alloc, &tiles(rt, alloc), known_twice(rt, alloc)).expect(rt, "memory")
 }
 
@@ -144,7 +144,7 @@ fn logged_once(rt: &impl Abort, alloc: Global) -> LoggedLines {
 fn logged(rt: &impl Abort, alloc: Global, version: Version) -> LoggedLines {
     match version {
         Version::One => logged_once(rt, alloc),
-        Version::Two { .. } => logged_behind_break(rt, alloc),
+        Version::Two { .. } => logged_after_break(rt, alloc),
     }
 }
 

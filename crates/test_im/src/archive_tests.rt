@@ -1,7 +1,7 @@
 //! What the form of an archive's query asks for: what is written of a value is read back (XEP-0313, section 4.1).
 use base_io::Text;
 use im_mam::MamQuery;
-use mam_pages::{PageQuery, Place};
+use mam_pages::{PagePosition, PageQuery};
 use std::alloc::Global;
 use std::process::Abort;
 use xml_trees::Tree;
@@ -19,7 +19,7 @@ fn filtered(rt: &impl Abort, alloc: Global, row: &Row) -> Tree {
         peer: Some(Text::from_str(alloc, row.0).expect(rt, "memory")),
         start: row.1,
         end: row.2,
-        place: Place::First,
+        position: PagePosition::First,
         max: None,
     };
     let queryid = Text::new(alloc);

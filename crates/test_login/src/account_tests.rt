@@ -64,18 +64,18 @@ fn accounts_of(
 
 // Whether each name that was given is found at its place, and no other name is.
 fn are_found(accounts: &Accounts, given: &[(&'static str, u32)]) -> bool {
-    let mut place: u32 = 0;
+    let mut position: u32 = 0;
     for row in given {
         let Some(found) = accounts.find(row.0) else {
             return false;
         };
         let credentials = found.credentials;
-        if found.place != place || credentials.iterations != row.1 {
+        if found.position != position || credentials.iterations != row.1 {
             return false;
         }
-        place = place.saturating_add(1);
+        position = position.saturating_add(1);
     }
-    accounts.find("nobody").is_none() && accounts.get(place).is_none()
+    accounts.find("nobody").is_none() && accounts.get(position).is_none()
 }
 
 fn is_judged(accounts: Result<Accounts, AccountsFault>, row: &Row) -> bool {

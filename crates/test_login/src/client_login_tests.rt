@@ -223,7 +223,7 @@ fn answer_to(
 }
 
 // What comes of the next item. Behind an end nothing comes.
-fn answer_behind(
+fn answer_after(
     rt: &impl Abort,
     alloc: Global,
     account: &mut ClientAccount,
@@ -254,7 +254,7 @@ fn last_answer(
 ) -> Answer {
     let mut answer = first;
     for item in sent {
-        answer = answer_behind(rt, alloc, account, answer.next, item);
+        answer = answer_after(rt, alloc, account, answer.next, item);
     }
     answer
 }
@@ -345,7 +345,7 @@ fn goes_on(
     (bytes, sent): (&str, Sent),
 ) -> Answer {
     assert!(rt; answer.bytes.as_slice() == bytes.as_bytes());
-    answer_behind(rt, alloc, account, answer.next, &sent)
+    answer_after(rt, alloc, account, answer.next, &sent)
 }
 
 // A login of an account.

@@ -104,7 +104,7 @@ fn add(alloc: Global, index: &mut NameIndex, name: &str) -> Result<(), NoMemory>
 }
 
 /// The places of two names, of which the first was added behind another one.
-fn places(alloc: Global, name: &str, absent: &str) -> Result<[Option<usize>; 2], NoMemory> {
+fn positions(alloc: Global, name: &str, absent: &str) -> Result<[Option<usize>; 2], NoMemory> {
     let mut index = NameIndex::new(alloc);
     add(alloc, &mut index, "phone")?;
     add(alloc, &mut index, name)?;
@@ -118,7 +118,7 @@ fn bytes_lists_and_names_are_gathered(rt: HostRuntime) {
         is_gathered(alloc, b"abcd-ef") == Ok(true)
             && are_listed(alloc, &[3, 1]) == Ok(true)
             && is_name_copied(alloc, "phone") == Ok(true)
-            && places(alloc, "desk", "watch") == Ok([Some(1), None])
+            && positions(alloc, "desk", "watch") == Ok([Some(1), None])
     );
 }
 

@@ -4,17 +4,17 @@ ghost use Rattle.sm_live.specs.Sessions.{session_at};
 
 use base_io::{Bytes, Text};
 use sm_acks::MOST_UNACKNOWLEDGED;
-use sm_live::{Live, SeatFault};
+use sm_live::{Live, ReservationFault};
 use std::alloc::Global;
 use std::process::Abort;
 
-// Reserves a seat of account 7, for a connection that has no session.
-fn seat(rt: &impl Abort, live: &mut Live, conn: u64)
-    ensures seat { live.new.seat ≡ Some 7 }
+// Reserves a reservation of account 7, for a connection that has no session.
+fn reservation(rt: &impl Abort, live: &mut Live, conn: u64)
+    ensures reservation { live.new.reservation ≡ Some 7 }
     ensures conn { session_at conn live.new.sessions ≡ None }
 {
-    live.reserve_seat(7).expect(rt, "a seat");
-    assert!(rt; live.told_at(conn).is_none())
+    live.reserve_session(7).expect(rt, "a seat");
+    assert!(rt; live.info_at(conn).is_none())
 }
 
 // Puts a stanza, where the session lives and fewer than the most wait.
@@ -28,7 +28,7 @@ fn put(rt: &impl Abort, alloc: Global, live: &mut Live, number: u64, text: &[u8]
 
 // Binds a session of account 7 on connection 1 that can be resumed.
 fn bind(rt: &impl Abort, alloc: Global, live: &mut Live) {
-    seat(rt, live, 1);
+    reservation(rt, live, 1);
     let resource = Text::from_str(alloc, "phone").expect(rt, "memory");
     let number = live.bind(7, resource, 1).number;
     assert!(rt; live.told(number).is_some());
@@ -58,11 +58,11 @@ fn resent(rt: &impl Abort, alloc: Global, live: &Live, h: u32) -> Bytes {
 
 // Resumes with a count on connection 2; how many stanzas wait there then.
 fn resumed(rt: &impl Abort, live: &mut Live, h: u32) -> Option<u64> {
-    seat(rt, live, 2);
+    reservation(rt, live, 2);
     if live.resume("0000000000000001", 7, h, 2).is_err() {
         return None;
     }
-    match live.told_at(2) {
+    match live.info_at(2) {
         Some(told) => Some(told.waiting),
         None => None,
     }
@@ -99,8 +99,8 @@ fn is_text(text: String, expected: &str) -> bool {
 
 #[test]
 fn refusals_are_printed(rt: HostRuntime) {
-    let used_up = SeatFault::NumbersUsedUp;
-    let memory = SeatFault::NoMemory;
+    let used_up = ReservationFault::NumbersUsedUp;
+    let memory = ReservationFault::NoMemory;
     let text = format!(in rt.alloc(); "{used_up}, {memory}").expect(&rt, "memory");
     assert!(rt;
         is_text(

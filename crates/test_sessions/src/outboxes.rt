@@ -48,13 +48,13 @@ fn comes_back(
     alloc: Global,
     h: u32,
     texts: &[u8],
-    behind: Option<[u64; 3]>,
+    following: Option<[u64; 3]>,
 ) -> bool {
     let mut out = Bytes::new(alloc);
     let mut session = session(rt, alloc);
     fill(rt, alloc, &mut session, &mut out);
     session.append_resent(h, &mut out).expect(rt, "memory");
-    out.as_slice() == texts && session.handled() == 1 && taken(&mut session, h) == behind
+    out.as_slice() == texts && session.handled() == 1 && taken(&mut session, h) == following
 }
 
 // Counts, what is sent at once and then again, and what is so behind the acknowledgement; the last is too high.
@@ -67,8 +67,8 @@ static COUNTS: [(u32, &[u8], Option<[u64; 3]>); 4] = [
 
 #[test]
 fn sessions_come_back_with_what_was_not_handled(rt: HostRuntime) {
-    for (h, texts, behind) in COUNTS {
-        assert!(rt; comes_back(&rt, rt.alloc(), h, texts, behind));
+    for (h, texts, following) in COUNTS {
+        assert!(rt; comes_back(&rt, rt.alloc(), h, texts, following));
     }
 }
 

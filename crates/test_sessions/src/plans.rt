@@ -7,7 +7,7 @@ use base_io::{Bytes, Text};
 use im_jid::Jid;
 use im_payload::CARBONS;
 use im_stanza::{CLIENT, Message, MessageKind};
-use sm_live::{Live, Told};
+use sm_live::{Live, SessionInfo};
 use srv_login::{Account, AccountList, Accounts};
 use srv_route::{Archiving, Plan, plan};
 use std::alloc::Global;
@@ -155,13 +155,13 @@ static ROWS: [Row; 17] = [
     ),
 ];
 
-// Reserves a seat of an account, for a connection that has no session.
-fn seat(rt: &impl Abort, live: &mut Live, account: u32, conn: u64)
-    ensures seat { live.new.seat ≡ Some account }
+// Reserves a reservation of an account, for a connection that has no session.
+fn reservation(rt: &impl Abort, live: &mut Live, account: u32, conn: u64)
+    ensures reservation { live.new.reservation ≡ Some account }
     ensures conn { session_at conn live.new.sessions ≡ None }
 {
-    live.reserve_seat(account).expect(rt, "a seat");
-    assert!(rt; live.told_at(conn).is_none())
+    live.reserve_session(account).expect(rt, "a seat");
+    assert!(rt; live.info_at(conn).is_none())
 }
 
 fn present(live: &mut Live, number: u64, available: bool, priority: i8) {
@@ -177,7 +177,7 @@ fn want_copies(live: &mut Live, number: u64, carbons: bool) {
 }
 
 fn bind(rt: &impl Abort, alloc: Global, live: &mut Live, given: &Given, conn: u64) {
-    seat(rt, live, given.0, conn);
+    reservation(rt, live, given.0, conn);
     let resource = Text::from_str(alloc, given.1).expect(rt, "memory");
     let number = live.bind(given.0, resource, conn).number;
     present(live, number, given.2, given.3);

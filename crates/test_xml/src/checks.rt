@@ -18,7 +18,7 @@ fn is_told(told: Checked, text: Bytes, sound: bool) -> bool {
 }
 
 /// The header, a part behind it so many times, and a last part. Before the times stands what ends the header's line.
-fn behind(rt: &impl Abort, alloc: Global, end: &str, part: (&str, usize), last: &str) -> Bytes {
+fn following(rt: &impl Abort, alloc: Global, end: &str, part: (&str, usize), last: &str) -> Bytes {
     let mut bytes = Bytes::new(alloc);
     append(rt, &mut bytes, HEADER);
     append(rt, &mut bytes, end.as_bytes());
@@ -56,8 +56,8 @@ static STREAMS: [(&str, &str, bool); 9] = [
 fn streams_are_told(rt: HostRuntime) {
     let alloc = rt.alloc();
     for (stream, lines, sound) in &STREAMS {
-        let told = told(&rt, alloc, behind(&rt, alloc, "", ("", 0), stream));
-        assert!(rt; is_told(told, behind(&rt, alloc, "\n", ("", 0), lines), *sound));
+        let told = told(&rt, alloc, following(&rt, alloc, "", ("", 0), stream));
+        assert!(rt; is_told(told, following(&rt, alloc, "\n", ("", 0), lines), *sound));
     }
 }
 
@@ -87,11 +87,15 @@ static REPEATED: [(Repeated, (&str, &str, bool)); 5] = [
 fn streams_are_told_over_many_pieces(rt: HostRuntime) {
     let alloc = rt.alloc();
     for ((part, lines, times), (stream, last, sound)) in &REPEATED {
-        let told = told(&rt, alloc, behind(&rt, alloc, "", (part, *times), stream));
+        let told = told(
+            &rt,
+            alloc,
+            following(&rt, alloc, "", (part, *times), stream),
+        );
         assert!(rt;
             is_told(
                 told,
-                behind(&rt, alloc, "\n", (lines, *times), last),
+                following(&rt, alloc, "\n", (lines, *times), last),
                 *sound
             )
         );

@@ -83,7 +83,7 @@ fn told_of(rt: &impl Abort, alloc: Global, limits: Limits, first: &[u8], others:
 }
 
 /// A fault at a place behind a header of so many bytes.
-fn behind(header: &[u8], found: Option<(u64, Why)>) -> Option<Fault> {
+fn following(header: &[u8], found: Option<(u64, Why)>) -> Option<Fault> {
     let (at, why) = found?;
     Some(Fault {
         at: at.saturating_add(header.len() as u64),
@@ -193,10 +193,10 @@ static FAULTS: [Row; 62] = [
 ];
 
 #[test]
-fn each_fault_has_its_place(rt: HostRuntime) {
+fn each_fault_has_its_position(rt: HostRuntime) {
     for (bytes, found) in &FAULTS {
         let (fault, _, _) = told_of(&rt, rt.alloc(), Limits::server(), HEADER, bytes);
-        assert!(rt; fault == behind(HEADER, *found));
+        assert!(rt; fault == following(HEADER, *found));
     }
 }
 
@@ -261,7 +261,7 @@ fn elements_are_as_large_as_the_limits(rt: HostRuntime) {
     let alloc = rt.alloc();
     for (before, inside) in &LARGEST {
         let fault = fault_in(&rt, alloc, repeated(&rt, alloc, before, inside));
-        assert!(rt; fault == behind(HEADER, inside.3));
+        assert!(rt; fault == following(HEADER, inside.3));
     }
 }
 
@@ -321,7 +321,7 @@ static LIMITED: [Row; 18] = [
 fn each_limit_is_told_past_its_bound(rt: HostRuntime) {
     for (bytes, found) in &LIMITED {
         let (fault, _, _) = told_of(&rt, rt.alloc(), SMALL, SHORT_HEADER, bytes);
-        assert!(rt; fault == behind(SHORT_HEADER, *found));
+        assert!(rt; fault == following(SHORT_HEADER, *found));
     }
 }
 

@@ -32,12 +32,12 @@ told_fault (Some fault) part = wrong_with (fault_line fault.at (why_name fault.w
 unfoldable pub told_last : State → Told
 told_last s = told_fault s.fault (part_of s)
 
-abbrev pub told_behind : List ℕ → Told → Told
-told_behind line rest = record { text = line ++ rest.text; sound = rest.sound }
+abbrev pub told_after : List ℕ → Told → Told
+told_after line rest = record { text = line ++ rest.text; sound = rest.sound }
 
 -- an item's line and what is told behind it; behind a strange header nothing is told
 abbrev pub told_item : Option ℕ → List ℕ → Told → Told
-told_item None line rest = told_behind line rest
+told_item None line rest = told_after line rest
 told_item (Some at) line rest = wrong_with (fault_line at (codes "InvalidNamespace"))
 
 abbrev pub told_items : List Item → Told → Told

@@ -3,7 +3,7 @@
 //! The bytes go to a framer 512 at a time, and its items are written at once, so that only those of one piece are
 //! held. After the last piece `part` tells what is unfinished.
 ghost use Rattle.std.specs.Prelude.{◌≡◌, ℕ, List, false, None, IfOk, OnOk};
-ghost use Rattle.xml_check.specs.Checked.{Told, told, told_behind, told_items, told_last, wrong_with};
+ghost use Rattle.xml_check.specs.Checked.{Told, told, told_after, told_items, told_last, wrong_with};
 ghost use Rattle.xml_check.specs.Lines;
 ghost use Rattle.xml_check.specs.Lines.{fault_line};
 ghost use Rattle.xml_check.specs.Pieces.{IsToldOf, or_rest, or_strange, told_from, told_with};
@@ -29,7 +29,7 @@ pub struct Checked {
 
 // Tells items in order. Where a header is strange, its place is the answer, and nothing is told from it on.
 fn tell_items(items: &[Item], text: &mut Bytes) -> Result<Option<u64>, NoMemory>
-    ensures { IfOk result (λ strange. (last : Told) → told_behind text.old.items (told_items items.now last) ≡ told_behind text.new.items (or_strange strange last)) }
+    ensures { IfOk result (λ strange. (last : Told) → told_after text.old.items (told_items items.now last) ≡ told_after text.new.items (or_strange strange last)) }
 {
     for item in items {
         if let Some(at) = strange_at(item) {
@@ -42,7 +42,7 @@ fn tell_items(items: &[Item], text: &mut Bytes) -> Result<Option<u64>, NoMemory>
 
 // Tells the items of a piece, and answers whether that was all, since a header is strange.
 fn tell_sound(alloc: Global, items: &[Item], text: &mut Bytes) -> Result<bool, NoMemory>
-    ensures { IfOk result (λ over. (rest : Told) → told_behind text.old.items (told_items items.now rest) ≡ or_rest over text.new.items rest) }
+    ensures { IfOk result (λ over. (rest : Told) → told_after text.old.items (told_items items.now rest) ≡ or_rest over text.new.items rest) }
 {
     match tell_items(items, text)? {
         None => Ok(false),
@@ -55,7 +55,7 @@ fn tell_sound(alloc: Global, items: &[Item], text: &mut Bytes) -> Result<bool, N
 
 // Tells the items before a fault, and the fault unless a header before it is strange.
 fn tell_fault(alloc: Global, items: &[Item], fault: Fault, text: &mut Bytes) -> Result<(), NoMemory>
-    ensures { OnOk result (wrong_with text.new.items ≡ told_behind text.old.items (told_items items.now (wrong_with (fault_line fault.at (Lines.why_name fault.why))))) }
+    ensures { OnOk result (wrong_with text.new.items ≡ told_after text.old.items (told_items items.now (wrong_with (fault_line fault.at (Lines.why_name fault.why))))) }
 {
     match tell_items(items, text)? {
         None => append_fault(alloc, text, fault.at, why_name(fault.why))?,
@@ -92,7 +92,7 @@ fn tell_piece(
 #[tactic(auto, unfolding(crate::specs::Checked::told_last))]
 fn tell_end(alloc: Global, framer: &Framer, text: &mut Bytes) -> Result<bool, NoMemory>
     requires { framer.now.fault ≡ None }
-    ensures { IfOk result (λ sound. told_with text.new.items sound ≡ told_behind text.old.items (told_last framer.now)) }
+    ensures { IfOk result (λ sound. told_with text.new.items sound ≡ told_after text.old.items (told_last framer.now)) }
 {
     match framer.part() {
         None => {
@@ -115,7 +115,7 @@ fn tell_pieces(
 ) -> Result<bool, NoMemory>
     requires { framer.old.fault ≡ None }
     ensures sound { IfOk result (λ over. over ≡ false → framer.new.fault ≡ None) }
-    ensures told { IfOk result (λ over. told_behind text.old.items (told_from framer.old input.now) ≡ or_rest over text.new.items (told_last framer.new)) }
+    ensures told { IfOk result (λ over. told_after text.old.items (told_from framer.old input.now) ≡ or_rest over text.new.items (told_last framer.new)) }
 {
     let mut rest = input;
     while !rest.is_empty() {

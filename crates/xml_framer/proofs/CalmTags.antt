@@ -32,7 +32,7 @@ not_quote q b h differs other = ⊎_elim
 
 record Step (q : ℕ) (inside : Bool) (b : ℕ) : Type 0 where
   on : goes_on_in (open_in q inside) b ≡ true
-  behind : quote_behind (open_in q inside) b ≡ open_in q (next_inside q inside b)
+  following : quote_behind (open_in q inside) b ≡ open_in q (next_inside q inside b)
 
 step : (q b : ℕ) (inside : Bool) → is_quote q ≡ true → is_calm (other_of q) b ≡ true → Step q inside b
 step q b true h calm =
@@ -40,7 +40,7 @@ step q b true h calm =
     let greater = not-true _ (and_parts (not (b == 62)) _ low.1).0 in
     record {
       on = rw (low.0, greater) refl;
-      behind = ⊎_elim (λ (t : (b == q) ≡ true). rw t refl) (λ (f : (b == q) ≡ false). rw f refl) (cases_Bool (b == q));
+      following = ⊎_elim (λ (t : (b == q) ≡ true). rw t refl) (λ (f : (b == q) ≡ false). rw f refl) (cases_Bool (b == q));
     }
 step q b false h calm =
     let low = and_parts (ltb b 128) _ calm in
@@ -48,7 +48,7 @@ step q b false h calm =
     let greater = not-true _ rest.0 in
     record {
       on = rw (low.0, greater) refl;
-      behind = ⊎_elim
+      following = ⊎_elim
           (λ (t : (b == q) ≡ true). let same = eqb-true b q t in rw (ap is_quote same ∙ h, t) (ap (λ x. Some x) same))
           (λ (f : (b == q) ≡ false). rw (not_quote q b h f (not-true _ rest.1), f) refl)
           (cases_Bool (b == q));
@@ -56,17 +56,17 @@ step q b false h calm =
 
 record Goes (q : ℕ) (inside : Bool) (bs : List ℕ) : Type 0 where
   on : go_on_in (open_in q inside) bs ≡ true
-  behind : quote_after (open_in q inside) bs ≡ open_in q (inside_after q inside bs)
+  following : quote_after (open_in q inside) bs ≡ open_in q (inside_after q inside bs)
 
 goes : (q : ℕ) (inside : Bool) (bs : List ℕ) → is_quote q ≡ true → list_all (is_calm (other_of q)) bs ≡ true → Goes q inside bs
-goes q inside [] h calm = record { on = refl; behind = refl }
+goes q inside [] h calm = record { on = refl; following = refl }
 goes q inside (b ∷ bs) h calm =
     let parts = and_parts (is_calm (other_of q) b) (list_all (is_calm (other_of q)) bs) calm in
     let here = step q b inside h parts.0 in
     let more = goes q (next_inside q inside b) bs h parts.1 in
     record {
-      on = and_from _ _ here.on (ap (λ o. go_on_in o bs) here.behind ∙ more.on);
-      behind = ap (λ o. quote_after o bs) here.behind ∙ more.behind;
+      on = and_from _ _ here.on (ap (λ o. go_on_in o bs) here.following ∙ more.on);
+      following = ap (λ o. quote_after o bs) here.following ∙ more.following;
     }
 
 whole : (bs : List ℕ) → take (length bs) bs ≡ bs
@@ -79,7 +79,7 @@ calm_front q other bs calm inside h other_is calm_is all inside_is =
     record {
       bound = le_refl (length bs);
       inside = ap (go_on_in (Some q)) (whole bs) ∙ g.on;
-      behind_is = ap (open_in q) inside_is ∙ (sym g.behind ∙ ap (quote_after (Some q)) (sym (whole bs)));
+      after_is = ap (open_in q) inside_is ∙ (sym g.following ∙ ap (quote_after (Some q)) (sym (whole bs)));
     }
 
 nothing_left : (i : ℕ) (bs : List ℕ) → length bs ≤ i → drop i bs ≡ []
@@ -102,7 +102,7 @@ calm_at_end q other i bs calm inside h other_is end calm_is inside_is all =
     (ap (inside_after q inside) (sym none) ∙ inside_is)
 
 -- what holds of a front holds of the bytes that it begins
-pub front_goes : (quote behind : Option ℕ) (near bytes : List ℕ) → near ≡ take (length near) bytes → length near ≤ length bytes → GoesOnTo quote near (length near) behind → GoesOnTo quote bytes (length near) behind
-front_goes quote behind near bytes is_front bound h =
+pub front_goes : (quote following : Option ℕ) (near bytes : List ℕ) → near ≡ take (length near) bytes → length near ≤ length bytes → GoesOnTo quote near (length near) following → GoesOnTo quote bytes (length near) following
+front_goes quote following near bytes is_front bound h =
     let same : take (length near) bytes ≡ take (length near) near = sym is_front ∙ sym (whole near) in
-    record { bound = bound; inside = ap (go_on_in quote) same ∙ h.inside; behind_is = h.behind_is ∙ ap (quote_after quote) (sym same) }
+    record { bound = bound; inside = ap (go_on_in quote) same ∙ h.inside; after_is = h.after_is ∙ ap (quote_after quote) (sym same) }

@@ -10,7 +10,7 @@ use Rattle.xml_tokens.specs.Tags.{is_end}
 use Rattle.xml_tokens.specs.Utf8.{continues}
 use Rattle.xml_framer.specs.Machine.{IsFrontOf, behind_byte, goes_on, is_too_long, run, step, taken, taken_in}
 use Rattle.xml_framer.specs.MarkupSteps.{in_phase}
-use Rattle.xml_framer.specs.States.{OpenElement, State, Turn, counted, fails, gathered, gathered_in, gives, item_ended, may_declare, moved, token_fails, token_place, turn}
+use Rattle.xml_framer.specs.States.{OpenElement, State, Turn, counted, fails, gathered, gathered_in, gives, item_ended, may_declare, moved, token_fails, token_position, turn}
 use Rattle.xml_framer.specs.TagSteps.{added_to, begun, closed, closed_open, element_from, ends, ends_stream, footer_closes, footer_gathered, headed, header_items, header_tag, heads, in_footer, in_opening, in_tag, is_header, is_spelled, is_too_deep, joined_text, leaf, level, misplaced, shallower, starts, tag_anew, tag_closes, tag_gathered, tag_here, tag_in, tag_inside, tag_outside, unlimited}
 use Rattle.xml_trees.specs.Tidied.{tidied}
 use Rattle.xml_trees.specs.Trees.{Elem}
@@ -23,12 +23,12 @@ use Rattle.xml_framer.specs.declared.states.Phase.{Phase}
 use Rattle.xml_framer.specs.declared.states.Phase.TheVariants as phase
 
 -- other items before those of a turn
-abbrev behind : List Item → Turn → Turn
-behind front t = turn t.state (front ++ t.items)
+abbrev following : List Item → Turn → Turn
+following front t = turn t.state (front ++ t.items)
 
 -- a change of a turn keeps the items before it
 abbrev Keeps : List Item → (Turn → Turn) → Turn → Type 0
-Keeps front f t = f (behind front t) ≡ behind front (f t)
+Keeps front f t = f (following front t) ≡ following front (f t)
 
 given : (front : List Item) (s : State) (items more : List Item) → turn s ((front ++ items) ++ more) ≡ turn s (front ++ (items ++ more))
 given front s items more = ap (λ all. turn s all) (append_assoc front items more)
@@ -73,7 +73,7 @@ unfolding tag_inside
 inside_keeps front t = either front ends (λ u. starts u (tag_here t.state)) t (is_end t.state.token) (ends_keep front t) (starts_keep front t (tag_here t.state))
 
 heads_keep : (front : List Item) (t : Turn) (r : Result Tag StartWhy) → Keeps front (λ u. heads u r) t
-heads_keep front t (Ok tag) = given front (headed t.state tag) t.items (header_items t.state.places.token_at (header_of tag) tag.empty)
+heads_keep front t (Ok tag) = given front (headed t.state tag) t.items (header_items t.state.positions.token_at (header_of tag) tag.empty)
 heads_keep front t (Err fault) = refl
 
 header_keeps : (front : List Item) (t : Turn) → Keeps front header_tag t
@@ -145,8 +145,8 @@ taken_keeps front t b = mode_keeps front t.state.lexical.mode t b
 goes_keep : (front : List Item) (t : Turn) (b : ℕ) → Keeps front (λ u. goes_on u b) t
 unfolding goes_on
 goes_keep front t b =
-    let long : Turn → Turn = λ u. moved u (fails t.state t.state.places.item_at why.TooLong) in
-    let broken : Turn → Turn = λ u. moved u (fails t.state (token_place t.state) why.Encoding) in
+    let long : Turn → Turn = λ u. moved u (fails t.state t.state.positions.item_at why.TooLong) in
+    let broken : Turn → Turn = λ u. moved u (fails t.state (token_position t.state) why.Encoding) in
     let on : Turn → Turn = λ u. behind_byte (taken (moved u (counted t.state)) b) b in
     either front long (λ u. if not (continues t.state.pending b) then broken u else on u) t (is_too_long t.state b) refl
     (either front broken on t (not (continues t.state.pending b)) refl (ap (λ u. behind_byte u b) (taken_keeps front (moved t (counted t.state)) b)))

@@ -9,7 +9,7 @@ use Rattle.xml_framer.proofs.PlainTags.{byte_goes, never, tag_run_taken, tagging
 use Rattle.xml_framer.proofs.PlainTexts.{none_is, room_after, short, takes_is, used_next}
 use Rattle.xml_framer.specs.Machine.{goes_on, is_too_long, run, step, taken}
 use Rattle.xml_framer.specs.ManyBytes.{GoesOnTo, LeavesRoom, TakesRun, begins_tag, go_on_in, goes_on_in, is_unquoted, opens_tag, tag_taken, takes_opening, takes_tag}
-use Rattle.xml_framer.specs.States.{State, Turn, moved, next_place, token_begun, turn}
+use Rattle.xml_framer.specs.States.{State, Turn, moved, next_position, token_begun, turn}
 use Rattle.xml_framer.specs.TagSteps.{in_opening, in_tag}
 use Rattle.xml_framer.specs.TextSteps.{in_text, inside}
 use Rattle.xml_framer.specs.declared.states.Mode.TheVariants as mode
@@ -46,7 +46,7 @@ opened (a ∷ b ∷ bs) h =
     let parts = and_parts (a == 60) _ h in
     let less = eqb-true a 60 parts.0 in
     let o = opens_is b parts.1 in
-    record { bound = omega arith; inside = rw less (and_from _ _ o.on refl); behind_is = rw less (sym o.none) }
+    record { bound = omega arith; inside = rw less (and_from _ _ o.on refl); after_is = rw less (sym o.none) }
 
 -- ---- the first two bytes
 
@@ -56,7 +56,7 @@ between_tags s = record s { lexical = record s.lexical { mode = mode.Text; quote
 
 abbrev opening : State → State
 opening s = record s {
-  places = record s.places { token_at = s.places.at; at = next_place s.places.at; used = used_next s.places.used };
+  positions = record s.positions { token_at = s.positions.at; at = next_position s.positions.at; used = used_next s.positions.used };
   lexical = record s.lexical { mode = mode.Opening; quote = None; in_run = false; returned = false; brackets = 0 };
   token = s.token ++ 60 ∷ [];
   pending = [];
@@ -74,27 +74,27 @@ unfolding goes_on taken in_text inside utf8_next
 less_opens t s inner long = rw (long, inner) refl
 
 byte_opens : (t : Turn) (s : State) (b : ℕ) → Opens b → is_some s.here ≡ true → is_too_long (opening s) b ≡ false
-    → step (moved t (opening s)) b ≡ moved t (tagging (token_begun s mode.Tag) (next_place (next_place s.places.at)) (used_next (used_next s.places.used)) ((s.token ++ 60 ∷ []) ++ b ∷ []) (quote_behind None b))
+    → step (moved t (opening s)) b ≡ moved t (tagging (token_begun s mode.Tag) (next_position (next_position s.positions.at)) (used_next (used_next s.positions.used)) ((s.token ++ 60 ∷ []) ++ b ∷ []) (quote_behind None b))
 unfolding goes_on taken in_opening in_tag utf8_next
 byte_opens t s b o inner long = rw (long, o.low, o.bang, o.question, inner, never (b == 47), o.greater, o.low) refl
 
 -- where a tag has begun, both bytes lead to the same
-both_go : (t : Turn) (s : State) (b : ℕ) → Opens b → (0 < s.places.used → 2 ≤ s.limits.bytes - s.places.used)
-    → step (step (moved t (tagging (token_begun s mode.Tag) s.places.at s.places.used s.token None)) 60) b
-    ≡ moved t (tagging (token_begun s mode.Tag) (next_place (next_place s.places.at)) (used_next (used_next s.places.used)) ((s.token ++ 60 ∷ []) ++ b ∷ []) (quote_behind None b))
+both_go : (t : Turn) (s : State) (b : ℕ) → Opens b → (0 < s.positions.used → 2 ≤ s.limits.bytes - s.positions.used)
+    → step (step (moved t (tagging (token_begun s mode.Tag) s.positions.at s.positions.used s.token None)) 60) b
+    ≡ moved t (tagging (token_begun s mode.Tag) (next_position (next_position s.positions.at)) (used_next (used_next s.positions.used)) ((s.token ++ 60 ∷ []) ++ b ∷ []) (quote_behind None b))
 both_go t s b o room =
     let begun = token_begun s mode.Tag in
-    let first = short (tagging begun s.places.at s.places.used s.token None) 60 2 (omega arith) room in
-    let left : 0 < used_next s.places.used → 1 ≤ s.limits.bytes - used_next s.places.used = room_after s.places.used s.limits.bytes 1 room in
-    let second = short (tagging begun (next_place s.places.at) (used_next s.places.used) (s.token ++ 60 ∷ []) None) b 1 (omega arith) left in
-    ap (λ u. step u b) (byte_goes t begun s.places.at s.places.used s.token None 60 first refl refl)
-    ∙ byte_goes t begun (next_place s.places.at) (used_next s.places.used) (s.token ++ 60 ∷ []) None b second o.low (rw o.greater refl)
+    let first = short (tagging begun s.positions.at s.positions.used s.token None) 60 2 (omega arith) room in
+    let left : 0 < used_next s.positions.used → 1 ≤ s.limits.bytes - used_next s.positions.used = room_after s.positions.used s.limits.bytes 1 room in
+    let second = short (tagging begun (next_position s.positions.at) (used_next s.positions.used) (s.token ++ 60 ∷ []) None) b 1 (omega arith) left in
+    ap (λ u. step u b) (byte_goes t begun s.positions.at s.positions.used s.token None 60 first refl refl)
+    ∙ byte_goes t begun (next_position s.positions.at) (used_next s.positions.used) (s.token ++ 60 ∷ []) None b second o.low (rw o.greater refl)
 
-both_open : (t : Turn) (s : State) (b : ℕ) → Opens b → is_some s.here ≡ true → (0 < s.places.used → 2 ≤ s.limits.bytes - s.places.used)
-    → step (step (moved t (between_tags s)) 60) b ≡ step (step (moved t (tagging (token_begun s mode.Tag) s.places.at s.places.used s.token None)) 60) b
+both_open : (t : Turn) (s : State) (b : ℕ) → Opens b → is_some s.here ≡ true → (0 < s.positions.used → 2 ≤ s.limits.bytes - s.positions.used)
+    → step (step (moved t (between_tags s)) 60) b ≡ step (step (moved t (tagging (token_begun s mode.Tag) s.positions.at s.positions.used s.token None)) 60) b
 both_open t s b o inner room =
     let first = short (between_tags s) 60 2 (omega arith) room in
-    let left : 0 < used_next s.places.used → 1 ≤ s.limits.bytes - used_next s.places.used = room_after s.places.used s.limits.bytes 1 room in
+    let left : 0 < used_next s.positions.used → 1 ≤ s.limits.bytes - used_next s.positions.used = room_after s.positions.used s.limits.bytes 1 room in
     let second = short (opening s) b 1 (omega arith) left in
     ap (λ u. step u b) (less_opens t s inner first) ∙ (byte_opens t s b o inner second ∙ sym (both_go t s b o room))
 
@@ -103,7 +103,7 @@ record TakesOpening (s : State) : Type 0 where
   quote : s.lexical.quote ≡ None
   tags : takes_tag (token_begun s mode.Tag) ≡ true
   between : between_tags s ≡ s
-  begun : tagging (token_begun s mode.Tag) s.places.at s.places.used s.token None ≡ token_begun s mode.Tag
+  begun : tagging (token_begun s mode.Tag) s.positions.at s.positions.used s.token None ≡ token_begun s mode.Tag
 
 opening_is : (s : State) → takes_opening s ≡ true → TakesOpening s
 opening_is s h =
@@ -115,8 +115,8 @@ opening_is s h =
       quote = quote;
       tags = rw (text.no_fault, text.no_pending) refl;
       between = between_same s text.text quote text.no_pending text.no_fault;
-      begun = ap (λ q. tagging (token_begun s mode.Tag) s.places.at s.places.used s.token q) (sym quote)
-          ∙ tagging_same (token_begun s mode.Tag) (record { no_fault = text.no_fault; tag = refl; no_pending = text.no_pending }) s.places.at s.places.used s.token s.lexical.quote;
+      begun = ap (λ q. tagging (token_begun s mode.Tag) s.positions.at s.positions.used s.token q) (sym quote)
+          ∙ tagging_same (token_begun s mode.Tag) (record { no_fault = text.no_fault; tag = refl; no_pending = text.no_pending }) s.positions.at s.positions.used s.token s.lexical.quote;
     }
 
 opens : (t : Turn) (b : ℕ) (bs : List ℕ) → takes_opening t.state ≡ true → opens_tag b ≡ true → LeavesRoom t.state 2 → run t (60 ∷ b ∷ bs) ≡ run (moved t (token_begun t.state mode.Tag)) (60 ∷ b ∷ bs)

@@ -10,8 +10,8 @@ use Rattle.xml_tokens.specs.Tags.{quote_behind}
 use Rattle.xml_tokens.specs.Utf8.{utf8_next}
 use Rattle.xml_framer.proofs.PlainTexts.{empty_is, none_is, room_after, short, used_next}
 use Rattle.xml_framer.specs.Machine.{goes_on, is_too_long, run, step, taken}
-use Rattle.xml_framer.specs.ManyBytes.{GoesOnTo, KeepsQuote, LeavesRoom, TakesRun, is_quoted, is_unquoted, go_on_in, goes_on_in, is_tag, place_behind, quote_after, tag_taken, takes_tag, used_behind}
-use Rattle.xml_framer.specs.States.{State, Turn, moved, next_place, turn}
+use Rattle.xml_framer.specs.ManyBytes.{GoesOnTo, KeepsQuote, LeavesRoom, TakesRun, is_quoted, is_unquoted, go_on_in, goes_on_in, is_tag, position_after, quote_after, tag_taken, takes_tag, used_after}
+use Rattle.xml_framer.specs.States.{State, Turn, moved, next_position, turn}
 use Rattle.xml_framer.specs.TagSteps.{in_tag}
 use Rattle.xml_framer.specs.declared.states.Mode.{Mode}
 use Rattle.xml_framer.specs.declared.states.Mode.TheVariants as mode
@@ -19,7 +19,7 @@ use Rattle.xml_framer.specs.declared.states.Mode.TheVariants as mode
 -- a state in a tag
 abbrev pub tagging : State → ℕ → ℕ → List ℕ → Option ℕ → State
 tagging s at used token quote = record s {
-  places = record s.places { at = at; used = used };
+  positions = record s.positions { at = at; used = used };
   lexical = record s.lexical { mode = mode.Tag; quote = quote };
   token = token;
   pending = [];
@@ -27,12 +27,12 @@ tagging s at used token quote = record s {
 }
 
 pub byte_goes : (t : Turn) (s : State) (at used : ℕ) (token : List ℕ) (quote : Option ℕ) (b : ℕ) → is_too_long (tagging s at used token quote) b ≡ false → ltb b 128 ≡ true
-    → (b == 62 && not (is_some quote)) ≡ false → step (moved t (tagging s at used token quote)) b ≡ moved t (tagging s (next_place at) (used_next used) (token ++ b ∷ []) (quote_behind quote b))
+    → (b == 62 && not (is_some quote)) ≡ false → step (moved t (tagging s at used token quote)) b ≡ moved t (tagging s (next_position at) (used_next used) (token ++ b ∷ []) (quote_behind quote b))
 unfolding goes_on taken in_tag utf8_next
 byte_goes t s at used token quote b long low inside = rw (long, low, inside, low) refl
 
 goes : (t : Turn) (s : State) (bs : List ℕ) (at used : ℕ) (token : List ℕ) (quote : Option ℕ) → (0 < used → length bs ≤ s.limits.bytes - used) → go_on_in quote bs ≡ true
-    → run (moved t (tagging s at used token quote)) bs ≡ moved t (tagging s (place_behind bs at) (used_behind bs used) (token ++ bs) (quote_after quote bs))
+    → run (moved t (tagging s at used token quote)) bs ≡ moved t (tagging s (position_after bs at) (used_after bs used) (token ++ bs) (quote_after quote bs))
 goes t s [] at used token quote room inside = ap (λ l. moved t (tagging s at used l quote)) (sym (append-nil token))
 goes t s (b ∷ bs) at used token quote room inside =
     let parts = and_parts (goes_on_in quote b) (go_on_in (quote_behind quote b) bs) inside in
@@ -40,8 +40,8 @@ goes t s (b ∷ bs) at used token quote room inside =
     let left : 0 < used → length bs + 1 ≤ s.limits.bytes - used = λ counts. omega (arith, room counts) in
     let long = short (tagging s at used token quote) b (length bs + 1) (omega arith) left in
     ap (λ u. run u bs) (byte_goes t s at used token quote b long here.0 (not-true _ here.1))
-    ∙ (goes t s bs (next_place at) (used_next used) (token ++ b ∷ []) (quote_behind quote b) (room_after used s.limits.bytes (length bs) left) parts.1
-    ∙ ap (λ l. moved t (tagging s (place_behind (b ∷ bs) at) (used_behind (b ∷ bs) used) l (quote_after quote (b ∷ bs)))) (append_assoc token (b ∷ []) bs))
+    ∙ (goes t s bs (next_position at) (used_next used) (token ++ b ∷ []) (quote_behind quote b) (room_after used s.limits.bytes (length bs) left) parts.1
+    ∙ ap (λ l. moved t (tagging s (position_after (b ∷ bs) at) (used_after (b ∷ bs) used) l (quote_after quote (b ∷ bs)))) (append_assoc token (b ∷ []) bs))
 
 tag_is : (m : Mode) → is_tag m ≡ true → m ≡ mode.Tag
 tag_is mode.Tag e = refl
@@ -59,21 +59,21 @@ takes_is s h =
     record { no_fault = none_is s.fault (not-true _ fault.0); tag = tag_is s.lexical.mode tag.0; no_pending = empty_is s.pending tag.1 }
 
 pub tagging_same : (s : State) → TakesTag s → (at used : ℕ) (token : List ℕ) (quote : Option ℕ)
-    → tagging s at used token quote ≡ record s { places = record s.places { at = at; used = used }; lexical = record s.lexical { quote = quote }; token = token }
+    → tagging s at used token quote ≡ record s { positions = record s.positions { at = at; used = used }; lexical = record s.lexical { quote = quote }; token = token }
 tagging_same s h at used token quote =
-    let places = record s.places { at = at; used = used } in
+    let positions = record s.positions { at = at; used = used } in
     let lexical = record s.lexical { quote = quote } in
-    ap (λ m. record s { places = places; lexical = record lexical { mode = m }; token = token; pending = []; fault = None }) (sym h.tag)
-    ∙ (ap (λ p. record s { places = places; lexical = lexical; token = token; pending = p; fault = None }) (sym h.no_pending)
-    ∙ ap (λ f. record s { places = places; lexical = lexical; token = token; fault = f }) (sym h.no_fault))
+    ap (λ m. record s { positions = positions; lexical = record lexical { mode = m }; token = token; pending = []; fault = None }) (sym h.tag)
+    ∙ (ap (λ p. record s { positions = positions; lexical = lexical; token = token; pending = p; fault = None }) (sym h.no_pending)
+    ∙ ap (λ f. record s { positions = positions; lexical = lexical; token = token; fault = f }) (sym h.no_fault))
 
 tag_goes : (t : Turn) (bs : List ℕ) → takes_tag t.state ≡ true → LeavesRoom t.state (length bs) → go_on_in t.state.lexical.quote bs ≡ true → run t bs ≡ moved t (tag_taken t.state bs)
 tag_goes t bs takes room inside =
     let s = t.state in
     let same = tagging_same s (takes_is s takes) in
-    ap (λ u. run (moved t u) bs) (sym (same s.places.at s.places.used s.token s.lexical.quote))
-    ∙ (goes t s bs s.places.at s.places.used s.token s.lexical.quote room inside
-    ∙ ap (moved t) (same (place_behind bs s.places.at) (used_behind bs s.places.used) (s.token ++ bs) (quote_after s.lexical.quote bs)))
+    ap (λ u. run (moved t u) bs) (sym (same s.positions.at s.positions.used s.token s.lexical.quote))
+    ∙ (goes t s bs s.positions.at s.positions.used s.token s.lexical.quote room inside
+    ∙ ap (moved t) (same (position_after bs s.positions.at) (used_after bs s.positions.used) (s.token ++ bs) (quote_after s.lexical.quote bs)))
 
 pub tag_run_taken : (s new : State) (bytes within front : List ℕ) (n : ℕ) → takes_tag s ≡ true → within ≡ take (length within) bytes → length within ≤ length bytes → front ≡ take n within
     → n ≤ length within → LeavesRoom s (length within) → go_on_in s.lexical.quote front ≡ true → new ≡ tag_taken s front → TakesRun s new bytes n
@@ -126,25 +126,25 @@ goes_further quote now next bs d n h more =
     let within = h.bound in
     record {
       bound = omega (arith, length-drop d bs);
-      inside = ap (go_on_in quote) apart ∙ (go_on_append quote (take d bs) (take n (drop d bs)) ∙ and_from _ _ h.inside (ap (λ q. go_on_in q (take n (drop d bs))) (sym h.behind_is) ∙ more.inside));
-      behind_is = more.behind_is ∙ (ap (λ q. quote_after q (take n (drop d bs))) h.behind_is ∙ (sym (quote_append quote (take d bs) (take n (drop d bs))) ∙ ap (quote_after quote) (sym apart)));
+      inside = ap (go_on_in quote) apart ∙ (go_on_append quote (take d bs) (take n (drop d bs)) ∙ and_from _ _ h.inside (ap (λ q. go_on_in q (take n (drop d bs))) (sym h.after_is) ∙ more.inside));
+      after_is = more.after_is ∙ (ap (λ q. quote_after q (take n (drop d bs))) h.after_is ∙ (sym (quote_append quote (take d bs) (take n (drop d bs))) ∙ ap (quote_after quote) (sym apart)));
     }
 
 -- the rest of a slice is seen as a part of it
-pub goes_on_behind : (quote now next : Option ℕ) (bs : List ℕ) (d n : ℕ) → GoesOnTo quote bs d now → GoesOnTo now (take (length bs - d) (drop d bs)) n next → GoesOnTo quote bs (d + n) next
-goes_on_behind quote now next bs d n h more = goes_further quote now next bs d n h (subst (λ r. GoesOnTo now r n next) (take_rest bs d) more)
+pub goes_on_after : (quote now next : Option ℕ) (bs : List ℕ) (d n : ℕ) → GoesOnTo quote bs d now → GoesOnTo now (take (length bs - d) (drop d bs)) n next → GoesOnTo quote bs (d + n) next
+goes_on_after quote now next bs d n h more = goes_further quote now next bs d n h (subst (λ r. GoesOnTo now r n next) (take_rest bs d) more)
 
 pub one_further : (quote next : Option ℕ) (bs : List ℕ) (n b : ℕ) → KeepsQuote quote bs n → n < length bs → b ≡ get_or bs n 0 → goes_on_in quote b ≡ true → next ≡ quote_behind quote b → GoesOnTo quote bs (n + 1) next
-one_further quote next bs n b h within is on behind =
+one_further quote next bs n b h within is on following =
     let more : take (n + 1) bs ≡ take n bs ++ b ∷ [] = take_more bs n 0 within ∙ ap (λ x. take n bs ++ x ∷ []) (sym is) in
     record {
       bound = omega arith;
-      inside = ap (go_on_in quote) more ∙ (go_on_more quote (take n bs) b ∙ and_from _ _ h.inside (ap (λ q. goes_on_in q b) (sym h.behind_is) ∙ on));
-      behind_is = behind ∙ (ap (λ q. quote_behind q b) h.behind_is ∙ (sym (quote_more quote (take n bs) b) ∙ ap (quote_after quote) (sym more)));
+      inside = ap (go_on_in quote) more ∙ (go_on_more quote (take n bs) b ∙ and_from _ _ h.inside (ap (λ q. goes_on_in q b) (sym h.after_is) ∙ on));
+      after_is = following ∙ (ap (λ q. quote_behind q b) h.after_is ∙ (sym (quote_more quote (take n bs) b) ∙ ap (quote_after quote) (sym more)));
     }
 
 pub goes_nowhere : (quote : Option ℕ) (bs : List ℕ) → GoesOnTo quote bs 0 quote
-goes_nowhere quote bs = record { bound = omega arith; inside = refl; behind_is = refl }
+goes_nowhere quote bs = record { bound = omega arith; inside = refl; after_is = refl }
 
 -- ---- bytes that leave the open quote as it is
 
@@ -184,10 +184,10 @@ quoted_on quote (b ∷ bs) h =
 pub unquoted_front : (bs : List ℕ) → KeepsQuote None bs (prefix_len is_unquoted bs)
 unquoted_front bs =
     let on = unquoted_on (take (prefix_len is_unquoted bs) bs) (ap (list_all is_unquoted) (splits.take_prefix is_unquoted bs) ∙ splits.front_passes is_unquoted bs) in
-    record { bound = splits.prefix_within is_unquoted bs; inside = on.0; behind_is = on.1 }
+    record { bound = splits.prefix_within is_unquoted bs; inside = on.0; after_is = on.1 }
 
 pub quoted_front : (quote : ℕ) (bs : List ℕ) → KeepsQuote (Some quote) bs (prefix_len (is_quoted quote) bs)
 quoted_front quote bs =
     let p = is_quoted quote in
     let on = quoted_on quote (take (prefix_len p bs) bs) (ap (list_all p) (splits.take_prefix p bs) ∙ splits.front_passes p bs) in
-    record { bound = splits.prefix_within p bs; inside = on.0; behind_is = on.1 }
+    record { bound = splits.prefix_within p bs; inside = on.0; after_is = on.1 }

@@ -13,8 +13,8 @@ use Rattle.xml_tokens.specs.Characters.{is_control}
 use Rattle.xml_tokens.specs.Tags.{is_empty}
 use Rattle.xml_tokens.specs.Utf8.{is_lead, is_second, is_tail, continues, ends_forbidden_character, is_nothing, utf8_next, utf8_run}
 use Rattle.xml_framer.specs.Machine.{goes_on, is_too_long, run, step, taken}
-use Rattle.xml_framer.specs.ManyBytes.{LeavesRoom, TakesRun, is_plain, place_behind, takes_text, text_taken, used_behind}
-use Rattle.xml_framer.specs.States.{State, Turn, is_text, moved, next_place, run_begun, turn}
+use Rattle.xml_framer.specs.ManyBytes.{LeavesRoom, TakesRun, is_plain, position_after, takes_text, text_taken, used_after}
+use Rattle.xml_framer.specs.States.{State, Turn, is_text, moved, next_position, run_begun, turn}
 use Rattle.xml_framer.specs.TextSteps.{in_text, inside, text_inside}
 use Rattle.xml_framer.specs.declared.items.Item.{Item}
 use Rattle.xml_framer.specs.declared.states.Lexical.{Lexical}
@@ -47,17 +47,17 @@ pub short : (s : State) (b n : ℕ) → 0 < n → LeavesRoom s n → is_too_long
 unfolding is_too_long
 short s b n some room =
     ⊎_elim
-    (λ (counts : ltb 0 s.places.used ≡ true).
-    let within = room (ltb-true 0 s.places.used counts) in
-    let below : leb s.limits.bytes s.places.used ≡ false = grind (arith, nat_tests) in
+    (λ (counts : ltb 0 s.positions.used ≡ true).
+    let within = room (ltb-true 0 s.positions.used counts) in
+    let below : leb s.limits.bytes s.positions.used ≡ false = grind (arith, nat_tests) in
     rw (counts, below) refl)
-    (λ (nothing : ltb 0 s.places.used ≡ false). rw nothing refl)
-    (cases_Bool (ltb 0 s.places.used))
+    (λ (nothing : ltb 0 s.positions.used ≡ false). rw nothing refl)
+    (cases_Bool (ltb 0 s.positions.used))
 
 abbrev pub used_next : ℕ → ℕ
-used_next used = if used == 0 then 0 else next_place used
+used_next used = if used == 0 then 0 else next_position used
 
-next_le : (n : ℕ) → next_place n ≤ n + 1
+next_le : (n : ℕ) → next_position n ≤ n + 1
 next_le n = omega arith
 
 pub room_after : (used limit n : ℕ) → (0 < used → n + 1 ≤ limit - used) → 0 < used_next used → n ≤ limit - used_next used
@@ -71,7 +71,7 @@ room_after used limit n room counts = ⊎_elim
 -- a state in a run that doesn't end in a carriage return or a `]`
 abbrev pub running : State → ℕ → ℕ → List ℕ → List ℕ → State
 running s at used chars held = record s {
-  places = record s.places { at = at; used = used };
+  positions = record s.positions { at = at; used = used };
   lexical = record s.lexical { mode = mode.Text; in_run = true; returned = false; brackets = 0 };
   pending = held;
   chars = chars;
@@ -80,14 +80,14 @@ running s at used chars held = record s {
 
 character_ends : (t : Turn) (s : State) (at used : ℕ) (cs held : List ℕ) (b : ℕ) → Plain b → is_some s.here ≡ true → is_too_long (running s at used cs held) b ≡ false
     → ends_forbidden_character held b ≡ false → utf8_next held b ≡ Some []
-    → step (moved t (running s at used cs held)) b ≡ moved t (running s (next_place at) (used_next used) (cs ++ (held ++ b ∷ [])) [])
+    → step (moved t (running s at used cs held)) b ≡ moved t (running s (next_position at) (used_next used) (cs ++ (held ++ b ∷ [])) [])
 unfolding goes_on taken in_text inside text_inside
 character_ends t s at used cs held b plain inner long sound next =
     rw (long, next, inner, plain.less, plain.and, sound, plain.return, plain.bracket, next) refl
 
 character_goes_on : (t : Turn) (s : State) (at used : ℕ) (cs held : List ℕ) (b x : ℕ) (xs : List ℕ) → Plain b → is_some s.here ≡ true → is_too_long (running s at used cs held) b ≡ false
     → utf8_next held b ≡ Some (x ∷ xs)
-    → step (moved t (running s at used cs held)) b ≡ moved t (running s (next_place at) (used_next used) cs (x ∷ xs))
+    → step (moved t (running s at used cs held)) b ≡ moved t (running s (next_position at) (used_next used) cs (x ∷ xs))
 unfolding goes_on taken in_text inside text_inside
 character_goes_on t s at used cs held b x xs plain inner long next =
     rw (long, next, inner, plain.less, plain.and, next) refl
@@ -136,12 +136,12 @@ held_more (p ∷ q ∷ r ∷ more) b x xs e = last_ends (is_tail b) x xs e
 abbrev Goes : Turn → State → List ℕ → Type 0
 Goes t s bs = (at used : ℕ) (cs held : List ℕ) → (0 < used → length bs ≤ s.limits.bytes - used)
     → list_all is_plain held ≡ true → list_all is_plain bs ≡ true → utf8_run held bs ≡ Some []
-    → run (moved t (running s at used cs held)) bs ≡ moved t (running s (place_behind bs at) (used_behind bs used) (cs ++ (held ++ bs)) [])
+    → run (moved t (running s at used cs held)) bs ≡ moved t (running s (position_after bs at) (used_after bs used) (cs ++ (held ++ bs)) [])
 
 module _ (t : Turn) (s : State) (inner : is_some s.here ≡ true) where
   goes_by : (next : Option (List ℕ)) (b : ℕ) (bs : List ℕ) (at used : ℕ) (cs held : List ℕ) → (0 < used → length bs + 1 ≤ s.limits.bytes - used)
       → list_all is_plain held ≡ true → list_all is_plain (b ∷ bs) ≡ true → utf8_next held b ≡ next → option_and_then (λ h. utf8_run h bs) next ≡ Some [] → Goes t s bs
-      → run (step (moved t (running s at used cs held)) b) bs ≡ moved t (running s (place_behind (b ∷ bs) at) (used_behind (b ∷ bs) used) (cs ++ (held ++ b ∷ bs)) [])
+      → run (step (moved t (running s at used cs held)) b) bs ≡ moved t (running s (position_after (b ∷ bs) at) (used_after (b ∷ bs) used) (cs ++ (held ++ b ∷ bs)) [])
   goes_by None b bs at used cs held room whole plain next text again = no_some [] text
   goes_by (Some []) b bs at used cs held room whole plain next text again =
       let parts = and_parts (is_plain b) (list_all is_plain bs) plain in
@@ -149,8 +149,8 @@ module _ (t : Turn) (s : State) (inner : is_some s.here ≡ true) where
       let long = short (running s at used cs held) b (length bs + 1) (omega arith) room in
       let chars : (cs ++ (held ++ b ∷ [])) ++ bs ≡ cs ++ (held ++ b ∷ bs) = append_assoc cs (held ++ b ∷ []) bs ∙ ap (λ l. cs ++ l) (append_assoc held (b ∷ []) bs) in
       ap (λ u. run u bs) (character_ends t s at used cs held b p inner long (not_forbidden held b whole p) next)
-      ∙ (again (next_place at) (used_next used) (cs ++ (held ++ b ∷ [])) [] (room_after used s.limits.bytes (length bs) room) refl parts.1 text
-      ∙ ap (λ l. moved t (running s (place_behind (b ∷ bs) at) (used_behind (b ∷ bs) used) l [])) chars)
+      ∙ (again (next_position at) (used_next used) (cs ++ (held ++ b ∷ [])) [] (room_after used s.limits.bytes (length bs) room) refl parts.1 text
+      ∙ ap (λ l. moved t (running s (position_after (b ∷ bs) at) (used_after (b ∷ bs) used) l [])) chars)
   goes_by (Some (x ∷ xs)) b bs at used cs held room whole plain next text again =
       let parts = and_parts (is_plain b) (list_all is_plain bs) plain in
       let p = plain_is b parts.0 in
@@ -159,8 +159,8 @@ module _ (t : Turn) (s : State) (inner : is_some s.here ≡ true) where
       let kept : list_all is_plain (x ∷ xs) ≡ true = subst (λ l. list_all is_plain l ≡ true) (sym more) (list_all-append is_plain held (b ∷ []) ∙ and_from _ _ whole (and_from _ _ parts.0 refl)) in
       let chars : cs ++ ((x ∷ xs) ++ bs) ≡ cs ++ (held ++ b ∷ bs) = ap (λ l. cs ++ (l ++ bs)) more ∙ ap (λ l. cs ++ l) (append_assoc held (b ∷ []) bs) in
       ap (λ u. run u bs) (character_goes_on t s at used cs held b x xs p inner long next)
-      ∙ (again (next_place at) (used_next used) cs (x ∷ xs) (room_after used s.limits.bytes (length bs) room) kept parts.1 text
-      ∙ ap (λ l. moved t (running s (place_behind (b ∷ bs) at) (used_behind (b ∷ bs) used) l [])) chars)
+      ∙ (again (next_position at) (used_next used) cs (x ∷ xs) (room_after used s.limits.bytes (length bs) room) kept parts.1 text
+      ∙ ap (λ l. moved t (running s (position_after (b ∷ bs) at) (used_after (b ∷ bs) used) l [])) chars)
 
   goes : (bs : List ℕ) → Goes t s bs
   goes [] at used cs held room whole plain text =
@@ -209,11 +209,11 @@ lexical_same l text h =
     ∙ (ap (λ r. record l { in_run = r; returned = false; brackets = 0 }) (sym h.runs)
     ∙ (ap (λ r. record l { returned = r; brackets = 0 }) (sym h.not_returned) ∙ ap (λ n. record l { brackets = n }) (sym h.no_bracket)))
 
-running_same : (s : State) → TakesText s → Settled s.lexical → (at used : ℕ) (cs : List ℕ) → running s at used cs [] ≡ record s { places = record s.places { at = at; used = used }; chars = cs }
+running_same : (s : State) → TakesText s → Settled s.lexical → (at used : ℕ) (cs : List ℕ) → running s at used cs [] ≡ record s { positions = record s.positions { at = at; used = used }; chars = cs }
 running_same s h settled at used cs =
-    let places = record s.places { at = at; used = used } in
-    ap (λ l. record s { places = places; lexical = l; pending = []; chars = cs; fault = None }) (lexical_same s.lexical h.text settled)
-    ∙ (ap (λ p. record s { places = places; pending = p; chars = cs; fault = None }) (sym h.no_pending) ∙ ap (λ f. record s { places = places; chars = cs; fault = f }) (sym h.no_fault))
+    let positions = record s.positions { at = at; used = used } in
+    ap (λ l. record s { positions = positions; lexical = l; pending = []; chars = cs; fault = None }) (lexical_same s.lexical h.text settled)
+    ∙ (ap (λ p. record s { positions = positions; pending = p; chars = cs; fault = None }) (sym h.no_pending) ∙ ap (λ f. record s { positions = positions; chars = cs; fault = f }) (sym h.no_fault))
 
 -- a run that has begun
 goes_on_so : (t : Turn) (bs : List ℕ) → TakesText t.state → Settled t.state.lexical → LeavesRoom t.state (length bs) → list_all is_plain bs ≡ true → utf8_run [] bs ≡ Some []
@@ -221,10 +221,10 @@ goes_on_so : (t : Turn) (bs : List ℕ) → TakesText t.state → Settled t.stat
 goes_on_so t bs h settled room plain text =
     let s = t.state in
     let same = running_same s h settled in
-    let taken : record s { places = record s.places { at = place_behind bs s.places.at; used = used_behind bs s.places.used }; chars = s.chars ++ bs } ≡ text_taken s bs = rw settled.runs refl in
-    ap (λ u. run (moved t u) bs) (sym (same s.places.at s.places.used s.chars))
-    ∙ (goes t s h.inner bs s.places.at s.places.used s.chars [] room refl plain text
-    ∙ ap (moved t) (same (place_behind bs s.places.at) (used_behind bs s.places.used) (s.chars ++ bs) ∙ taken))
+    let taken : record s { positions = record s.positions { at = position_after bs s.positions.at; used = used_after bs s.positions.used }; chars = s.chars ++ bs } ≡ text_taken s bs = rw settled.runs refl in
+    ap (λ u. run (moved t u) bs) (sym (same s.positions.at s.positions.used s.chars))
+    ∙ (goes t s h.inner bs s.positions.at s.positions.used s.chars [] room refl plain text
+    ∙ ap (moved t) (same (position_after bs s.positions.at) (used_after bs s.positions.used) (s.chars ++ bs) ∙ taken))
 
 -- a state in which no run has begun
 abbrev fresh : State → State
@@ -299,20 +299,20 @@ none_taken old new items bytes n h none = let zero_is : n ≡ 0 = omega arith in
 
 -- ---- places
 
-pub place_is : (bs : List ℕ) (place : ℕ) → place < 2 ^ 64 → place_behind bs place ≡ min (place + length bs) (2 ^ 64 - 1)
-place_is [] place h = omega arith
-place_is (b ∷ bs) place h = place_is bs (next_place place) (omega arith) ∙ omega arith
+pub position_is : (bs : List ℕ) (position : ℕ) → position < 2 ^ 64 → position_after bs position ≡ min (position + length bs) (2 ^ 64 - 1)
+position_is [] position h = omega arith
+position_is (b ∷ bs) position h = position_is bs (next_position position) (omega arith) ∙ omega arith
 
-pub none_used : (bs : List ℕ) → used_behind bs 0 ≡ 0
+pub none_used : (bs : List ℕ) → used_after bs 0 ≡ 0
 none_used [] = refl
 none_used (b ∷ bs) = none_used bs
 
-next_used : (used : ℕ) → (used == 0) ≡ false → (next_place used == 0) ≡ false
+next_used : (used : ℕ) → (used == 0) ≡ false → (next_position used == 0) ≡ false
 next_used used some = grind (arith, nat_tests)
 
-pub used_is : (bs : List ℕ) (used : ℕ) → (used == 0) ≡ false → used_behind bs used ≡ place_behind bs used
+pub used_is : (bs : List ℕ) (used : ℕ) → (used == 0) ≡ false → used_after bs used ≡ position_after bs used
 used_is [] used some = refl
-used_is (b ∷ bs) used some = rw some (used_is bs (next_place used) (next_used used some))
+used_is (b ∷ bs) used some = rw some (used_is bs (next_position used) (next_used used some))
 
 -- ---- scans
 

@@ -15,7 +15,7 @@ scopes_of scopes = map own_of (reverse scopes)
 abbrev pub state_of : Inside → State
 state_of f = record {
   limits = f.limits;
-  places = f.places;
+  positions = f.positions;
   lexical = f.lexical;
   token = f.token.items;
   pending = f.pending;

@@ -5,7 +5,7 @@ use Rattle.std.specs.Option.{is_some}
 use Rattle.xml_tokens.specs.Tags.{is_empty}
 use Rattle.xml_tokens.specs.Utf8.{continues, held_after}
 use Rattle.xml_framer.specs.MarkupSteps.{in_bang, in_declaration, in_question}
-use Rattle.xml_framer.specs.States.{State, Turn, counted, fails, is_opening, is_text, may_declare, moved, next_place, token_place}
+use Rattle.xml_framer.specs.States.{State, Turn, counted, fails, is_opening, is_text, may_declare, moved, next_position, token_position}
 use Rattle.xml_framer.specs.TagSteps.{in_footer, in_opening, in_tag}
 use Rattle.xml_framer.specs.TextSteps.{in_reference, in_section, in_text}
 use Rattle.xml_framer.specs.declared.fault.Fault.{Fault}
@@ -22,7 +22,7 @@ shows_unlimited s b = is_opening s.lexical.mode && (not (is_some s.here) && (b =
 
 -- the byte is one past the limit
 unfoldable pub is_too_long : State → ℕ → Bool
-is_too_long s b = nat_lt 0 s.places.used && (nat_le s.limits.bytes s.places.used && not (shows_unlimited s b))
+is_too_long s b = nat_lt 0 s.positions.used && (nat_le s.limits.bytes s.positions.used && not (shows_unlimited s b))
 
 abbrev pub taken_in : Mode → Turn → ℕ → Turn
 taken_in mode.Text t b = moved t (in_text t.state b)
@@ -40,7 +40,7 @@ taken t b = taken_in t.state.lexical.mode t b
 
 -- the byte is behind
 abbrev pub passed : State → ℕ → State
-passed s b = record s { places = record s.places { at = next_place s.places.at }; pending = held_after s.pending b }
+passed s b = record s { positions = record s.positions { at = next_position s.positions.at }; pending = held_after s.pending b }
 
 abbrev pub behind_byte : Turn → ℕ → Turn
 behind_byte t b = moved t (passed t.state b)
@@ -49,8 +49,8 @@ behind_byte t b = moved t (passed t.state b)
 -- what it does to the token.
 unfoldable pub goes_on : Turn → ℕ → Turn
 goes_on t b =
-    if is_too_long t.state b then moved t (fails t.state t.state.places.item_at TooLong)
-    else (if not (continues t.state.pending b) then moved t (fails t.state (token_place t.state) Encoding)
+    if is_too_long t.state b then moved t (fails t.state t.state.positions.item_at TooLong)
+    else (if not (continues t.state.pending b) then moved t (fails t.state (token_position t.state) Encoding)
     else behind_byte (taken (moved t (counted t.state)) b) b)
 
 -- behind a fault nothing changes
@@ -65,7 +65,7 @@ run t (b ∷ bs) = run (step t b) bs
 unfoldable pub part_of : State → Option ℕ
 part_of s =
     if is_some s.fault || s.lexical.spent then None
-    else (if is_some s.here || (not (is_text s.lexical.mode) || not (is_empty s.pending)) then Some s.places.item_at else None)
+    else (if is_some s.here || (not (is_text s.lexical.mode) || not (is_empty s.pending)) then Some s.positions.item_at else None)
 
 -- ---- what a call says
 

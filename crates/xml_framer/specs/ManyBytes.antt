@@ -4,7 +4,7 @@ use Rattle.std.specs.Option.{is_some}
 use Rattle.xml_tokens.specs.Characters.{is_control}
 use Rattle.xml_tokens.specs.Tags.{is_empty, quote_behind}
 use Rattle.xml_framer.specs.Machine.{run}
-use Rattle.xml_framer.specs.States.{State, in_run, is_text, next_place, turn}
+use Rattle.xml_framer.specs.States.{State, in_run, is_text, next_position, turn}
 use Rattle.xml_framer.specs.declared.items.Item.{Item}
 use Rattle.xml_framer.specs.declared.states.Mode.{Mode}
 use Rattle.xml_framer.specs.declared.states.Mode.TheVariants as mode
@@ -12,22 +12,22 @@ use Rattle.xml_framer.specs.declared.states.Mode.TheVariants as mode
 -- ---- places
 
 -- a place behind some bytes
-abbrev pub place_behind : List ℕ → ℕ → ℕ
-place_behind [] place = place
-place_behind (b ∷ bs) place = place_behind bs (next_place place)
+abbrev pub position_after : List ℕ → ℕ → ℕ
+position_after [] position = position
+position_after (b ∷ bs) position = position_after bs (next_position position)
 
 -- a count behind some bytes, where what they belong to is counted
-abbrev pub used_behind : List ℕ → ℕ → ℕ
-used_behind [] used = used
-used_behind (b ∷ bs) used = used_behind bs (if used == 0 then 0 else next_place used)
+abbrev pub used_after : List ℕ → ℕ → ℕ
+used_after [] used = used
+used_after (b ∷ bs) used = used_after bs (if used == 0 then 0 else next_position used)
 
 -- some bytes are behind
-abbrev pub behind_bytes : State → List ℕ → State
-behind_bytes s bs = record s { places = record s.places { at = place_behind bs s.places.at; used = used_behind bs s.places.used } }
+abbrev pub after_bytes : State → List ℕ → State
+after_bytes s bs = record s { positions = record s.positions { at = position_after bs s.positions.at; used = used_after bs s.positions.used } }
 
 -- the byte limit leaves room for so many bytes more
 abbrev pub LeavesRoom : State → ℕ → Type 0
-LeavesRoom s n = 0 < s.places.used → n ≤ s.limits.bytes - s.places.used
+LeavesRoom s n = 0 < s.positions.used → n ≤ s.limits.bytes - s.positions.used
 
 -- ---- texts in an element
 
@@ -44,7 +44,7 @@ takes_text s =
 
 -- behind plain bytes of a text
 abbrev pub text_taken : State → List ℕ → State
-text_taken s bs = behind_bytes (in_run (record s { chars = s.chars ++ bs })) bs
+text_taken s bs = after_bytes (in_run (record s { chars = s.chars ++ bs })) bs
 
 -- ---- tags
 
@@ -79,17 +79,17 @@ abbrev pub is_quoted : ℕ → ℕ → Bool
 is_quoted quote b = nat_lt b 128 && not (b == quote)
 
 -- the first n bytes are of ASCII and don't end a tag, and behind them this quote is open
-pub record GoesOnTo (quote : Option ℕ) (bytes : List ℕ) (n : ℕ) (behind : Option ℕ) : Type 0 where
+pub record GoesOnTo (quote : Option ℕ) (bytes : List ℕ) (n : ℕ) (following : Option ℕ) : Type 0 where
   pub bound : n ≤ length bytes
   pub inside : go_on_in quote (take n bytes) ≡ true
-  pub behind_is : behind ≡ quote_after quote (take n bytes)
+  pub after_is : following ≡ quote_after quote (take n bytes)
 
 abbrev pub KeepsQuote : Option ℕ → List ℕ → ℕ → Type 0
 KeepsQuote quote bytes n = GoesOnTo quote bytes n quote
 
 -- behind bytes that don't end a tag
 abbrev pub tag_taken : State → List ℕ → State
-tag_taken s bs = behind_bytes (record s { token = s.token ++ bs; lexical = record s.lexical { quote = quote_after s.lexical.quote bs } }) bs
+tag_taken s bs = after_bytes (record s { token = s.token ++ bs; lexical = record s.lexical { quote = quote_after s.lexical.quote bs } }) bs
 
 -- ---- openings of tags
 

@@ -26,8 +26,8 @@ abbrev pub part_at : Limits → List ℕ → Option ℕ
 part_at limits bytes = part_of (framed limits bytes).state
 
 -- the items that a piece behind the bytes adds
-abbrev pub items_behind : Limits → List ℕ → List ℕ → List Item
-items_behind limits bytes piece = drop (length (items_of limits bytes)) (items_of limits (bytes ++ piece))
+abbrev pub items_after : Limits → List ℕ → List ℕ → List Item
+items_after limits bytes piece = drop (length (items_of limits bytes)) (items_of limits (bytes ++ piece))
 
 -- A framer stands for the bytes so far. After want of memory it stands for none, since no bytes make the machine spent.
 pub record Stands (s : State) (limits : Limits) (bytes : List ℕ) : Type 0 where
@@ -36,10 +36,10 @@ pub record Stands (s : State) (limits : Limits) (bytes : List ℕ) : Type 0 wher
 -- A framer that stood for some bytes has taken a piece: it stands for both, and these items were added.
 pub record HasTaken (limits : Limits) (bytes piece : List ℕ) (items : List Item) (new : State) (all : List Item) : Type 0 where
   pub stands : Stands new limits (bytes ++ piece)
-  pub items_are : all ≡ items ++ items_behind limits bytes piece
+  pub items_are : all ≡ items ++ items_after limits bytes piece
 
 -- What an answer to a piece says of a framer that stood for some bytes. Want of memory leaves the first items of those due.
 abbrev pub IsReadBy : Result (Unit {0}) FeedFault → Limits → List ℕ → List ℕ → List Item → State → List Item → Type 0
 IsReadBy (Ok u) limits bytes piece items new all = HasTaken limits bytes piece items new all × (fault_of limits (bytes ++ piece) ≡ None)
 IsReadBy (Err (feed.Fault f)) limits bytes piece items new all = HasTaken limits bytes piece items new all × (fault_of limits (bytes ++ piece) ≡ Some f)
-IsReadBy (Err feed.NoMemory) limits bytes piece items new all = IsFrontOf all (items ++ items_behind limits bytes piece)
+IsReadBy (Err feed.NoMemory) limits bytes piece items new all = IsFrontOf all (items ++ items_after limits bytes piece)

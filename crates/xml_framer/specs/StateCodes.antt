@@ -10,15 +10,15 @@ use Rattle.xml_framer.specs.States.{OpenElement, State}
 use Rattle.xml_framer.specs.contracts.fault.Fault as fault
 use Rattle.xml_framer.specs.contracts.limits.Limits as limits
 use Rattle.xml_framer.specs.contracts.states.Lexical as lexical
-use Rattle.xml_framer.specs.contracts.states.Places as places
+use Rattle.xml_framer.specs.contracts.states.Positions as positions
 use Rattle.xml_framer.specs.declared.fault.Fault.{Fault}
 use Rattle.xml_framer.specs.declared.limits.Limits.{Limits}
 use Rattle.xml_framer.specs.declared.states.Lexical.{Lexical}
-use Rattle.xml_framer.specs.declared.states.Places.{Places}
+use Rattle.xml_framer.specs.declared.states.Positions.{Positions}
 
 -- what is counted and asked, the bytes in hand, and what is open
 abbrev Numbers : Type 0
-Numbers = Limits × (Places × (Lexical × Option Fault))
+Numbers = Limits × (Positions × (Lexical × Option Fault))
 
 abbrev InHand : Type 0
 InHand = List ℕ × (List ℕ × (List ℕ × List ℕ))
@@ -27,7 +27,7 @@ abbrev Opens : Type 0
 Opens = Option OpenElement × (List OpenElement × List Scope)
 
 abbrev numbers_coded : Coded Numbers
-numbers_coded = coded× limits.the_row.coded (coded× places.the_row.coded (coded× lexical.the_row.coded (coded_option fault.the_row.coded)))
+numbers_coded = coded× limits.the_row.coded (coded× positions.the_row.coded (coded× lexical.the_row.coded (coded_option fault.the_row.coded)))
 
 abbrev in_hand_coded : Coded InHand
 in_hand_coded = coded× coded_bytes (coded× coded_bytes (coded× coded_bytes coded_bytes))
@@ -38,6 +38,6 @@ opens_coded = coded× (coded_option coded_open) (coded× (coded_list coded_open)
 abbrev pub state_coded : Coded State
 state_coded =
     code_by (Numbers × (InHand × Opens)) (coded× numbers_coded (coded× in_hand_coded opens_coded))
-    (λ s. ((s.limits, (s.places, (s.lexical, s.fault))), ((s.token, (s.pending, (s.chars, s.name))), (s.here, (s.below, s.scopes)))))
-    (λ p. record { limits = p.0.0; places = p.0.1.0; lexical = p.0.1.1.0; token = p.1.0.0; pending = p.1.0.1.0; chars = p.1.0.1.1.0; here = p.1.1.0; below = p.1.1.1.0; scopes = p.1.1.1.1; name = p.1.0.1.1.1; fault = p.0.1.1.1 })
+    (λ s. ((s.limits, (s.positions, (s.lexical, s.fault))), ((s.token, (s.pending, (s.chars, s.name))), (s.here, (s.below, s.scopes)))))
+    (λ p. record { limits = p.0.0; positions = p.0.1.0; lexical = p.0.1.1.0; token = p.1.0.0; pending = p.1.0.1.0; chars = p.1.0.1.1.0; here = p.1.1.0; below = p.1.1.1.0; scopes = p.1.1.1.1; name = p.1.0.1.1.1; fault = p.0.1.1.1 })
     (λ _. refl)

@@ -13,11 +13,11 @@ use Rattle.xml_framer.specs.declared.states.Mode.{Mode}
 use Rattle.xml_framer.specs.declared.states.Mode.TheVariants as mode
 use Rattle.xml_framer.specs.declared.states.Phase.{Phase}
 use Rattle.xml_framer.specs.declared.states.Phase.TheVariants as phase
-use Rattle.xml_framer.specs.declared.states.Places.{Places}
+use Rattle.xml_framer.specs.declared.states.Positions.{Positions}
 
 pub record State : Type 0 where
   pub limits : Limits
-  pub places : Places
+  pub positions : Positions
   pub lexical : Lexical
   -- the bytes of the token in hand
   pub token : List ℕ
@@ -45,7 +45,7 @@ turn s items = record { state = s; items = items }
 abbrev pub from_start : Limits → State
 from_start limits = record {
   limits = limits;
-  places = record { at = 0; item_at = 0; token_at = 0; used = 0 };
+  positions = record { at = 0; item_at = 0; token_at = 0; used = 0 };
   lexical = record { phase = phase.First; mode = mode.Text; quote = None; in_run = false; returned = false; brackets = 0; spoiled = false; spent = false };
   token = [];
   pending = [];
@@ -60,19 +60,19 @@ from_start limits = record {
 -- ---- changes
 
 -- places stay at 2 ^ 64 - 1 once there
-abbrev pub next_place : ℕ → ℕ
-next_place n = min (n + 1) (2 ^ 64 - 1)
+abbrev pub next_position : ℕ → ℕ
+next_position n = min (n + 1) (2 ^ 64 - 1)
 
 -- the byte is counted where what it belongs to is
 abbrev pub counted : State → State
-counted s = record s { places = record s.places { used = if s.places.used == 0 then 0 else next_place s.places.used } }
+counted s = record s { positions = record s.positions { used = if s.positions.used == 0 then 0 else next_position s.positions.used } }
 
 abbrev pub fails : State → ℕ → Why → State
 fails s at why = record s { fault = Some (record { at = at; why = why }) }
 
 -- the token in hand has a fault
 abbrev pub token_fails : State → Why → State
-token_fails s why = fails s s.places.token_at why
+token_fails s why = fails s s.positions.token_at why
 
 abbrev pub in_mode : State → Mode → State
 in_mode s m = record s { lexical = record s.lexical { mode = m } }
@@ -90,11 +90,11 @@ token_ended s = record s { token = []; lexical = record s.lexical { mode = mode.
 
 -- what stands between top-level elements ends
 abbrev pub item_ended : State → State
-item_ended s = record (token_ended s) { places = record s.places { used = 0 } }
+item_ended s = record (token_ended s) { positions = record s.positions { used = 0 } }
 
 -- a run of text begins
 abbrev pub run_begun : State → State
-run_begun s = record s { places = record s.places { token_at = s.places.at }; lexical = record s.lexical { in_run = true; returned = false; brackets = 0 } }
+run_begun s = record s { positions = record s.positions { token_at = s.positions.at }; lexical = record s.lexical { in_run = true; returned = false; brackets = 0 } }
 
 -- the same, unless one has
 abbrev pub in_run : State → State
@@ -102,11 +102,11 @@ in_run s = if s.lexical.in_run then s else run_begun s
 
 -- a token begins with the next byte
 abbrev pub token_begun : State → Mode → State
-token_begun s m = record s { places = record s.places { token_at = s.places.at }; lexical = record s.lexical { mode = m; in_run = false; returned = false; brackets = 0 } }
+token_begun s m = record s { positions = record s.positions { token_at = s.positions.at }; lexical = record s.lexical { mode = m; in_run = false; returned = false; brackets = 0 } }
 
 -- an element, header tag or declaration may begin with the next byte
 abbrev pub item_begun : State → State
-item_begun s = if is_some s.here then s else record s { places = record s.places { item_at = s.places.at; used = 1 } }
+item_begun s = if is_some s.here then s else record s { positions = record s.positions { item_at = s.positions.at; used = 1 } }
 
 abbrev pub moved : Turn → State → Turn
 moved t s = record t { state = s }
@@ -138,8 +138,8 @@ abbrev pub may_declare : State → Bool
 may_declare s = not (is_some s.here) && admits_declaration s.lexical.phase
 
 -- the place of the first byte of the token that the next byte belongs to, where it begins none
-abbrev pub token_place : State → ℕ
-token_place s = if is_text s.lexical.mode && not s.lexical.in_run then s.places.at else s.places.token_at
+abbrev pub token_position : State → ℕ
+token_position s = if is_text s.lexical.mode && not s.lexical.in_run then s.positions.at else s.positions.token_at
 
 -- how many elements are open
 abbrev pub open_count : State → ℕ

@@ -170,7 +170,7 @@ header_why start.TooManyAttributes = why.TooManyAttributes
 header_why start.LongNamespace = why.LongNamespace
 
 abbrev pub headed_turn : Turn → Tag → Turn
-headed_turn t tag = turn (headed t.state tag) (t.items ++ header_items t.state.places.token_at (header_of tag) tag.empty)
+headed_turn t tag = turn (headed t.state tag) (t.items ++ header_items t.state.positions.token_at (header_of tag) tag.empty)
 
 abbrev pub heads : Turn → Result Tag StartWhy → Turn
 heads t (Ok tag) = headed_turn t tag
@@ -250,7 +250,7 @@ in_footer t b =
 
 -- what has no limit outside elements: `<!`, `<?` where no declaration may stand, and an end tag
 abbrev pub unlimited : State → State
-unlimited s = if is_some s.here then s else record s { places = record s.places { used = 0 } }
+unlimited s = if is_some s.here then s else record s { positions = record s.positions { used = 0 } }
 
 unfoldable pub in_opening : Turn → ℕ → Turn
 in_opening t b =

@@ -23,7 +23,7 @@ judged_outside s b = if is_white b then s else token_fails s NotWellFormed
 
 -- the first byte of a character is the place of what is unfinished
 abbrev pub character_begun : State → State
-character_begun s = if is_empty s.pending then record s { places = record s.places { item_at = s.places.at } } else s
+character_begun s = if is_empty s.pending then record s { positions = record s.positions { item_at = s.positions.at } } else s
 
 unfoldable pub text_outside : State → ℕ → State
 text_outside s b = if ends_character s.pending b then judged_outside (in_run s) b else character_begun (in_run s)
@@ -32,7 +32,7 @@ text_outside s b = if ends_character s.pending b then judged_outside (in_run s) 
 unfoldable pub between : State → ℕ → State
 between s b =
     if b == 60 then markup_begun s
-    else (if b == 38 then fails s s.places.at NotWellFormed else text_outside s b)
+    else (if b == 38 then fails s s.positions.at NotWellFormed else text_outside s b)
 
 -- ---- in an element
 
@@ -41,11 +41,11 @@ abbrev pub said : State → ℕ → List ℕ
 said s b = if s.lexical.returned && b == 10 then [] else (if b == 13 then 10 ∷ [] else ended_character s.pending b)
 
 -- how many `]` the text ends in behind a byte, up to 2
-abbrev pub brackets_behind : ℕ → ℕ → ℕ
-brackets_behind n b = if b == 93 then (if n == 0 then 1 else 2) else 0
+abbrev pub brackets_after : ℕ → ℕ → ℕ
+brackets_after n b = if b == 93 then (if n == 0 then 1 else 2) else 0
 
 abbrev pub character_taken : State → ℕ → State
-character_taken s b = record s { chars = s.chars ++ said s b; lexical = record s.lexical { returned = b == 13; brackets = brackets_behind s.lexical.brackets b } }
+character_taken s b = record s { chars = s.chars ++ said s b; lexical = record s.lexical { returned = b == 13; brackets = brackets_after s.lexical.brackets b } }
 
 abbrev pub is_forbidden : State → ℕ → Bool
 is_forbidden s b = ends_forbidden_character s.pending b
@@ -77,7 +77,7 @@ kept_back n = if n == 0 then [] else (if n == 1 then 93 ∷ [] else 93 ∷ 93 �
 abbrev pub bracket_taken : State → State
 bracket_taken s =
     if s.lexical.brackets == 2 then record s { chars = s.chars ++ 93 ∷ []; lexical = record s.lexical { returned = false } }
-    else record s { lexical = record s.lexical { returned = false; brackets = brackets_behind s.lexical.brackets 93 } }
+    else record s { lexical = record s.lexical { returned = false; brackets = brackets_after s.lexical.brackets 93 } }
 
 abbrev pub other_taken : State → ℕ → State
 other_taken s b = record s { chars = (s.chars ++ kept_back s.lexical.brackets) ++ said s b; lexical = record s.lexical { returned = b == 13; brackets = 0 } }

@@ -48,17 +48,19 @@ impl Framer {
     fn is_too_long(&self, b: u8) -> bool
         ensures { result ≡ Machine.is_too_long self.now b }
     {
-        self.places.used > 0 && self.limits.bytes <= self.places.used && !self.shows_unlimited(b)
+        self.positions.used > 0
+            && self.limits.bytes <= self.positions.used
+            && !self.shows_unlimited(b)
     }
 
     // The place of the first byte of the token that a byte belongs to.
-    fn token_place(&self) -> u64
-        ensures { result ≡ States.token_place self.now }
+    fn token_position(&self) -> u64
+        ensures { result ≡ States.token_position self.now }
     {
         if self.is_text() && !self.lexical.in_run {
-            self.places.at
+            self.positions.at
         } else {
-            self.places.token_at
+            self.positions.token_at
         }
     }
 
@@ -89,11 +91,11 @@ impl Framer {
         ensures err { OnErr result (items.new.items ≡ items.old.items) }
     {
         if self.is_too_long(b) {
-            self.fail(self.places.item_at, Why::TooLong);
+            self.fail(self.positions.item_at, Why::TooLong);
             return Ok(());
         }
         if !self.continues(b) {
-            self.fail(self.token_place(), Why::Encoding);
+            self.fail(self.token_position(), Why::Encoding);
             return Ok(());
         }
         self.count();
@@ -204,7 +206,7 @@ impl Framer {
             return None;
         }
         if self.is_inside() || !self.is_text() || self.pending.len() != 0 {
-            Some(self.places.item_at)
+            Some(self.positions.item_at)
         } else {
             None
         }

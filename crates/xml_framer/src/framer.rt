@@ -13,7 +13,7 @@ ghost use Rattle.xml_framer.specs.States.{counted, fails, from_start, gathered, 
 
 use crate::fault::{Fault, Why};
 use crate::limits::Limits;
-use crate::states::{Lexical, Mode, Phase, Places};
+use crate::states::{Lexical, Mode, Phase, Positions};
 use base_io::{NoMemory, Text};
 use std::alloc::Global;
 use std::marker::Model;
@@ -32,7 +32,7 @@ const KEPT_ROOM: usize = 4_096;
 pub struct Framer {
     pub(crate) alloc: Global,
     pub(crate) limits: Limits,
-    pub(crate) places: Places,
+    pub(crate) positions: Positions,
     pub(crate) lexical: Lexical,
     pub(crate) token: Vec<u8>,
     pub(crate) pending: PartialCharacter,
@@ -70,7 +70,7 @@ impl Framer {
         Framer {
             alloc,
             limits,
-            places: Places {
+            positions: Positions {
                 at: 0,
                 item_at: 0,
                 token_at: 0,
@@ -125,7 +125,7 @@ impl Framer {
         ensures { self.new ≡ token_fails self.old why }
     {
         self.fault = Some(Fault {
-            at: self.places.token_at,
+            at: self.positions.token_at,
             why,
         });
     }
@@ -134,8 +134,8 @@ impl Framer {
     pub(crate) fn count(&mut self)
         ensures { self.new ≡ counted self.old }
     {
-        if self.places.used != 0 {
-            self.places.used = self.places.used.saturating_add(1);
+        if self.positions.used != 0 {
+            self.positions.used = self.positions.used.saturating_add(1);
         }
     }
 
@@ -154,7 +154,7 @@ impl Framer {
     pub(crate) fn pass(&mut self, b: u8)
         ensures { self.new ≡ passed self.old b }
     {
-        self.places.at = self.places.at.saturating_add(1);
+        self.positions.at = self.positions.at.saturating_add(1);
         if b < 128 && self.pending.len() == 0 {
             return;
         }
@@ -184,7 +184,7 @@ impl Framer {
         ensures { self.new ≡ item_ended self.old }
     {
         self.end_token();
-        self.places.used = 0;
+        self.positions.used = 0;
     }
 
     // A run of text begins, unless one has.
@@ -194,7 +194,7 @@ impl Framer {
         if self.lexical.in_run {
             return;
         }
-        self.places.token_at = self.places.at;
+        self.positions.token_at = self.positions.at;
         self.lexical.in_run = true;
         self.lexical.returned = false;
         self.lexical.brackets = 0;
@@ -204,7 +204,7 @@ impl Framer {
     pub(crate) fn begin_token(&mut self, mode: Mode)
         ensures { self.new ≡ token_begun self.old mode }
     {
-        self.places.token_at = self.places.at;
+        self.positions.token_at = self.positions.at;
         self.lexical.mode = mode;
         self.lexical.in_run = false;
         self.lexical.returned = false;
@@ -216,8 +216,8 @@ impl Framer {
         ensures { self.new ≡ item_begun self.old }
     {
         if !self.opens.is_inside() {
-            self.places.item_at = self.places.at;
-            self.places.used = 1;
+            self.positions.item_at = self.positions.at;
+            self.positions.used = 1;
         }
     }
 

@@ -59,7 +59,7 @@ impl Framer {
         } = header_of(self.alloc, tag)?;
         let mut scopes = Scopes::new(self.alloc);
         scopes.open(self.alloc, bindings)?;
-        let at = self.places.token_at;
+        let at = self.positions.token_at;
         self.scopes = scopes;
         self.name = spelled;
         self.end_item();

@@ -1,7 +1,7 @@
 //! Laws of the machine that a framer is, which its users need.
 ghost use Rattle.std.specs.Prelude.{◌≡◌, ℕ, List, ◌++◌, [], None, Some};
 ghost use Rattle.xml_framer.specs.Machine.{run};
-ghost use Rattle.xml_framer.specs.Readings.{fault_of, items_behind, items_of, part_at};
+ghost use Rattle.xml_framer.specs.Readings.{fault_of, items_after, items_of, part_at};
 ghost use Rattle.xml_framer.specs.States.{State, Turn, turn};
 ghost use Rattle.xml_framer.specs.declared.fault.Fault.{Fault};
 ghost use Rattle.xml_framer.specs.declared.items.Item.{Item};
@@ -11,7 +11,7 @@ ghost use Rattle.xml_framer.specs.declared.limits.Limits.{Limits};
 /// are those behind both in one. Nor do the items matter that were given before: they stay in front.
 pub fn any_pieces()
     ensures pieces { (t : Turn) (a b : List ℕ) → run t (a ++ b) ≡ run (run t a) b }
-    ensures behind { (s : State) (items : List Item) (bs : List ℕ) → run (turn s items) bs ≡ turn (run (turn s []) bs).state (items ++ (run (turn s []) bs).items) }
+    ensures following { (s : State) (items : List Item) (bs : List ℕ) → run (turn s items) bs ≡ turn (run (turn s []) bs).state (items ++ (run (turn s []) bs).items) }
 {}
 
 /// A law: behind a fault nothing changes, neither the state nor the items, whatever bytes come.
@@ -24,7 +24,7 @@ pub fn a_fault_stays()
 /// stays.
 pub fn bytes_only_add()
     ensures nothing { (limits : Limits) → (items_of limits [] ≡ []) × (fault_of limits [] ≡ None) × (part_at limits [] ≡ None) }
-    ensures items { (limits : Limits) (bytes piece : List ℕ) → items_of limits (bytes ++ piece) ≡ items_of limits bytes ++ items_behind limits bytes piece }
-    ensures pieces { (limits : Limits) (bytes a b : List ℕ) → items_behind limits bytes (a ++ b) ≡ items_behind limits bytes a ++ items_behind limits (bytes ++ a) b }
-    ensures fault { (limits : Limits) (bytes piece : List ℕ) (f : Fault) → fault_of limits bytes ≡ Some f → (fault_of limits (bytes ++ piece) ≡ Some f) × (items_behind limits bytes piece ≡ []) }
+    ensures items { (limits : Limits) (bytes piece : List ℕ) → items_of limits (bytes ++ piece) ≡ items_of limits bytes ++ items_after limits bytes piece }
+    ensures pieces { (limits : Limits) (bytes a b : List ℕ) → items_after limits bytes (a ++ b) ≡ items_after limits bytes a ++ items_after limits (bytes ++ a) b }
+    ensures fault { (limits : Limits) (bytes piece : List ℕ) (f : Fault) → fault_of limits bytes ≡ Some f → (fault_of limits (bytes ++ piece) ≡ Some f) × (items_after limits bytes piece ≡ []) }
 {}

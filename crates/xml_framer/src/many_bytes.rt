@@ -7,7 +7,7 @@ ghost use Rattle.std.specs.List.{list_all, prefix_len};
 ghost use Rattle.std.specs.Option.{is_some};
 ghost use Rattle.xml_framer.specs.ManyBytes;
 ghost use Rattle.xml_tokens.specs.Values.{is_plain_ascii};
-ghost use Rattle.xml_framer.specs.ManyBytes.{GoesOnTo, KeepsQuote, LeavesRoom, TakesRun, behind_bytes, quote_after, tag_taken, text_taken};
+ghost use Rattle.xml_framer.specs.ManyBytes.{GoesOnTo, KeepsQuote, LeavesRoom, TakesRun, after_bytes, quote_after, tag_taken, text_taken};
 
 use crate::framer::Framer;
 use crate::states::Mode;
@@ -207,8 +207,8 @@ fn open_quote(quote: u8, inside: bool) -> Option<u8>
 // The quote that is open behind bytes whose first stands inside a quote, where each of them is of ASCII, none is `>` and
 // none is the other quote. No byte ends the loop, so that it can become vector code.
 #[inline(never)]
-fn quote_behind_calm(quote: u8, bytes: &[u8]) -> Option<Option<u8>>
-    ensures { IfSome result (λ behind. GoesOnTo (Some quote) bytes.now (length bytes.now) behind) }
+fn quote_after_calm(quote: u8, bytes: &[u8]) -> Option<Option<u8>>
+    ensures { IfSome result (λ following. GoesOnTo (Some quote) bytes.now (length bytes.now) following) }
 {
     if !is_quote(quote) {
         return None;
@@ -258,8 +258,8 @@ fn quoted_front(quote: u8, bytes: &[u8]) -> (usize, Option<u8>)
     if near.is_empty() {
         return part_by_bytes(Some(quote), bytes);
     }
-    match quote_behind_calm(quote, near) {
-        Some(behind) => (near.len(), behind),
+    match quote_after_calm(quote, near) {
+        Some(following) => (near.len(), following),
         None => part_by_bytes(Some(quote), bytes),
     }
 }
@@ -275,19 +275,19 @@ fn part_front(quote: Option<u8>, bytes: &[u8]) -> (usize, Option<u8>)
 }
 
 // How many first bytes are of ASCII and don't end a tag, and the quote that is open behind them.
-#[tactic(auto, using(crate::proofs::PlainTags::goes_nowhere, crate::proofs::PlainTags::goes_on_behind))]
+#[tactic(auto, using(crate::proofs::PlainTags::goes_nowhere, crate::proofs::PlainTags::goes_on_after))]
 fn tag_front(quote: Option<u8>, bytes: &[u8]) -> (usize, Option<u8>)
     ensures { GoesOnTo quote bytes.now result.0 result.1 }
 {
     let mut open = quote;
     let mut done = 0;
     while done < bytes.len() {
-        let (len, behind) = part_front(open, &bytes[done..]);
+        let (len, following) = part_front(open, &bytes[done..]);
         if len == 0 {
             return (done, open);
         }
         done += len;
-        open = behind;
+        open = following;
     }
     (done, open)
 }
@@ -310,7 +310,7 @@ fn begins_tag(bytes: &[u8]) -> bool
 }
 
 // How many first bytes are a tag from its `<` on and don't end it, and the quote that is open behind them.
-#[tactic(auto, using(crate::proofs::Openings::two_there, crate::proofs::Openings::opened, crate::proofs::PlainTags::goes_on_behind))]
+#[tactic(auto, using(crate::proofs::Openings::two_there, crate::proofs::Openings::opened, crate::proofs::PlainTags::goes_on_after))]
 fn opening_front(bytes: &[u8]) -> (usize, Option<u8>)
     requires { ManyBytes.begins_tag bytes.now ≡ true }
     ensures goes { GoesOnTo None bytes.now result.0 result.1 }
@@ -323,22 +323,22 @@ fn opening_front(bytes: &[u8]) -> (usize, Option<u8>)
 // ---- places
 
 // A place behind some bytes.
-#[tactic(auto, using(crate::proofs::PlainTexts::place_is))]
-fn place_behind(place: u64, bytes: &[u8]) -> u64
-    ensures { result ≡ ManyBytes.place_behind bytes.now place }
+#[tactic(auto, using(crate::proofs::PlainTexts::position_is))]
+fn position_after(position: u64, bytes: &[u8]) -> u64
+    ensures { result ≡ ManyBytes.position_after bytes.now position }
 {
-    place.saturating_add(bytes.len() as u64)
+    position.saturating_add(bytes.len() as u64)
 }
 
 // A count behind some bytes, where what they belong to is counted.
 #[tactic(auto, using(crate::proofs::PlainTexts::none_used, crate::proofs::PlainTexts::used_is))]
-fn used_behind(used: u64, bytes: &[u8]) -> u64
-    ensures { result ≡ ManyBytes.used_behind bytes.now used }
+fn used_after(used: u64, bytes: &[u8]) -> u64
+    ensures { result ≡ ManyBytes.used_after bytes.now used }
 {
     if used == 0 {
         return 0;
     }
-    place_behind(used, bytes)
+    position_after(used, bytes)
 }
 
 impl Framer {
@@ -348,8 +348,8 @@ impl Framer {
         ensures bound { length result.now ≤ length bytes.now }
         ensures room { LeavesRoom self.now (length result.now) }
     {
-        let left = self.limits.bytes.saturating_sub(self.places.used);
-        if self.places.used == 0 || bytes.len() as u64 <= left {
+        let left = self.limits.bytes.saturating_sub(self.positions.used);
+        if self.positions.used == 0 || bytes.len() as u64 <= left {
             bytes
         } else {
             &bytes[..left as usize]
@@ -358,10 +358,10 @@ impl Framer {
 
     // Some bytes are behind.
     fn pass_bytes(&mut self, bytes: &[u8])
-        ensures { self.new ≡ behind_bytes self.old bytes.now }
+        ensures { self.new ≡ after_bytes self.old bytes.now }
     {
-        self.places.at = place_behind(self.places.at, bytes);
-        self.places.used = used_behind(self.places.used, bytes);
+        self.positions.at = position_after(self.positions.at, bytes);
+        self.positions.used = used_after(self.positions.used, bytes);
     }
 
     // ---- texts in an element

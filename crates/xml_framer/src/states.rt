@@ -1,7 +1,7 @@
 //! The parts of a framer's state.
 /// Places in the stream, each the smaller of an offset and 2^64 - 1, and a count.
 #[derive(Clone, Copy)]
-pub(crate) struct Places {
+pub(crate) struct Positions {
     /// Of the next byte.
     pub(crate) at: u64,
     /// Of the first byte of the top-level element in hand or, outside one, of the token or character in hand.

@@ -98,7 +98,7 @@ impl Framer {
         ensures { self.new ≡ unlimited self.old }
     {
         if !self.opens.is_inside() {
-            self.places.used = 0;
+            self.positions.used = 0;
         }
     }
 

@@ -10,8 +10,8 @@ use base_io::NoMemory;
 use xml_tokens::{Reference, is_white, reference_goes_on, referred};
 
 // How many `]` a text ends in behind a byte, up to 2.
-fn brackets_behind(brackets: u8, b: u8) -> u8
-    ensures { result ≡ TextSteps.brackets_behind brackets b }
+fn brackets_after(brackets: u8, b: u8) -> u8
+    ensures { result ≡ TextSteps.brackets_after brackets b }
 {
     if b == b']' {
         if brackets == 0 { 1 } else { 2 }
@@ -57,7 +57,7 @@ impl Framer {
         ensures { self.new ≡ character_begun self.old }
     {
         if self.pending.len() == 0 {
-            self.places.item_at = self.places.at;
+            self.positions.item_at = self.positions.at;
         }
     }
 
@@ -81,7 +81,7 @@ impl Framer {
     {
         match b {
             b'<' => self.begin_markup()?,
-            b'&' => self.fail(self.places.at, Why::NotWellFormed),
+            b'&' => self.fail(self.positions.at, Why::NotWellFormed),
             _ => self.text_outside(b),
         }
         Ok(())
@@ -108,7 +108,7 @@ impl Framer {
     {
         self.say(b)?;
         self.lexical.returned = b == b'\r';
-        self.lexical.brackets = brackets_behind(self.lexical.brackets, b);
+        self.lexical.brackets = brackets_after(self.lexical.brackets, b);
         Ok(())
     }
 
@@ -182,7 +182,7 @@ impl Framer {
         if self.lexical.brackets == 2 {
             self.chars.push_str("]")?;
         } else {
-            self.lexical.brackets = brackets_behind(self.lexical.brackets, b']');
+            self.lexical.brackets = brackets_after(self.lexical.brackets, b']');
         }
         self.lexical.returned = false;
         Ok(())

@@ -24,31 +24,31 @@ module _ (name value : List ℕ) (to from id version lang : Option (List ℕ)) w
   abbrev together : Option (List ℕ) → Option (List ℕ) → Option (List ℕ) → Option (List ℕ) → HeaderValues
   together a b c d = record { to = a; from = b; id = c; version = d; lang = lang }
 
-  abbrev places : HeaderValues
-  places = together (or_value (codes "to") to) (or_value (codes "from") from) (or_value (codes "id") id) (or_value (codes "version") version)
+  abbrev positions : HeaderValues
+  positions = together (or_value (codes "to") to) (or_value (codes "from") from) (or_value (codes "id") id) (or_value (codes "version") version)
 
-  versions : bytes_eq name (codes "to") ≡ false → bytes_eq name (codes "from") ≡ false → bytes_eq name (codes "id") ≡ false → places ≡ plain_put (together to from id version) name value
+  versions : bytes_eq name (codes "to") ≡ false → bytes_eq name (codes "from") ≡ false → bytes_eq name (codes "id") ≡ false → positions ≡ plain_put (together to from id version) name value
   versions t f i =
       ⊎_elim
       (λ (is : bytes_eq name (codes "version") ≡ true). rw (t, f, i, is) refl)
       (λ (other : bytes_eq name (codes "version") ≡ false). rw (t, f, i, other) refl)
       (cases_Bool (bytes_eq name (codes "version")))
 
-  ids : bytes_eq name (codes "to") ≡ false → bytes_eq name (codes "from") ≡ false → places ≡ plain_put (together to from id version) name value
+  ids : bytes_eq name (codes "to") ≡ false → bytes_eq name (codes "from") ≡ false → positions ≡ plain_put (together to from id version) name value
   ids t f =
       ⊎_elim
       (λ (is : bytes_eq name (codes "id") ≡ true). rw (t, f, is, is_no_other name (codes "id") (codes "version") is refl) refl)
       (λ (other : bytes_eq name (codes "id") ≡ false). versions t f other)
       (cases_Bool (bytes_eq name (codes "id")))
 
-  froms : bytes_eq name (codes "to") ≡ false → places ≡ plain_put (together to from id version) name value
+  froms : bytes_eq name (codes "to") ≡ false → positions ≡ plain_put (together to from id version) name value
   froms t =
       ⊎_elim
       (λ (is : bytes_eq name (codes "from") ≡ true). rw (t, is, is_no_other name (codes "from") (codes "id") is refl, is_no_other name (codes "from") (codes "version") is refl) refl)
       (λ (other : bytes_eq name (codes "from") ≡ false). ids t other)
       (cases_Bool (bytes_eq name (codes "from")))
 
-  placed : places ≡ plain_put (together to from id version) name value
+  placed : positions ≡ plain_put (together to from id version) name value
   placed =
       ⊎_elim
       (λ (is : bytes_eq name (codes "to") ≡ true).

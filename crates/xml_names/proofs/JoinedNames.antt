@@ -12,10 +12,10 @@ same_front (b ∷ front) xs ys = rw (eq-eqb b b refl) (same_front front xs ys)
 
 module _ (prefix local name front back : List ℕ) (is_front : front ≡ take (length prefix) name) (is_back : back ≡ drop (length prefix) name) where
   pub joined_by_parts : (b : Bool) → b ≡ bytes_eq back (58 ∷ local) → true ≡ bytes_eq front prefix → b ≡ bytes_eq name (prefix ++ (58 ∷ local))
-  joined_by_parts b behind same =
+  joined_by_parts b following same =
       let is_prefix : front ≡ prefix = (bytes_eq-Decides front prefix).0 (sym same) in
       let whole : name ≡ prefix ++ back = sym (take-append-drop (length prefix) name) ∙ ap (λ f. f ++ drop (length prefix) name) (sym is_front ∙ is_prefix) ∙ ap (λ d. prefix ++ d) (sym is_back) in
-      behind ∙ sym (ap (λ n. bytes_eq n (prefix ++ (58 ∷ local))) whole ∙ same_front prefix back (58 ∷ local))
+      following ∙ sym (ap (λ n. bytes_eq n (prefix ++ (58 ∷ local))) whole ∙ same_front prefix back (58 ∷ local))
 
   pub not_joined : false ≡ bytes_eq front prefix → false ≡ bytes_eq name (prefix ++ (58 ∷ local))
   not_joined other =

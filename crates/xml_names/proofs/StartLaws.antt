@@ -21,7 +21,7 @@ use Rattle.xml_names.specs.Expansion.{are_distinct, is_same, element_ns, expande
 use Rattle.xml_names.specs.Grammar.{IsStart, IsShort, IsWithin}
 use Rattle.xml_names.specs.Names.{prefix_of}
 use Rattle.xml_names.specs.Scopes.{Scope}
-use Rattle.xml_names.specs.Starts.{Tag, attributes_in, if_distinct, is_long, limited, or_fault, parted_tag, past_limits, start_behind, start_of, tag_from, tag_with}
+use Rattle.xml_names.specs.Starts.{Tag, attributes_in, if_distinct, is_long, limited, or_fault, parted_tag, past_limits, start_after, start_of, tag_from, tag_with}
 use Rattle.xml_names.specs.declared.expansion.ExpandedAttribute.{ExpandedAttribute}
 use Rattle.xml_names.specs.declared.fault.StartWhy.{StartWhy}
 use Rattle.xml_names.specs.declared.fault.StartWhy.TheVariants.{Restricted, NotWellFormed, TooManyAttributes, LongNamespace}
@@ -164,7 +164,7 @@ parted_as scope (end_tag name) = None
 comes_to : (limits : TagLimits) (scope : Scope) (bytes : List ℕ) (xs : List Attribute) (t : Tag) → IsStart scope bytes xs t → start_of limits scope bytes ≡ or_fault (past_limits limits (length xs) t.bindings) t
 unfolding start_of
 comes_to limits scope bytes xs t h =
-    ap (start_behind limits scope) (tags_are_read bytes (start_tag t.spelled xs t.empty) h.spelled)
+    ap (start_after limits scope) (tags_are_read bytes (start_tag t.spelled xs t.empty) h.spelled)
     ∙ ap (limited limits (length xs) (bindings_of xs)) (parts_from_start scope bytes xs t h)
     ∙ ap (λ bs. or_fault (past_limits limits (length xs) bs) t) (sym h.declarations)
 
@@ -197,7 +197,7 @@ module _ (limits : TagLimits) (scope : Scope) (bytes : List ℕ) where
   started name xs empty (Some t) read e = inl (xs, t, start_from_parts scope bytes name xs empty t read e)
   started name xs empty None read e =
       inr (inl (
-        ap (start_behind limits scope) read ∙ ap (limited limits (length xs) (bindings_of xs)) e,
+        ap (start_after limits scope) read ∙ ap (limited limits (length xs) (bindings_of xs)) e,
         unrestricted bytes (λ r. let never : Ok (start_tag name xs empty) ≡ Err spelling.Restricted = sym read ∙ r in absurd cc),
         λ ys t h. let other : start_tag name xs empty ≡ start_tag t.spelled ys t.empty = same_tag _ _ (sym read ∙ tags_are_read bytes (start_tag t.spelled ys t.empty) h.spelled) in
             none-some t (sym e ∙ ap (parted_as scope) other ∙ parts_from_start scope bytes ys t h),
@@ -205,16 +205,16 @@ module _ (limits : TagLimits) (scope : Scope) (bytes : List ℕ) where
 
   outcome : (r : Result tokens.Tag TagWhy) → tag_of bytes ≡ r → Outcome limits scope bytes
   unfolding start_of
-  outcome (Err spelling.Restricted) e = inr (inr (ap (start_behind limits scope) e, (unknown_names_are_restricted bytes).0 e))
+  outcome (Err spelling.Restricted) e = inr (inr (ap (start_after limits scope) e, (unknown_names_are_restricted bytes).0 e))
   outcome (Err spelling.NotWellFormed) e =
       inr (inl (
-        ap (start_behind limits scope) e,
+        ap (start_after limits scope) e,
         unrestricted bytes (λ r. let never : Err spelling.NotWellFormed ≡ Err spelling.Restricted = sym e ∙ r in absurd cc),
         λ ys t h. let never : Err spelling.NotWellFormed ≡ Ok (start_tag t.spelled ys t.empty) = sym e ∙ tags_are_read bytes (start_tag t.spelled ys t.empty) h.spelled in absurd cc,
       ))
   outcome (Ok (end_tag n)) e =
       inr (inl (
-        ap (start_behind limits scope) e,
+        ap (start_after limits scope) e,
         unrestricted bytes (λ r. let never : Ok (end_tag n) ≡ Err spelling.Restricted = sym e ∙ r in absurd cc),
         λ ys t h. let never : Ok (end_tag n) ≡ Ok (start_tag t.spelled ys t.empty) = sym e ∙ tags_are_read bytes (start_tag t.spelled ys t.empty) h.spelled in absurd cc,
       ))
@@ -289,7 +289,7 @@ module _ (limits : TagLimits) (scope : Scope) (bytes : List ℕ) where
 
   restricted_from : is_restricted bytes ≡ true → come ≡ Err Restricted
   unfolding start_of
-  restricted_from h = ap (start_behind limits scope) ((unknown_names_are_restricted bytes).1 h)
+  restricted_from h = ap (start_after limits scope) ((unknown_names_are_restricted bytes).1 h)
 
   pub restricted : (come ≡ Err Restricted) ↔ (is_restricted bytes ≡ true)
   restricted = (restricted_to verdict, restricted_from)

@@ -79,13 +79,13 @@ abbrev pub as_start_why : TagWhy → StartWhy
 as_start_why spelling.Restricted = Restricted
 as_start_why spelling.NotWellFormed = NotWellFormed
 
-abbrev pub start_behind : TagLimits → Scope → Result tokens.Tag TagWhy → Result Tag StartWhy
-start_behind limits scope (Ok t) = start_from limits scope t
-start_behind limits scope (Err why) = Err (as_start_why why)
+abbrev pub start_after : TagLimits → Scope → Result tokens.Tag TagWhy → Result Tag StartWhy
+start_after limits scope (Ok t) = start_from limits scope t
+start_after limits scope (Err why) = Err (as_start_why why)
 
 -- What bytes come to as a start tag inside a scope, within limits.
 unfoldable pub start_of : TagLimits → Scope → List ℕ → Result Tag StartWhy
-start_of limits scope bytes = start_behind limits scope (tag_of bytes)
+start_of limits scope bytes = start_after limits scope (tag_of bytes)
 
 -- a name's prefix, declarations and other attributes that say a tag
 abbrev pub is_well_formed : Scope → List ℕ → Scope → List Attribute → Bool

@@ -61,7 +61,7 @@ pub(crate) fn prefix_or_nothing<'a>(prefix: Option<&'a str>) -> &'a str
 }
 
 // Whether bytes are a colon and this local part.
-fn is_behind_colon(local: &[u8], bytes: &[u8]) -> bool
+fn is_after_colon(local: &[u8], bytes: &[u8]) -> bool
     ensures { result ≡ bytes_eq bytes.now (58 ∷ local.now) }
 {
     match bytes.split_first() {
@@ -78,7 +78,7 @@ fn is_joined(prefix: &[u8], local: &[u8], name: &[u8]) -> bool
         return false;
     }
     let (front, back) = name.split_at(prefix.len());
-    front == prefix && is_behind_colon(local, back)
+    front == prefix && is_after_colon(local, back)
 }
 
 /// Whether a name is spelled with this prefix, or with none, and this local part (Namespaces in XML 1.0, section 4).

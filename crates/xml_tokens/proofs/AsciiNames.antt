@@ -9,9 +9,9 @@ use Rattle.std.specs.List.{list_all, prefix_len}
 use Rattle.std.specs.Str.{IsAscii}
 use Rattle.xml_tokens.proofs.Splits as splits
 use Rattle.xml_tokens.proofs.Texts.{ascii_is_text}
-use Rattle.xml_tokens.specs.Characters.{is_name_byte, is_ascii_name_byte, begins_as_name, is_name, go_on, ends_forbidden, are_characters, are_characters_behind}
-use Rattle.xml_tokens.specs.Fronts.{front, behind}
-use Rattle.xml_tokens.specs.Tags.{has_parts, is_behind_colon, is_empty, is_qualified, is_qualified_byte}
+use Rattle.xml_tokens.specs.Characters.{is_name_byte, is_ascii_name_byte, begins_as_name, is_name, go_on, ends_forbidden, are_characters, are_characters_after}
+use Rattle.xml_tokens.specs.Fronts.{front, following}
+use Rattle.xml_tokens.specs.Tags.{has_parts, is_after_colon, is_empty, is_qualified, is_qualified_byte}
 
 no_colon : (b : ℕ) → is_ascii_name_byte b ≡ true → not (eqb b 58) ≡ true
 no_colon b h = grind (arith, nat_tests)
@@ -30,7 +30,7 @@ goes_on [] h = refl
 goes_on (b ∷ bs) h =
     let p = and_parts (is_ascii_name_byte b) _ h in and_from _ _ (and_parts (is_name_byte b) _ p.0).0 (goes_on bs p.1)
 
-characters : (x y : ℕ) (bs : List ℕ) → list_all is_ascii_name_byte bs ≡ true → are_characters_behind x y bs ≡ true
+characters : (x y : ℕ) (bs : List ℕ) → list_all is_ascii_name_byte bs ≡ true → are_characters_after x y bs ≡ true
 characters x y [] h = refl
 characters x y (b ∷ bs) h = let p = and_parts (is_ascii_name_byte b) _ h in rw (quiet x y b p.0) (characters y b bs p.1)
 
@@ -38,7 +38,7 @@ all_in_front : (bs : List ℕ) → list_all is_ascii_name_byte bs ≡ true → f
 all_in_front [] h = refl
 all_in_front (b ∷ bs) h = let p = and_parts (is_ascii_name_byte b) _ h in rw (no_colon b p.0) (ap (λ l. b ∷ l) (all_in_front bs p.1))
 
-none_behind : (bs : List ℕ) → list_all is_ascii_name_byte bs ≡ true → behind (λ b. not (eqb b 58)) bs ≡ []
+none_behind : (bs : List ℕ) → list_all is_ascii_name_byte bs ≡ true → following (λ b. not (eqb b 58)) bs ≡ []
 none_behind [] h = refl
 none_behind (b ∷ bs) h = let p = and_parts (is_ascii_name_byte b) _ h in rw (no_colon b p.0) (none_behind bs p.1)
 
@@ -51,7 +51,7 @@ is_a_name (b ∷ bs) begins h =
 
 has_one_part : (bs : List ℕ) → begins_as_name bs ≡ true → list_all is_ascii_name_byte bs ≡ true → has_parts bs ≡ true
 has_one_part bs begins h =
-    and_from _ _ (ap is_name (all_in_front bs h) ∙ is_a_name bs begins h) (ap is_behind_colon (none_behind bs h))
+    and_from _ _ (ap is_name (all_in_front bs h) ∙ is_a_name bs begins h) (ap is_after_colon (none_behind bs h))
 
 ascii : (bs : List ℕ) → list_all is_ascii_name_byte bs ≡ true → IsAscii bs
 ascii [] h i = omega arith
@@ -80,10 +80,10 @@ letters_first bs n m is more =
 -- ---- at the front
 
 -- what is behind them doesn't begin with another
-pub stops_behind : (bs rest : List ℕ) → rest ≡ behind is_ascii_name_byte bs → is_empty (front is_ascii_name_byte rest) ≡ true
-stops_behind bs rest is = ap (λ l. is_empty (front is_ascii_name_byte l)) is ∙ none bs
+pub stops_after : (bs rest : List ℕ) → rest ≡ following is_ascii_name_byte bs → is_empty (front is_ascii_name_byte rest) ≡ true
+stops_after bs rest is = ap (λ l. is_empty (front is_ascii_name_byte l)) is ∙ none bs
   where
-    none : (bs : List ℕ) → is_empty (front is_ascii_name_byte (behind is_ascii_name_byte bs)) ≡ true
+    none : (bs : List ℕ) → is_empty (front is_ascii_name_byte (following is_ascii_name_byte bs)) ≡ true
     none [] = refl
     none (b ∷ bs) =
         ⊎_elim
@@ -112,24 +112,24 @@ front_ascii bytes name is = ascii name (ap (list_all is_ascii_name_byte) is ∙ 
 -- bytes of ASCII that no more bytes of a name follow
 record Alone (bytes name rest : List ℕ) : Type 0 where
   pub front_is : front is_qualified_byte bytes ≡ name
-  pub behind_is : behind is_qualified_byte bytes ≡ rest
+  pub after_is : following is_qualified_byte bytes ≡ rest
 
-alone : (bytes name rest : List ℕ) → name ≡ front is_ascii_name_byte bytes → rest ≡ behind is_ascii_name_byte bytes → is_empty (front is_qualified_byte rest) ≡ true → Alone bytes name rest
+alone : (bytes name rest : List ℕ) → name ≡ front is_ascii_name_byte bytes → rest ≡ following is_ascii_name_byte bytes → is_empty (front is_qualified_byte rest) ≡ true → Alone bytes name rest
 alone bytes name rest is rest_is none =
     let all = all_qualified name (ap (list_all is_ascii_name_byte) is ∙ splits.front_passes is_ascii_name_byte bytes) in
     let stop = splits.stops_where_none is_qualified_byte rest none in
-    let whole : bytes ≡ name ++ rest = sym (splits.joined is_ascii_name_byte bytes) ∙ (ap (λ l. l ++ behind is_ascii_name_byte bytes) (sym is) ∙ ap (λ l. name ++ l) (sym rest_is)) in
+    let whole : bytes ≡ name ++ rest = sym (splits.joined is_ascii_name_byte bytes) ∙ (ap (λ l. l ++ following is_ascii_name_byte bytes) (sym is) ∙ ap (λ l. name ++ l) (sym rest_is)) in
     record {
       front_is = ap (front is_qualified_byte) whole ∙ splits.front-append is_qualified_byte name rest all stop;
-      behind_is = ap (behind is_qualified_byte) whole ∙ splits.behind-append is_qualified_byte name rest all stop;
+      after_is = ap (following is_qualified_byte) whole ∙ splits.following-append is_qualified_byte name rest all stop;
     }
 
-pub front_named : (bytes name rest : List ℕ) → name ≡ front is_ascii_name_byte bytes → rest ≡ behind is_ascii_name_byte bytes → begins_as_name name ≡ true → is_empty (front is_qualified_byte rest) ≡ true
+pub front_named : (bytes name rest : List ℕ) → name ≡ front is_ascii_name_byte bytes → rest ≡ following is_ascii_name_byte bytes → begins_as_name name ≡ true → is_empty (front is_qualified_byte rest) ≡ true
     → Some name ≡ cond (is_qualified (front is_qualified_byte bytes)) (Some (front is_qualified_byte bytes)) None
 front_named bytes name rest is rest_is begins none =
     let a = alone bytes name rest is rest_is none in
     let q = one_qualified name begins (ap (list_all is_ascii_name_byte) is ∙ splits.front_passes is_ascii_name_byte bytes) in
     sym (ap (λ l. cond (is_qualified l) (Some l) None) a.front_is ∙ cond-true (is_qualified name) (Some name) None q)
 
-pub front_alone : (bytes name rest : List ℕ) → name ≡ front is_ascii_name_byte bytes → rest ≡ behind is_ascii_name_byte bytes → is_empty (front is_qualified_byte rest) ≡ true → rest ≡ behind is_qualified_byte bytes
-front_alone bytes name rest is rest_is none = sym (alone bytes name rest is rest_is none).behind_is
+pub front_alone : (bytes name rest : List ℕ) → name ≡ front is_ascii_name_byte bytes → rest ≡ following is_ascii_name_byte bytes → is_empty (front is_qualified_byte rest) ≡ true → rest ≡ following is_qualified_byte bytes
+front_alone bytes name rest is rest_is none = sym (alone bytes name rest is rest_is none).after_is

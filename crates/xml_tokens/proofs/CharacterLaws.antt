@@ -6,7 +6,7 @@ use Rattle.std.proofs.lemmas.Str.{chars_from_encodes}
 use Rattle.std.specs.List.{list_all}
 use Rattle.std.specs.Str.{IsUtf8, chars}
 use lib.Utf8.{scalar, scalars, encode, encodes, scalar_cases}
-use Rattle.xml_tokens.specs.Characters.{is_control, is_character, ends_forbidden, are_characters, are_characters_behind}
+use Rattle.xml_tokens.specs.Characters.{is_control, is_character, ends_forbidden, are_characters, are_characters_after}
 
 -- no byte from 192 on ends a forbidden character, nor does one behind a byte other than BF, or behind one other than EF before it
 quiet_first : (a b x : ℕ) → 192 ≤ x → ends_forbidden a b x ≡ false
@@ -16,15 +16,15 @@ quiet_last : (a b x : ℕ) → 128 ≤ x → 192 ≤ b → ends_forbidden a b x 
 quiet_last a b x h k = grind (arith, nat_tests)
 
 quiet_before : (a b x : ℕ) → 128 ≤ x → (a < 239) ⊎ (239 < a) → ends_forbidden a b x ≡ false
-quiet_before a b x h k = ⊎_elim (λ less. before a b x h less) (λ more. behind a b x h more) k
+quiet_before a b x h k = ⊎_elim (λ less. before a b x h less) (λ more. following a b x h more) k
   where
     before : (a b x : ℕ) → 128 ≤ x → a < 239 → ends_forbidden a b x ≡ false
     before a b x h k = grind (arith, nat_tests)
 
-    behind : (a b x : ℕ) → 128 ≤ x → 239 < a → ends_forbidden a b x ≡ false
-    behind a b x h k = grind (arith, nat_tests)
+    following : (a b x : ℕ) → 128 ≤ x → 239 < a → ends_forbidden a b x ≡ false
+    following a b x h k = grind (arith, nat_tests)
 
-passes : (a b x : ℕ) (rest : List ℕ) → ends_forbidden a b x ≡ false → are_characters_behind a b (x ∷ rest) ≡ are_characters_behind b x rest
+passes : (a b x : ℕ) (rest : List ℕ) → ends_forbidden a b x ≡ false → are_characters_after a b (x ∷ rest) ≡ are_characters_after b x rest
 passes a b x rest h = rw h refl
 
 ascii_end : (a b c : ℕ) → c < 128 → ends_forbidden a b c ≡ is_control c
@@ -45,20 +45,20 @@ highest c h k = grind (arith, nat_tests)
 none : (c : ℕ) → 65534 ≤ c → c < 65536 → is_character c ≡ false
 none c h k = grind (arith, nat_tests)
 
-module _ (rest : List ℕ) (r : Bool) (same : (u v : ℕ) → are_characters_behind u v rest ≡ r) where
-  one : (c a b : ℕ) → c < 128 → are_characters_behind a b (c ∷ rest) ≡ (is_character c && r)
+module _ (rest : List ℕ) (r : Bool) (same : (u v : ℕ) → are_characters_after u v rest ≡ r) where
+  one : (c a b : ℕ) → c < 128 → are_characters_after a b (c ∷ rest) ≡ (is_character c && r)
   one c a b h =
       let test : not (is_control c) ≡ is_character c = agree_below_at (λ n. not (is_control n)) is_character 128 c refl h in
-      ap (λ e. not e && are_characters_behind b c rest) (ascii_end a b c h) ∙ ap (λ t. t && are_characters_behind b c rest) test ∙ ap (λ t. is_character c && t) (same b c)
+      ap (λ e. not e && are_characters_after b c rest) (ascii_end a b c h) ∙ ap (λ t. t && are_characters_after b c rest) test ∙ ap (λ t. is_character c && t) (same b c)
 
-  two : (c a b : ℕ) → 128 ≤ c → c < 2048 → are_characters_behind a b ((192 + c / 64) ∷ (128 + c % 64) ∷ rest) ≡ (is_character c && r)
+  two : (c a b : ℕ) → 128 ≤ c → c < 2048 → are_characters_after a b ((192 + c / 64) ∷ (128 + c % 64) ∷ rest) ≡ (is_character c && r)
   two c a b low high =
       let x = 192 + c / 64 in
       let y = 128 + c % 64 in
       passes a b x (y ∷ rest) (quiet_first a b x (omega arith)) ∙ passes b x y rest (quiet_last b x y (omega arith) (omega arith)) ∙ same x y
       ∙ ap (λ t. t && r) (sym (wide c low (omega arith)))
 
-  three : (c a b : ℕ) → 2048 ≤ c → c < 65536 → (c < 55296) ⊎ (57344 ≤ c) → are_characters_behind a b ((224 + c / 4096) ∷ (128 + c / 64 % 64) ∷ (128 + c % 64) ∷ rest) ≡ (is_character c && r)
+  three : (c a b : ℕ) → 2048 ≤ c → c < 65536 → (c < 55296) ⊎ (57344 ≤ c) → are_characters_after a b ((224 + c / 4096) ∷ (128 + c / 64 % 64) ∷ (128 + c % 64) ∷ rest) ≡ (is_character c && r)
   three c a b low top apart =
       let x = 224 + c / 4096 in
       let y = 128 + c / 64 % 64 in
@@ -68,7 +68,7 @@ module _ (rest : List ℕ) (r : Bool) (same : (u v : ℕ) → are_characters_beh
       (λ (less : c < 65534). passes x y z rest (third c less) ∙ same y z ∙ ap (λ t. t && r) (sym (⊎_elim (λ below. wide c (omega arith) below) (λ above. high c above less) apart)))
       (λ (more : 65534 ≤ c).
       let bad : ends_forbidden x y z ≡ true = last_end x y z (omega arith) (omega arith) (omega arith) (omega arith) (omega arith) in
-      ap (λ e. not e && are_characters_behind y z rest) bad ∙ ap (λ t. t && r) (sym (none c more top)))
+      ap (λ e. not e && are_characters_after y z rest) bad ∙ ap (λ t. t && r) (sym (none c more top)))
       (cases_lt c 65534)
     where
       third : (c : ℕ) → c < 65534 → ends_forbidden (224 + c / 4096) (128 + c / 64 % 64) (128 + c % 64) ≡ false
@@ -86,7 +86,7 @@ module _ (rest : List ℕ) (r : Bool) (same : (u v : ℕ) → are_characters_beh
           control_low : (z : ℕ) → 128 ≤ z → is_control z ≡ true → ⊥
           control_low z h k = grind (arith, nat_tests)
 
-  four : (c a b : ℕ) → 65536 ≤ c → c < 1114112 → are_characters_behind a b ((240 + c / 262144) ∷ (128 + c / 4096 % 64) ∷ (128 + c / 64 % 64) ∷ (128 + c % 64) ∷ rest) ≡ (is_character c && r)
+  four : (c a b : ℕ) → 65536 ≤ c → c < 1114112 → are_characters_after a b ((240 + c / 262144) ∷ (128 + c / 4096 % 64) ∷ (128 + c / 64 % 64) ∷ (128 + c % 64) ∷ rest) ≡ (is_character c && r)
   four c a b low top =
       let x = 240 + c / 262144 in
       let y = 128 + c / 4096 % 64 in
@@ -96,7 +96,7 @@ module _ (rest : List ℕ) (r : Bool) (same : (u v : ℕ) → are_characters_beh
       ∙ passes x y z (w ∷ rest) (quiet_before x y z (omega arith) (inr (omega arith))) ∙ passes y z w rest (quiet_before y z w (omega arith) (inl (omega arith))) ∙ same z w
       ∙ ap (λ t. t && r) (sym (highest c low top))
 
-  character : (c a b : ℕ) → scalar c ≡ true → are_characters_behind a b (encode c ++ rest) ≡ (is_character c && r)
+  character : (c a b : ℕ) → scalar c ≡ true → are_characters_after a b (encode c ++ rest) ≡ (is_character c && r)
   unfolding encode
   character c a b h =
       let apart = scalar_cases c h in
@@ -108,7 +108,7 @@ module _ (rest : List ℕ) (r : Bool) (same : (u v : ℕ) → are_characters_beh
       (λ o. rw (le-ltb c 128 m, le-ltb c 2048 n, le-ltb c 65536 o) (four c a b o top))
       (cases_lt c 65536)) (cases_lt c 2048)) (cases_lt c 128)
 
-characters : (cs : List ℕ) (a b : ℕ) → scalars cs ≡ true → are_characters_behind a b (encodes cs) ≡ list_all is_character cs
+characters : (cs : List ℕ) (a b : ℕ) → scalars cs ≡ true → are_characters_after a b (encodes cs) ≡ list_all is_character cs
 characters [] a b h = refl
 characters (c ∷ cs) a b h =
     let p = and_parts (scalar c) (scalars cs) h in
@@ -117,4 +117,4 @@ characters (c ∷ cs) a b h =
 pub characters_are_those : (bs : List ℕ) → IsUtf8 bs → are_characters bs ≡ list_all is_character (chars bs)
 unfolding are_characters
 characters_are_those bs h =
-    ap (are_characters_behind 0 0) (sym h.1.1) ∙ characters h.0 0 0 h.1.0 ∙ ap (list_all is_character) (chars_from_encodes h.0 bs h h.1.1)
+    ap (are_characters_after 0 0) (sym h.1.1) ∙ characters h.0 0 0 h.1.0 ∙ ap (list_all is_character) (chars_from_encodes h.0 bs h h.1.1)

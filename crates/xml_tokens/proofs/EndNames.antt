@@ -3,7 +3,7 @@ use Rattle.std.proofs.Common.{◌≡◌, ℕ, Bool, true, false, cond, eqb, ◌&
 use Rattle.std.proofs.lemmas.Bool.{cases_Bool, and_parts, false≢true}
 use Rattle.std.specs.Option.{option_map, option_and_then, ok_or}
 use Rattle.xml_tokens.specs.Tags.{Tag, start_tag, end_tag, Inside, is_end, is_qualified, is_qualified_byte, inside_of, are_distinct, names_of, start_with, start_at, end_at, tag_at, is_restricted, tag_of, end_name}
-use Rattle.xml_tokens.specs.Fronts.{front, behind}
+use Rattle.xml_tokens.specs.Fronts.{front, following}
 use Rattle.xml_tokens.specs.declared.fault.TagWhy.{TagWhy}
 use Rattle.xml_tokens.specs.declared.fault.TagWhy.TheVariants.{Restricted, NotWellFormed}
 
@@ -24,7 +24,7 @@ started name (Some i) = starts (are_distinct (names_of i.attributes)) name i
 
 start_has_none : (bs : List ℕ) → name_in (start_at bs) ≡ None
 unfolding start_at
-start_has_none bs = unless (is_qualified (front is_qualified_byte bs)) (option_and_then (start_with (front is_qualified_byte bs)) (inside_of (behind is_qualified_byte bs))) (started (front is_qualified_byte bs) (inside_of (behind is_qualified_byte bs)))
+start_has_none bs = unless (is_qualified (front is_qualified_byte bs)) (option_and_then (start_with (front is_qualified_byte bs)) (inside_of (following is_qualified_byte bs))) (started (front is_qualified_byte bs) (inside_of (following is_qualified_byte bs)))
 
 rest_false : (a b : Bool) → a ≡ true → (a && b) ≡ false → b ≡ false
 rest_false true b e h = h

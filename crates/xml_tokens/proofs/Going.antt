@@ -6,7 +6,7 @@ use Rattle.std.proofs.lemmas.Slice.Eq.{bytes_eq-Decides}
 use Rattle.std.specs.List.{list_all}
 use Rattle.std.specs.Prelude.{codes}
 use Rattle.std.specs.Str.{bytes_eq}
-use Rattle.xml_tokens.specs.Characters.{is_digit, is_name_start, is_name, go_on, are_characters, are_characters_behind}
+use Rattle.xml_tokens.specs.Characters.{is_digit, is_name_start, is_name, go_on, are_characters, are_characters_after}
 use Rattle.xml_tokens.specs.References.{is_hex_digit, are_digits, number_of, character_numbered, character_reference, entity_reference, referred, last_two, reference_goes_on, each_goes_on}
 use Rattle.xml_tokens.specs.declared.references.Reference.{Reference}
 use Rattle.xml_tokens.specs.declared.references.Reference.TheVariants.{Unknown, Malformed}
@@ -79,7 +79,7 @@ numbers_go_on (b ∷ bs) h =
 -- ---- names
 
 names_go_on : (x : ℕ) (so rest : List ℕ) → eqb x 35 ≡ false → go_on rest ≡ true
-    → are_characters_behind (get_or (last_two 0 0 (x ∷ so)) 0 0) (get_or (last_two 0 0 (x ∷ so)) 1 0) rest ≡ true
+    → are_characters_after (get_or (last_two 0 0 (x ∷ so)) 0 0) (get_or (last_two 0 0 (x ∷ so)) 1 0) rest ≡ true
     → each_goes_on (x ∷ so) rest ≡ true
 unfolding reference_goes_on
 names_go_on x so [] other h k = refl
@@ -88,8 +88,8 @@ names_go_on x so (b ∷ bs) other h k =
     let q = and_parts _ _ k in
     let here : reference_goes_on (x ∷ so) b ≡ true = rw other (and_from _ _ p.0 q.0) in
     let more = last_two_more 0 0 (x ∷ so) b in
-    let behind : are_characters_behind (get_or (last_two 0 0 (x ∷ (so ++ b ∷ []))) 0 0) (get_or (last_two 0 0 (x ∷ (so ++ b ∷ []))) 1 0) bs ≡ true = rw more q.1 in
-    and_from _ _ here (names_go_on x (so ++ b ∷ []) bs other p.1 behind)
+    let following : are_characters_after (get_or (last_two 0 0 (x ∷ (so ++ b ∷ []))) 0 0) (get_or (last_two 0 0 (x ∷ (so ++ b ∷ []))) 1 0) bs ≡ true = rw more q.1 in
+    and_from _ _ here (names_go_on x (so ++ b ∷ []) bs other p.1 following)
 
 -- what is an entity's reference has a name
 named : (name : List ℕ) → entity_reference name ≢ Malformed → is_name name ≡ true

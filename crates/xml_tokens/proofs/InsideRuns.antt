@@ -3,7 +3,7 @@ use Rattle.std.proofs.Common.{◌≡◌, ℕ, zero, suc, ◌<◌, Bool, List, []
 use Rattle.std.proofs.lemmas.List.{append-nil}
 use Rattle.std.specs.Option.{option_map, option_and_then}
 use Rattle.xml_tokens.specs.Characters.{is_white}
-use Rattle.xml_tokens.specs.Fronts.{behind}
+use Rattle.xml_tokens.specs.Fronts.{following}
 use Rattle.xml_tokens.specs.Values.{value_of}
 use Rattle.xml_tokens.specs.Tags.{Attribute, Spelled, Found, Inside, found, attribute_at, spelled_at, end_in, with_more, unless_ended, inside_within, inside_of}
 use Rattle.xml_tokens.proofs.TagWords.{spelled_shorter}
@@ -53,14 +53,14 @@ enough : (k j : ℕ) (bs : List ℕ) → length bs < k → length bs < j → ins
 enough zero j bs p q = absurd (omega arith)
 enough (suc k) zero bs p q = absurd (omega arith)
 enough (suc k) (suc j) bs p q =
-    ap (unless_ended (end_in (behind is_white bs)))
+    ap (unless_ended (end_in (following is_white bs)))
     (and_then_same (attribute_at bs) (λ f. with_more (f.attribute ∷ []) (inside_within k f.rest)) (λ f. with_more (f.attribute ∷ []) (inside_within j f.rest))
     (λ f e. let less = found_shorter bs f e in ap (with_more (f.attribute ∷ [])) (enough k j f.rest (omega arith) (omega arith))))
 
-pub inside_step : (bs : List ℕ) → inside_of bs ≡ unless_ended (end_in (behind is_white bs)) (option_and_then (λ f. with_more (f.attribute ∷ []) (inside_of f.rest)) (attribute_at bs))
+pub inside_step : (bs : List ℕ) → inside_of bs ≡ unless_ended (end_in (following is_white bs)) (option_and_then (λ f. with_more (f.attribute ∷ []) (inside_of f.rest)) (attribute_at bs))
 unfolding inside_of
 inside_step bs =
-    ap (unless_ended (end_in (behind is_white bs)))
+    ap (unless_ended (end_in (following is_white bs)))
     (and_then_same (attribute_at bs) (λ f. with_more (f.attribute ∷ []) (inside_within (length bs) f.rest)) (λ f. with_more (f.attribute ∷ []) (inside_within (suc (length f.rest)) f.rest))
     (λ f e. let less = found_shorter bs f e in ap (with_more (f.attribute ∷ [])) (enough (length bs) (suc (length f.rest)) f.rest (omega arith) (omega arith))))
 
@@ -72,20 +72,20 @@ pub with_more-nil : (i : Option Inside) → with_more [] i ≡ i
 with_more-nil None = refl
 with_more-nil (Some i) = refl
 
-pub inside_ends : (more : List Attribute) (rest : List ℕ) (end : Option Bool) (empty : Bool) → end ≡ end_in (behind is_white rest) → end ≡ Some empty → with_more more (inside_of rest) ≡ Some (record { attributes = more; empty = empty })
+pub inside_ends : (more : List Attribute) (rest : List ℕ) (end : Option Bool) (empty : Bool) → end ≡ end_in (following is_white rest) → end ≡ Some empty → with_more more (inside_of rest) ≡ Some (record { attributes = more; empty = empty })
 inside_ends more rest end empty end_is is =
     ap (with_more more) (inside_step rest ∙ ap (λ e. unless_ended e (option_and_then (λ f. with_more (f.attribute ∷ []) (inside_of f.rest)) (attribute_at rest))) (sym end_is ∙ is))
     ∙ ap (λ l. Some (record { attributes = l; empty = empty })) (append-nil more)
 
-not_ended : (rest : List ℕ) (end : Option Bool) → end ≡ end_in (behind is_white rest) → end ≡ None → inside_of rest ≡ option_and_then (λ f. with_more (f.attribute ∷ []) (inside_of f.rest)) (attribute_at rest)
+not_ended : (rest : List ℕ) (end : Option Bool) → end ≡ end_in (following is_white rest) → end ≡ None → inside_of rest ≡ option_and_then (λ f. with_more (f.attribute ∷ []) (inside_of f.rest)) (attribute_at rest)
 not_ended rest end end_is is =
     inside_step rest ∙ ap (λ e. unless_ended e (option_and_then (λ f. with_more (f.attribute ∷ []) (inside_of f.rest)) (attribute_at rest))) (sym end_is ∙ is)
 
-pub inside_goes_on : (more pushed : List Attribute) (rest : List ℕ) (end : Option Bool) (a : Attribute) (left : List ℕ) → end ≡ end_in (behind is_white rest) → end ≡ None
+pub inside_goes_on : (more pushed : List Attribute) (rest : List ℕ) (end : Option Bool) (a : Attribute) (left : List ℕ) → end ≡ end_in (following is_white rest) → end ≡ None
     → attribute_at rest ≡ Some (record { attribute = a; rest = left }) → pushed ≡ more ++ a ∷ [] → with_more pushed (inside_of left) ≡ with_more more (inside_of rest)
 inside_goes_on more pushed rest end a left end_is is finds pushed_is =
     ap (λ l. with_more l (inside_of left)) pushed_is ∙ with_more-append more (a ∷ []) (inside_of left)
     ∙ ap (with_more more) (sym (not_ended rest end end_is is ∙ ap (option_and_then (λ f. with_more (f.attribute ∷ []) (inside_of f.rest))) finds))
 
-pub inside_fails : (rest : List ℕ) (end : Option Bool) → end ≡ end_in (behind is_white rest) → end ≡ None → attribute_at rest ≡ None → inside_of rest ≡ None
+pub inside_fails : (rest : List ℕ) (end : Option Bool) → end ≡ end_in (following is_white rest) → end ≡ None → attribute_at rest ≡ None → inside_of rest ≡ None
 inside_fails rest end end_is is none = not_ended rest end end_is is ∙ ap (option_and_then (λ f. with_more (f.attribute ∷ []) (inside_of f.rest))) none

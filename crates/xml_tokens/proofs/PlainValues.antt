@@ -7,7 +7,7 @@ use Rattle.std.specs.List.{list_all}
 use Rattle.std.specs.Str.{IsUtf8, IsAscii}
 use Rattle.xml_tokens.proofs.Texts.{text_is}
 use Rattle.xml_tokens.proofs.ValueRuns.{plain_byte}
-use Rattle.xml_tokens.specs.Characters.{ends_forbidden, are_characters, are_characters_behind}
+use Rattle.xml_tokens.specs.Characters.{ends_forbidden, are_characters, are_characters_after}
 use Rattle.xml_tokens.specs.Values.{text, in_front, value_from, as_text, value_of, is_plain, is_plain_ascii}
 
 quiet : (x y b : ℕ) → is_plain_ascii b ≡ true → ends_forbidden x y b ≡ false
@@ -19,7 +19,7 @@ plain b h = grind (arith, nat_tests)
 small : (b : ℕ) → is_plain_ascii b ≡ true → b < 128
 small b h = grind (arith, nat_tests)
 
-characters : (x y : ℕ) (raw : List ℕ) → list_all is_plain_ascii raw ≡ true → are_characters_behind x y raw ≡ true
+characters : (x y : ℕ) (raw : List ℕ) → list_all is_plain_ascii raw ≡ true → are_characters_after x y raw ≡ true
 characters x y [] h = refl
 characters x y (b ∷ bs) h = let p = and_parts (is_plain_ascii b) _ h in rw (quiet x y b p.0) (characters y b bs p.1)
 

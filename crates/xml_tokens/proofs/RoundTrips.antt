@@ -7,7 +7,7 @@ use Rattle.std.proofs.lemmas.Str.{is_utf8-from_IsUtf8}
 use Rattle.std.specs.List.{flat_map, list_all}
 use Rattle.std.specs.Str.{IsUtf8, is_utf8}
 use lib.Utf8.{encode}
-use Rattle.xml_tokens.specs.Characters.{is_control, ends_forbidden, are_characters, are_characters_behind}
+use Rattle.xml_tokens.specs.Characters.{is_control, ends_forbidden, are_characters, are_characters_after}
 use Rattle.xml_tokens.specs.References.{referred}
 use Rattle.xml_tokens.specs.Spelling.{text_byte, value_byte, spelled_text, spelled_value, text_from}
 use Rattle.xml_tokens.specs.Values.{text, in_front, value_from, value_of, as_text}
@@ -147,7 +147,7 @@ text_unmarked (b ∷ bs) = list_all-append no_mark (text_byte b) (spelled_text b
 abbrev is_low : ℕ → Bool
 is_low c = not (is_control c) && (not (eqb c 190) && (not (eqb c 191) && not (eqb c 239)))
 
-first_forgotten : (c x : ℕ) (xs : List ℕ) → eqb c 239 ≡ false → are_characters_behind c x xs ≡ are_characters_behind 0 x xs
+first_forgotten : (c x : ℕ) (xs : List ℕ) → eqb c 239 ≡ false → are_characters_after c x xs ≡ are_characters_after 0 x xs
 first_forgotten c x [] h = refl
 first_forgotten c x (y ∷ ys) h = rw h refl
 
@@ -157,14 +157,14 @@ quiet a c x k = let e : (eqb a 239 && eqb c 191) ≡ false = rw k (and-false (eq
 both_same : (p q r s : Bool) → p ≡ q → r ≡ s → (p && r) ≡ (q && s)
 both_same p q r s e f = rw (e, f) refl
 
-both_forgotten : (a c : ℕ) (xs : List ℕ) → eqb c 239 ≡ false → eqb c 191 ≡ false → are_characters_behind a c xs ≡ are_characters_behind 0 0 xs
+both_forgotten : (a c : ℕ) (xs : List ℕ) → eqb c 239 ≡ false → eqb c 191 ≡ false → are_characters_after a c xs ≡ are_characters_after 0 0 xs
 both_forgotten a c [] h k = refl
 both_forgotten a c (x ∷ xs) h k =
-    both_same (not (ends_forbidden a c x)) (not (ends_forbidden 0 0 x)) (are_characters_behind c x xs) (are_characters_behind 0 x xs)
+    both_same (not (ends_forbidden a c x)) (not (ends_forbidden 0 0 x)) (are_characters_after c x xs) (are_characters_after 0 x xs)
     (ap not (quiet a c x k)) (first_forgotten c x xs h)
 
 -- low bytes change nothing
-low_passes : (a b c : ℕ) (rest : List ℕ) → is_low c ≡ true → are_characters_behind a b (c ∷ rest) ≡ are_characters_behind 0 0 rest
+low_passes : (a b c : ℕ) (rest : List ℕ) → is_low c ≡ true → are_characters_after a b (c ∷ rest) ≡ are_characters_after 0 0 rest
 low_passes a b c rest h =
     let p = and_parts (not (is_control c)) _ h in
     let q = and_parts (not (eqb c 190)) _ p.1 in
@@ -172,7 +172,7 @@ low_passes a b c rest h =
     let no_end : ends_forbidden a b c ≡ false = or_from (is_control c) _ (not-true _ p.0) (rw (not-true _ q.0, not-true _ r.0) (and-false (eqb a 239 && eqb b 191))) in
     rw no_end (both_forgotten b c rest (not-true _ r.1) (not-true _ r.0))
 
-low_run : (a b : ℕ) (es rest : List ℕ) → list_all is_low es ≡ true → are_characters_behind 0 0 rest ≡ true → are_characters_behind 0 0 (es ++ rest) ≡ true
+low_run : (a b : ℕ) (es rest : List ℕ) → list_all is_low es ≡ true → are_characters_after 0 0 rest ≡ true → are_characters_after 0 0 (es ++ rest) ≡ true
 low_run a b [] rest h k = k
 low_run a b (e ∷ es) rest h k = let p = and_parts (is_low e) (list_all is_low es) h in low_passes 0 0 e (es ++ rest) p.0 ∙ low_run a b es rest p.1 k
 
@@ -181,18 +181,18 @@ data Written (f : ℕ → List ℕ) (b : ℕ) : Type 0 where
   kept : f b ≡ b ∷ [] → Written f b
   escaped : (e : ℕ) (es : List ℕ) → f b ≡ e ∷ es → list_all is_low (e ∷ es) ≡ true → eqb b 239 ≡ false → eqb b 191 ≡ false → Written f b
 
-characters_written : (f : ℕ → List ℕ) → ((b : ℕ) → Written f b) → (a b : ℕ) (v : List ℕ) → are_characters_behind a b v ≡ true → are_characters_behind a b (flat_map f v) ≡ true
+characters_written : (f : ℕ → List ℕ) → ((b : ℕ) → Written f b) → (a b : ℕ) (v : List ℕ) → are_characters_after a b v ≡ true → are_characters_after a b (flat_map f v) ≡ true
 characters_written f each a b [] h = refl
 characters_written f each a b (c ∷ cs) h =
-    let p = and_parts (not (ends_forbidden a b c)) (are_characters_behind b c cs) h in
+    let p = and_parts (not (ends_forbidden a b c)) (are_characters_after b c cs) h in
     by_case (each c) p.0 p.1 (characters_written f each b c cs p.1) (λ k. characters_written f each 0 0 cs k)
   where
-    by_case : Written f c → not (ends_forbidden a b c) ≡ true → are_characters_behind b c cs ≡ true → are_characters_behind b c (flat_map f cs) ≡ true
-        → (are_characters_behind 0 0 cs ≡ true → are_characters_behind 0 0 (flat_map f cs) ≡ true) → are_characters_behind a b (f c ++ flat_map f cs) ≡ true
+    by_case : Written f c → not (ends_forbidden a b c) ≡ true → are_characters_after b c cs ≡ true → are_characters_after b c (flat_map f cs) ≡ true
+        → (are_characters_after 0 0 cs ≡ true → are_characters_after 0 0 (flat_map f cs) ≡ true) → are_characters_after a b (f c ++ flat_map f cs) ≡ true
     by_case (kept is) here rest same low = rw is (and_from _ _ here same)
     by_case (escaped e es is all n239 n191) here rest same low =
         let q = and_parts (is_low e) (list_all is_low es) all in
-        let calm : are_characters_behind 0 0 cs ≡ true = sym (both_forgotten b c cs n239 n191) ∙ rest in
+        let calm : are_characters_after 0 0 cs ≡ true = sym (both_forgotten b c cs n239 n191) ∙ rest in
         rw is (low_passes a b e (es ++ flat_map f cs) q.0 ∙ low_run 0 0 es (flat_map f cs) q.1 (low calm))
 
 byte_written : (b : ℕ) → Written value_byte b

@@ -3,11 +3,11 @@ use Rattle.std.proofs.Common.{◌≡◌, ℕ, ◌+◌, ◌<◌, ◌≤◌, Bool,
 use Rattle.std.proofs.lemmas.Bool.{cases_Bool, and_parts, or_parts, not-true}
 use Rattle.std.proofs.lemmas.Bool.Decides.{nat_tests}
 use Rattle.std.specs.List.{flat_map}
-use Rattle.xml_tokens.specs.Fronts.{front, behind}
+use Rattle.xml_tokens.specs.Fronts.{front, following}
 use Rattle.xml_tokens.specs.Spelling.{text_byte, value_byte, written_byte, is_text_plain, is_value_plain, is_plain_as}
 use Rattle.xml_tokens.specs.declared.written.Written.{Written}
 use Rattle.xml_tokens.specs.declared.written.Written.TheVariants.{Text, Value}
-use Rattle.xml_tokens.proofs.Splits.{behind_stops, length-joined}
+use Rattle.xml_tokens.proofs.Splits.{after_stops, length-joined}
 
 pub text_plain_is : (b : ℕ) → is_text_plain b ≡ true → text_byte b ≡ b ∷ []
 unfolding text_byte
@@ -50,7 +50,7 @@ escaped_is Text b h = text_escaped_is b h
 escaped_is Value b h = refl
 
 module _ (f : ℕ → List ℕ) (p : ℕ → Bool) (plain_is : (b : ℕ) → p b ≡ true → f b ≡ b ∷ []) where
-  run : (bs : List ℕ) → flat_map f bs ≡ front p bs ++ flat_map f (behind p bs)
+  run : (bs : List ℕ) → flat_map f bs ≡ front p bs ++ flat_map f (following p bs)
   run [] = refl
   run (b ∷ bs) =
       ⊎_elim
@@ -58,60 +58,60 @@ module _ (f : ℕ → List ℕ) (p : ℕ → Bool) (plain_is : (b : ℕ) → p b
       (λ (other : p b ≡ false). rw other refl)
       (cases_Bool (p b))
 
-  pub whole : (plain special rest : List ℕ) → plain ≡ front p rest → special ≡ behind p rest → flat_map f rest ≡ plain ++ flat_map f special
+  pub whole : (plain special rest : List ℕ) → plain ≡ front p rest → special ≡ following p rest → flat_map f rest ≡ plain ++ flat_map f special
   whole plain special rest is_front is_rest = rw (is_front, is_rest) (run rest)
 
-  pub room_for_plain : (plain special rest : List ℕ) (spare : ℕ) → plain ≡ front p rest → special ≡ behind p rest → length (flat_map f rest) ≤ spare → length plain ≤ spare
+  pub room_for_plain : (plain special rest : List ℕ) (spare : ℕ) → plain ≡ front p rest → special ≡ following p rest → length (flat_map f rest) ≤ spare → length plain ≤ spare
   room_for_plain plain special rest spare is_front is_rest room =
       let e = ap length (whole plain special rest is_front is_rest) in omega (arith, e, length-append plain (flat_map f special))
 
-  pub needs_escape : (special rest left : List ℕ) (b : ℕ) → special ≡ behind p rest → special ≡ b ∷ left → p b ≡ false
-  needs_escape special rest left b is_rest begins = behind_stops p rest b left (sym is_rest ∙ begins)
+  pub needs_escape : (special rest left : List ℕ) (b : ℕ) → special ≡ following p rest → special ≡ b ∷ left → p b ≡ false
+  needs_escape special rest left b is_rest begins = after_stops p rest b left (sym is_rest ∙ begins)
 
-  parts : (plain special rest left escaped : List ℕ) (b : ℕ) → plain ≡ front p rest → special ≡ behind p rest → special ≡ b ∷ left → escaped ≡ f b
+  parts : (plain special rest left escaped : List ℕ) (b : ℕ) → plain ≡ front p rest → special ≡ following p rest → special ≡ b ∷ left → escaped ≡ f b
       → flat_map f rest ≡ plain ++ (escaped ++ flat_map f left)
   parts plain special rest left escaped b is_front is_rest begins is_escaped =
       whole plain special rest is_front is_rest ∙ ap (λ l. plain ++ flat_map f l) begins ∙ ap (λ l. plain ++ (l ++ flat_map f left)) (sym is_escaped)
 
-  pub room_for_escape : (plain special rest left escaped : List ℕ) (b spare more : ℕ) → plain ≡ front p rest → special ≡ behind p rest → special ≡ b ∷ left → escaped ≡ f b
+  pub room_for_escape : (plain special rest left escaped : List ℕ) (b spare more : ℕ) → plain ≡ front p rest → special ≡ following p rest → special ≡ b ∷ left → escaped ≡ f b
       → length (flat_map f rest) ≤ spare → spare ≤ more + length plain → length escaped ≤ more
   room_for_escape plain special rest left escaped b spare more is_front is_rest begins is_escaped room kept =
       let e = ap length (parts plain special rest left escaped b is_front is_rest begins is_escaped) in
       omega (arith, e, length-append plain (escaped ++ flat_map f left), length-append escaped (flat_map f left))
 
-  pub items_escaped : (old mid new plain special rest left escaped : List ℕ) (b : ℕ) → plain ≡ front p rest → special ≡ behind p rest → special ≡ b ∷ left → escaped ≡ f b
+  pub items_escaped : (old mid new plain special rest left escaped : List ℕ) (b : ℕ) → plain ≡ front p rest → special ≡ following p rest → special ≡ b ∷ left → escaped ≡ f b
       → mid ≡ old ++ plain → new ≡ mid ++ escaped → new ++ flat_map f left ≡ old ++ flat_map f rest
   items_escaped old mid new plain special rest left escaped b is_front is_rest begins is_escaped first second =
       rw (second, first, parts plain special rest left escaped b is_front is_rest begins is_escaped) (simp append_assoc)
 
-  pub spare_escaped : (plain special rest left escaped : List ℕ) (b spare more last : ℕ) → plain ≡ front p rest → special ≡ behind p rest → special ≡ b ∷ left → escaped ≡ f b
+  pub spare_escaped : (plain special rest left escaped : List ℕ) (b spare more last : ℕ) → plain ≡ front p rest → special ≡ following p rest → special ≡ b ∷ left → escaped ≡ f b
       → spare ≤ more + length plain → more ≤ last + length escaped → spare + length (flat_map f left) ≤ last + length (flat_map f rest)
   spare_escaped plain special rest left escaped b spare more last is_front is_rest begins is_escaped first second =
       let e = ap length (parts plain special rest left escaped b is_front is_rest begins is_escaped) in
       omega (arith, e, length-append plain (escaped ++ flat_map f left), length-append escaped (flat_map f left))
 
-  pub shorter_escaped : (special rest left : List ℕ) (b : ℕ) → special ≡ behind p rest → special ≡ b ∷ left → length left < length rest
+  pub shorter_escaped : (special rest left : List ℕ) (b : ℕ) → special ≡ following p rest → special ≡ b ∷ left → length left < length rest
   shorter_escaped special rest left b is_rest begins =
       let both = length-joined p rest in
       let first = ap length begins in
       let second = ap length is_rest in
       omega arith
 
-  pub items_plain : (old new plain special rest : List ℕ) → plain ≡ front p rest → special ≡ behind p rest → new ≡ old ++ plain → new ++ flat_map f special ≡ old ++ flat_map f rest
+  pub items_plain : (old new plain special rest : List ℕ) → plain ≡ front p rest → special ≡ following p rest → new ≡ old ++ plain → new ++ flat_map f special ≡ old ++ flat_map f rest
   items_plain old new plain special rest is_front is_rest pushed =
       rw (pushed, whole plain special rest is_front is_rest) (append_assoc old plain (flat_map f special))
 
-  pub spare_plain : (plain special rest : List ℕ) (spare more : ℕ) → plain ≡ front p rest → special ≡ behind p rest → spare ≤ more + length plain → spare + length (flat_map f special) ≤ more + length (flat_map f rest)
+  pub spare_plain : (plain special rest : List ℕ) (spare more : ℕ) → plain ≡ front p rest → special ≡ following p rest → spare ≤ more + length plain → spare + length (flat_map f special) ≤ more + length (flat_map f rest)
   spare_plain plain special rest spare more is_front is_rest kept =
       let e = ap length (whole plain special rest is_front is_rest) in omega (arith, e, length-append plain (flat_map f special))
 
-  pub len_escaped : (plain special rest left escaped : List ℕ) (b len mid last most : ℕ) → plain ≡ front p rest → special ≡ behind p rest → special ≡ b ∷ left → escaped ≡ f b
+  pub len_escaped : (plain special rest left escaped : List ℕ) (b len mid last most : ℕ) → plain ≡ front p rest → special ≡ following p rest → special ≡ b ∷ left → escaped ≡ f b
       → mid ≡ min (len + length plain) most → last ≡ min (mid + length escaped) most → min (last + length (flat_map f left)) most ≡ min (len + length (flat_map f rest)) most
   len_escaped plain special rest left escaped b len mid last most is_front is_rest begins is_escaped first second =
       let e = ap length (parts plain special rest left escaped b is_front is_rest begins is_escaped) in
       omega (arith, e, length-append plain (escaped ++ flat_map f left), length-append escaped (flat_map f left))
 
-  pub len_plain : (plain special rest : List ℕ) (len last most : ℕ) → plain ≡ front p rest → special ≡ behind p rest → last ≡ min (len + length plain) most
+  pub len_plain : (plain special rest : List ℕ) (len last most : ℕ) → plain ≡ front p rest → special ≡ following p rest → last ≡ min (len + length plain) most
       → min (last + length (flat_map f special)) most ≡ min (len + length (flat_map f rest)) most
   len_plain plain special rest len last most is_front is_rest counted =
       let e = ap length (whole plain special rest is_front is_rest) in omega (arith, e, length-append plain (flat_map f special))

@@ -5,7 +5,7 @@ use Rattle.std.proofs.lemmas.Bool.Decides.{nat_tests}
 use Rattle.std.proofs.lemmas.List.{drop-drop, drop_more}
 use Rattle.std.proofs.lemmas.Nat.{le_or_l}
 use Rattle.std.specs.List.{prefix_len, list_all}
-use Rattle.xml_tokens.specs.Fronts.{front, behind}
+use Rattle.xml_tokens.specs.Fronts.{front, following}
 use Rattle.xml_tokens.specs.Tags.{is_empty}
 
 pub take_prefix : {X : Type 0} (p : X → Bool) (xs : List X) → take (prefix_len p xs) xs ≡ front p xs
@@ -16,7 +16,7 @@ take_prefix p (x ∷ xs) =
     (λ (f : p x ≡ false). rw f refl)
     (cases_Bool (p x))
 
-pub drop_prefix : {X : Type 0} (p : X → Bool) (xs : List X) → drop (prefix_len p xs) xs ≡ behind p xs
+pub drop_prefix : {X : Type 0} (p : X → Bool) (xs : List X) → drop (prefix_len p xs) xs ≡ following p xs
 drop_prefix p [] = refl
 drop_prefix p (x ∷ xs) =
     ⊎_elim
@@ -29,13 +29,13 @@ prefix_within p [] = omega arith
 prefix_within p (x ∷ xs) =
     ⊎_elim (λ (t : p x ≡ true). let ih = prefix_within p xs in rw t (omega arith)) (λ (f : p x ≡ false). rw f (omega arith)) (cases_Bool (p x))
 
-prefix_behind : {X : Type 0} (p : X → Bool) (n : ℕ) (xs : List X) → n ≤ length xs → list_all p (take n xs) ≡ true → n + prefix_len p (drop n xs) ≡ prefix_len p xs
-prefix_behind p zero xs within h = omega arith
-prefix_behind p (suc n) [] within h = omega arith
-prefix_behind p (suc n) (x ∷ xs) within h =
+prefix_after : {X : Type 0} (p : X → Bool) (n : ℕ) (xs : List X) → n ≤ length xs → list_all p (take n xs) ≡ true → n + prefix_len p (drop n xs) ≡ prefix_len p xs
+prefix_after p zero xs within h = omega arith
+prefix_after p (suc n) [] within h = omega arith
+prefix_after p (suc n) (x ∷ xs) within h =
     let q = and_parts (p x) _ h in
     let less : n ≤ length xs = omega arith in
-    let ih = prefix_behind p n xs less q.1 in
+    let ih = prefix_after p n xs less q.1 in
     rw q.0 (omega arith)
 
 -- what passes one test and then the other, where the other is wider
@@ -56,7 +56,7 @@ pub prefix_further : (p : ℕ → Bool) (done to : ℕ) (xs : List ℕ) → done
 prefix_further p done to xs further within h =
     let left : to - done ≤ length (drop done xs) = omega (arith, length-drop done xs) in
     let e : to ≡ done + (to - done) = omega arith in
-    ap (λ l. to - done + prefix_len p l) (ap (λ k. drop k xs) e ∙ sym (drop-drop (to - done) done xs)) ∙ prefix_behind p (to - done) (drop done xs) left h
+    ap (λ l. to - done + prefix_len p l) (ap (λ k. drop k xs) e ∙ sym (drop-drop (to - done) done xs)) ∙ prefix_after p (to - done) (drop done xs) left h
 
 -- where all pass
 pub prefix_of_all : (p : ℕ → Bool) (xs : List ℕ) → list_all p xs ≡ true → length xs ≡ prefix_len p xs
@@ -73,13 +73,13 @@ all_in_parts p (suc n) [] = refl
 all_in_parts p (suc n) (x ∷ xs) =
     ⊎_elim (λ (t : p x ≡ true). rw t (all_in_parts p n xs)) (λ (f : p x ≡ false). rw f refl) (cases_Bool (p x))
 
-pub all_behind : (p : ℕ → Bool) (n : ℕ) (xs before after : List ℕ) → before ≡ take n xs → after ≡ drop n xs → list_all p before ≡ true → list_all p after ≡ list_all p xs
-all_behind p n xs before after first last h =
+pub all_after : (p : ℕ → Bool) (n : ℕ) (xs before after : List ℕ) → before ≡ take n xs → after ≡ drop n xs → list_all p before ≡ true → list_all p after ≡ list_all p xs
+all_after p n xs before after first last h =
     let all : list_all p (take n xs) ≡ true = ap (list_all p) (sym first) ∙ h in
     ap (list_all p) last ∙ (sym (ap (λ t. t && list_all p (drop n xs)) all) ∙ all_in_parts p n xs)
 
 -- both together are the list
-pub joined : {X : Type 0} (p : X → Bool) (xs : List X) → front p xs ++ behind p xs ≡ xs
+pub joined : {X : Type 0} (p : X → Bool) (xs : List X) → front p xs ++ following p xs ≡ xs
 joined p [] = refl
 joined p (x ∷ xs) =
     ⊎_elim (λ (t : p x ≡ true). rw t (ap (λ l. x ∷ l) (joined p xs))) (λ (f : p x ≡ false). rw f refl) (cases_Bool (p x))
@@ -99,22 +99,22 @@ front-append p [] [] h s = refl
 front-append p [] (y ∷ ys) h s = rw (not-true (p y) s) refl
 front-append p (x ∷ xs) ys h s = let q = and_parts (p x) (list_all p xs) h in rw q.0 (ap (λ l. x ∷ l) (front-append p xs ys q.1 s))
 
-pub behind-append : {X : Type 0} (p : X → Bool) (xs ys : List X) → list_all p xs ≡ true → stops p ys ≡ true → behind p (xs ++ ys) ≡ ys
-behind-append p [] [] h s = refl
-behind-append p [] (y ∷ ys) h s = rw (not-true (p y) s) refl
-behind-append p (x ∷ xs) ys h s = let q = and_parts (p x) (list_all p xs) h in rw q.0 (behind-append p xs ys q.1 s)
+pub following-append : {X : Type 0} (p : X → Bool) (xs ys : List X) → list_all p xs ≡ true → stops p ys ≡ true → following p (xs ++ ys) ≡ ys
+following-append p [] [] h s = refl
+following-append p [] (y ∷ ys) h s = rw (not-true (p y) s) refl
+following-append p (x ∷ xs) ys h s = let q = and_parts (p x) (list_all p xs) h in rw q.0 (following-append p xs ys q.1 s)
 
-pub length-joined : {X : Type 0} (p : X → Bool) (xs : List X) → length (front p xs) + length (behind p xs) ≡ length xs
+pub length-joined : {X : Type 0} (p : X → Bool) (xs : List X) → length (front p xs) + length (following p xs) ≡ length xs
 length-joined p [] = refl
 length-joined p (x ∷ xs) =
     ⊎_elim (λ (t : p x ≡ true). let ih = length-joined p xs in rw t (omega arith)) (λ (f : p x ≡ false). rw f (omega arith)) (cases_Bool (p x))
 
-pub behind_stops : {X : Type 0} (p : X → Bool) (xs : List X) (y : X) (ys : List X) → behind p xs ≡ y ∷ ys → p y ≡ false
-behind_stops p [] y ys e = absurd cc
-behind_stops p (x ∷ xs) y ys e =
+pub after_stops : {X : Type 0} (p : X → Bool) (xs : List X) (y : X) (ys : List X) → following p xs ≡ y ∷ ys → p y ≡ false
+after_stops p [] y ys e = absurd cc
+after_stops p (x ∷ xs) y ys e =
     ⊎_elim
-    (λ (t : p x ≡ true). behind_stops p xs y ys (sym (drop_first (p x) (behind p xs) (x ∷ xs) t) ∙ e))
-    (λ (f : p x ≡ false). let same : x ∷ xs ≡ y ∷ ys = sym (keep_all (p x) (behind p xs) (x ∷ xs) f) ∙ e in let first : x ≡ y = cc in rw (← first) f)
+    (λ (t : p x ≡ true). after_stops p xs y ys (sym (drop_first (p x) (following p xs) (x ∷ xs) t) ∙ e))
+    (λ (f : p x ≡ false). let same : x ∷ xs ≡ y ∷ ys = sym (keep_all (p x) (following p xs) (x ∷ xs) f) ∙ e in let first : x ≡ y = cc in rw (← first) f)
     (cases_Bool (p x))
   where
     drop_first : {Y : Type 0} (b : Bool) (u v : Y) → b ≡ true → cond b u v ≡ u

@@ -9,9 +9,9 @@ use Rattle.std.specs.List.{list_all}
 use Rattle.std.specs.Option.{option_map, option_and_then}
 use Rattle.std.specs.Str.{bytes_eq}
 use Rattle.xml_tokens.specs.Characters.{is_white, is_name_start, is_name_byte, is_name, is_named, go_on}
-use Rattle.xml_tokens.specs.Fronts.{front, behind}
-use Rattle.xml_tokens.specs.Tags.{Attribute, Tag, start_tag, end_tag, is_quote, is_qualified, has_parts, is_behind_colon, are_white, IsSpelled, IsAttribute, AreAttributes, names_of, tag_end, IsStartTag, IsEndTag, IsTag, Spelled, Found, Inside, found, closed, quoted, assigned, named, is_empty, is_qualified_byte, spelled_at, attribute_at, end_in, with_more, unless_ended, inside_within, inside_of, are_distinct, start_with, start_at, end_at, begun_at, tag_at}
-use Rattle.xml_tokens.proofs.Splits.{joined, front_passes, stops, front-append, behind-append, behind_stops}
+use Rattle.xml_tokens.specs.Fronts.{front, following}
+use Rattle.xml_tokens.specs.Tags.{Attribute, Tag, start_tag, end_tag, is_quote, is_qualified, has_parts, is_after_colon, are_white, IsSpelled, IsAttribute, AreAttributes, names_of, tag_end, IsStartTag, IsEndTag, IsTag, Spelled, Found, Inside, found, closed, quoted, assigned, named, is_empty, is_qualified_byte, spelled_at, attribute_at, end_in, with_more, unless_ended, inside_within, inside_of, are_distinct, start_with, start_at, end_at, begun_at, tag_at}
+use Rattle.xml_tokens.proofs.Splits.{joined, front_passes, stops, front-append, following-append, after_stops}
 use Rattle.xml_tokens.proofs.ValueSpellings.{is_value, says_value}
 use Rattle.xml_tokens.proofs.TagWords.{is_spelled}
 use Rattle.xml_tokens.proofs.InsideRuns.{finds, inside_step}
@@ -62,10 +62,10 @@ name_all (b ∷ bs) h =
     let p = and_parts _ _ (and_parts (is_named (b ∷ bs)) _ h).0 in
     and_from _ _ (or_left (is_name_byte b) _ (or_left (is_name_start b) _ p.0)) (bytes_of_name bs p.1)
 
-colon_all : (bs : List ℕ) (name : List ℕ) → bs ≡ behind (λ b. not (eqb b 58)) name → is_behind_colon bs ≡ true → list_all is_qualified_byte bs ≡ true
+colon_all : (bs : List ℕ) (name : List ℕ) → bs ≡ following (λ b. not (eqb b 58)) name → is_after_colon bs ≡ true → list_all is_qualified_byte bs ≡ true
 colon_all [] name is h = refl
 colon_all (c ∷ bs) name is h =
-    let colon = not-false _ (behind_stops (λ b. not (eqb b 58)) name c bs (sym is)) in
+    let colon = not-false _ (after_stops (λ b. not (eqb b 58)) name c bs (sym is)) in
     and_from _ _ (or_right (is_name_byte c) _ colon) (name_all bs h)
 
 pub qualified_all : (name : List ℕ) → is_qualified name ≡ true → list_all is_qualified_byte name ≡ true
@@ -73,8 +73,8 @@ unfolding is_qualified
 qualified_all name h =
     let parts = and_parts (is_name (front (λ b. not (eqb b 58)) name)) _ (and_parts (has_parts name) _ h).0 in
     subst (λ l. list_all is_qualified_byte l ≡ true) (joined (λ b. not (eqb b 58)) name)
-    (list_all-append is_qualified_byte (front (λ b. not (eqb b 58)) name) (behind (λ b. not (eqb b 58)) name)
-    ∙ and_from _ _ (name_all (front (λ b. not (eqb b 58)) name) parts.0) (colon_all (behind (λ b. not (eqb b 58)) name) name refl parts.1))
+    (list_all-append is_qualified_byte (front (λ b. not (eqb b 58)) name) (following (λ b. not (eqb b 58)) name)
+    ∙ and_from _ _ (name_all (front (λ b. not (eqb b 58)) name) parts.0) (colon_all (following (λ b. not (eqb b 58)) name) name refl parts.1))
 
 pub name_stops : (name rest : List ℕ) → is_qualified name ≡ true → stops is_white (name ++ rest) ≡ true
 name_stops name rest h =
@@ -101,29 +101,29 @@ spelled_again bytes name raw rest h =
     let whole = h.space ++ inner in
     let s1 = name_stops name gap h.name_is in
     let f1 : front is_white whole ≡ h.space = front-append is_white h.space inner h.space_white s1 in
-    let b1 : behind is_white whole ≡ inner = behind-append is_white h.space inner h.space_white s1 in
+    let b1 : following is_white whole ≡ inner = following-append is_white h.space inner h.space_white s1 in
     let all = qualified_all name h.name_is in
     let s2 = white_stops h.before 61 (h.after ++ opened) h.before_white refl in
     let f2 : front is_qualified_byte inner ≡ name = front-append is_qualified_byte name gap all s2 in
-    let b2 : behind is_qualified_byte inner ≡ gap = behind-append is_qualified_byte name gap all s2 in
-    let b3 : behind is_white gap ≡ equals = behind-append is_white h.before equals h.before_white refl in
-    let b4 : behind is_white (h.after ++ opened) ≡ opened = behind-append is_white h.after opened h.after_white (not_from_false _ (quote_no_white q h.quote_is)) in
+    let b2 : following is_qualified_byte inner ≡ gap = following-append is_qualified_byte name gap all s2 in
+    let b3 : following is_white gap ≡ equals = following-append is_white h.before equals h.before_white refl in
+    let b4 : following is_white (h.after ++ opened) ≡ opened = following-append is_white h.after opened h.after_white (not_from_false _ (quote_no_white q h.quote_is)) in
     let same : eqb q q ≡ true = eq-eqb q q refl in
     let s5 : stops (λ b. not (eqb b q)) (q ∷ rest) ≡ true = not_from_false _ (not_from_true _ same) in
     let f5 : front (λ b. not (eqb b q)) value ≡ raw = front-append (λ b. not (eqb b q)) raw (q ∷ rest) h.raw_inside s5 in
-    let b5 : behind (λ b. not (eqb b q)) value ≡ q ∷ rest = behind-append (λ b. not (eqb b q)) raw (q ∷ rest) h.raw_inside s5 in
-    let close : closed name (front (λ b. not (eqb b q)) value) (behind (λ b. not (eqb b q)) value) ≡ Some (spelled name raw rest) =
-    ap (λ l. closed name l (behind (λ b. not (eqb b q)) value)) f5 ∙ ap (closed name raw) b5 in
-    let quote_step : quoted name opened ≡ Some (spelled name raw rest) = cond-true (is_quote q) (closed name (front (λ b. not (eqb b q)) value) (behind (λ b. not (eqb b q)) value)) None h.quote_is ∙ close in
+    let b5 : following (λ b. not (eqb b q)) value ≡ q ∷ rest = following-append (λ b. not (eqb b q)) raw (q ∷ rest) h.raw_inside s5 in
+    let close : closed name (front (λ b. not (eqb b q)) value) (following (λ b. not (eqb b q)) value) ≡ Some (spelled name raw rest) =
+    ap (λ l. closed name l (following (λ b. not (eqb b q)) value)) f5 ∙ ap (closed name raw) b5 in
+    let quote_step : quoted name opened ≡ Some (spelled name raw rest) = cond-true (is_quote q) (closed name (front (λ b. not (eqb b q)) value) (following (λ b. not (eqb b q)) value)) None h.quote_is ∙ close in
     let assign_step : assigned name equals ≡ Some (spelled name raw rest) = ap (quoted name) b4 ∙ quote_step in
-    let name_step : named name gap ≡ Some (spelled name raw rest) = cond-true (is_qualified name) (assigned name (behind is_white gap)) None h.name_is ∙ ap (assigned name) b3 ∙ assign_step in
-    let inner_step : named (front is_qualified_byte inner) (behind is_qualified_byte inner) ≡ Some (spelled name raw rest) =
-    ap (λ l. named l (behind is_qualified_byte inner)) f2 ∙ ap (named name) b2 ∙ name_step in
-    let at : List ℕ → List ℕ → Option Spelled = λ space inner. cond (is_empty space) None (named (front is_qualified_byte inner) (behind is_qualified_byte inner)) in
-    let whole_step : at (front is_white whole) (behind is_white whole) ≡ Some (spelled name raw rest) =
-    ap (λ l. at l (behind is_white whole)) f1 ∙ ap (at h.space) b1
-    ∙ ap (λ b. cond b None (named (front is_qualified_byte inner) (behind is_qualified_byte inner))) (some_not_empty h.space h.some_space) ∙ inner_step in
-    ap (λ l. at (front is_white l) (behind is_white l)) h.bytes_are ∙ whole_step
+    let name_step : named name gap ≡ Some (spelled name raw rest) = cond-true (is_qualified name) (assigned name (following is_white gap)) None h.name_is ∙ ap (assigned name) b3 ∙ assign_step in
+    let inner_step : named (front is_qualified_byte inner) (following is_qualified_byte inner) ≡ Some (spelled name raw rest) =
+    ap (λ l. named l (following is_qualified_byte inner)) f2 ∙ ap (named name) b2 ∙ name_step in
+    let at : List ℕ → List ℕ → Option Spelled = λ space inner. cond (is_empty space) None (named (front is_qualified_byte inner) (following is_qualified_byte inner)) in
+    let whole_step : at (front is_white whole) (following is_white whole) ≡ Some (spelled name raw rest) =
+    ap (λ l. at l (following is_white whole)) f1 ∙ ap (at h.space) b1
+    ∙ ap (λ b. cond b None (named (front is_qualified_byte inner) (following is_qualified_byte inner))) (some_not_empty h.space h.some_space) ∙ inner_step in
+    ap (λ l. at (front is_white l) (following is_white l)) h.bytes_are ∙ whole_step
 
 attribute_again : (bytes : List ℕ) (a : Attribute) (rest : List ℕ) → IsAttribute bytes a rest → attribute_at bytes ≡ Some (record { attribute = a; rest = rest })
 attribute_again bytes a rest h =
@@ -144,20 +144,20 @@ start_ends_none n ns h =
     let no_slash : eqb n 47 ≡ false = grind (arith, nat_tests) in
     rw (no_end, no_slash) refl
 
-attribute_no_end : (bytes : List ℕ) (a : Attribute) (rest : List ℕ) → IsAttribute bytes a rest → end_in (behind is_white bytes) ≡ None
+attribute_no_end : (bytes : List ℕ) (a : Attribute) (rest : List ℕ) → IsAttribute bytes a rest → end_in (following is_white bytes) ≡ None
 attribute_no_end bytes a rest h =
     let i = h.1 in
     let gap = i.before ++ (61 ∷ (i.after ++ (i.quote ∷ (h.0 ++ (i.quote ∷ rest))))) in
     let b = qualified_begins a.name i.name_is in
-    ap (λ l. end_in (behind is_white l)) i.bytes_are
-    ∙ ap end_in (behind-append is_white i.space (a.name ++ gap) i.space_white (name_stops a.name gap i.name_is))
+    ap (λ l. end_in (following is_white l)) i.bytes_are
+    ∙ ap end_in (following-append is_white i.space (a.name ++ gap) i.space_white (name_stops a.name gap i.name_is))
     ∙ ap (λ l. end_in (l ++ gap)) b.name_is ∙ start_ends_none b.first (b.others ++ gap) b.starts
 
 pub inside_again : (attributes : List Attribute) (bytes space : List ℕ) (empty : Bool) → are_white space ≡ true → AreAttributes bytes attributes (space ++ tag_end empty) → inside_of bytes ≡ Some (record { attributes = attributes; empty = empty })
 inside_again [] bytes space empty white h =
     inside_step bytes
     ∙ ap (λ e. unless_ended e (option_and_then (λ f. with_more (f.attribute ∷ []) (inside_of f.rest)) (attribute_at bytes)))
-    (ap (λ l. end_in (behind is_white l)) h ∙ ap end_in (behind-append is_white space (tag_end empty) white (end_stops empty)) ∙ end_again empty)
+    (ap (λ l. end_in (following is_white l)) h ∙ ap end_in (following-append is_white space (tag_end empty) white (end_stops empty)) ∙ end_again empty)
 inside_again (a ∷ more) bytes space empty white h =
     inside_step bytes
     ∙ ap (λ e. unless_ended e (option_and_then (λ f. with_more (f.attribute ∷ []) (inside_of f.rest)) (attribute_at bytes))) (attribute_no_end bytes a h.0 h.1)
@@ -190,7 +190,7 @@ start_again bytes name attributes empty h =
     let s = inside_stops attributes h.inside h.space empty h.space_white h.inside_is in
     let all = qualified_all name h.name_is in
     let f : front is_qualified_byte (name ++ h.inside) ≡ name = front-append is_qualified_byte name h.inside all s in
-    let b : behind is_qualified_byte (name ++ h.inside) ≡ h.inside = behind-append is_qualified_byte name h.inside all s in
+    let b : following is_qualified_byte (name ++ h.inside) ≡ h.inside = following-append is_qualified_byte name h.inside all s in
     let i = inside_again attributes h.inside h.space empty h.space_white h.inside_is in
     let at : List ℕ → List ℕ → Option Tag = λ n rest. cond (is_qualified n) (option_and_then (start_with n) (inside_of rest)) None in
     let made : at name h.inside ≡ Some (start_tag name attributes empty) =
@@ -198,7 +198,7 @@ start_again bytes name attributes empty h =
     ∙ ap (option_and_then (start_with name)) i
     ∙ cond-true (are_distinct (names_of attributes)) (Some (start_tag name attributes empty)) None (test-from_AllPairs bytes_eq bytes_eq-Decides (names_of attributes) h.distinct) in
     ap tag_at h.bytes_are ∙ begun_by_name name h.inside h.name_is
-    ∙ ap (λ n. at n (behind is_qualified_byte (name ++ h.inside))) f ∙ ap (at name) b ∙ made
+    ∙ ap (λ n. at n (following is_qualified_byte (name ++ h.inside))) f ∙ ap (at name) b ∙ made
 
 end_tag_again : (bytes name : List ℕ) → IsEndTag bytes name → tag_at bytes ≡ Some (end_tag name)
 unfolding end_at
@@ -207,10 +207,10 @@ end_tag_again bytes name h =
     let s = white_stops h.space 62 [] h.space_white refl in
     let all = qualified_all name h.name_is in
     let f : front is_qualified_byte (name ++ ending) ≡ name = front-append is_qualified_byte name ending all s in
-    let b : behind is_qualified_byte (name ++ ending) ≡ ending = behind-append is_qualified_byte name ending all s in
-    let w : behind is_white ending ≡ 62 ∷ [] = behind-append is_white h.space (62 ∷ []) h.space_white refl in
-    let at : List ℕ → List ℕ → Option Tag = λ n rest. cond (is_qualified n && bytes_eq (behind is_white rest) (62 ∷ [])) (Some (end_tag n)) None in
-    ap tag_at h.bytes_are ∙ ap (λ n. at n (behind is_qualified_byte (name ++ ending))) f ∙ ap (at name) b
+    let b : following is_qualified_byte (name ++ ending) ≡ ending = following-append is_qualified_byte name ending all s in
+    let w : following is_white ending ≡ 62 ∷ [] = following-append is_white h.space (62 ∷ []) h.space_white refl in
+    let at : List ℕ → List ℕ → Option Tag = λ n rest. cond (is_qualified n && bytes_eq (following is_white rest) (62 ∷ [])) (Some (end_tag n)) None in
+    ap tag_at h.bytes_are ∙ ap (λ n. at n (following is_qualified_byte (name ++ ending))) f ∙ ap (at name) b
     ∙ ap (λ l. cond (is_qualified name && bytes_eq l (62 ∷ [])) (Some (end_tag name)) None) w
     ∙ cond-true (is_qualified name && true) (Some (end_tag name)) None (and_from _ _ h.name_is refl)
 
@@ -243,13 +243,13 @@ found_attribute bs f e =
     let s = is_spelled bs h.as_spelled h.spelled_is in
     (h.as_spelled.raw, subst (λ n. IsSpelled bs n h.as_spelled.raw f.rest) (sym h.name_is) (subst (λ r. IsSpelled bs h.as_spelled.name h.as_spelled.raw r) (sym h.rest_is) s), is_value h.as_spelled.raw f.attribute.value h.value_is)
 
-ended_tells : (bs : List ℕ) (empty : Bool) (i : Inside) → end_in (behind is_white bs) ≡ Some empty → Some (record { attributes = []; empty = empty }) ≡ Some i → Insides bs i
+ended_tells : (bs : List ℕ) (empty : Bool) (i : Inside) → end_in (following is_white bs) ≡ Some empty → Some (record { attributes = []; empty = empty }) ≡ Some i → Insides bs i
 ended_tells bs empty i ends e =
     let inner : Inside = record { attributes = []; empty = empty } in
     let same : inner ≡ i = cc in
     subst (Insides bs) same (record {
       space = front is_white bs;
-      attributes_are = sym (joined is_white bs) ∙ ap (λ l. front is_white bs ++ l) (end_tells (behind is_white bs) empty ends);
+      attributes_are = sym (joined is_white bs) ∙ ap (λ l. front is_white bs ++ l) (end_tells (following is_white bs) empty ends);
       space_white = front_passes is_white bs;
     })
 
@@ -265,13 +265,13 @@ module _ (k : ℕ) (ih : (bs : List ℕ) (i : Inside) → inside_within k bs ≡
       let rest = ih f.rest m.0 m.1 in
       subst (Insides bs) (sym m.2) (record { space = rest.space; attributes_are = (f.rest, found_attribute bs f o_is, rest.attributes_are); space_white = rest.space_white })
 
-  by_end : (end : Option Bool) → end_in (behind is_white bs) ≡ end → unless_ended end (option_and_then (λ f. with_more (f.attribute ∷ []) (inside_within k f.rest)) (attribute_at bs)) ≡ Some i → Insides bs i
+  by_end : (end : Option Bool) → end_in (following is_white bs) ≡ end → unless_ended end (option_and_then (λ f. with_more (f.attribute ∷ []) (inside_within k f.rest)) (attribute_at bs)) ≡ Some i → Insides bs i
   by_end None end_is e = by_found (attribute_at bs) refl e
   by_end (Some empty) end_is e = ended_tells bs empty i end_is e
 
 inside_tells : (k : ℕ) (bs : List ℕ) (i : Inside) → inside_within k bs ≡ Some i → Insides bs i
 inside_tells zero bs i e = absurd cc
-inside_tells (suc k) bs i e = by_end k (inside_tells k) bs i (end_in (behind is_white bs)) refl e
+inside_tells (suc k) bs i e = by_end k (inside_tells k) bs i (end_in (following is_white bs)) refl e
 
 started : (bs name inside : List ℕ) (o : Option Inside) (t : Tag) → bs ≡ name ++ inside → is_qualified name ≡ true → inside_of inside ≡ o → option_and_then (start_with name) o ≡ Some t → IsTag (60 ∷ bs) t
 unfolding inside_of
@@ -293,16 +293,16 @@ start_tells : (bs : List ℕ) (t : Tag) → start_at bs ≡ Some t → IsTag (60
 unfolding start_at
 start_tells bs t e =
     let g = guard_tells (is_qualified (front is_qualified_byte bs)) _ t e in
-    started bs (front is_qualified_byte bs) (behind is_qualified_byte bs) (inside_of (behind is_qualified_byte bs)) t (sym (joined is_qualified_byte bs)) g.0 refl g.1
+    started bs (front is_qualified_byte bs) (following is_qualified_byte bs) (inside_of (following is_qualified_byte bs)) t (sym (joined is_qualified_byte bs)) g.0 refl g.1
 
 end_tag_tells : (bs : List ℕ) (t : Tag) → end_at bs ≡ Some t → IsTag (60 ∷ 47 ∷ bs) t
 unfolding end_at
 end_tag_tells bs t e =
     let name = front is_qualified_byte bs in
-    let rest = behind is_qualified_byte bs in
-    let g = guard_tells (is_qualified name && bytes_eq (behind is_white rest) (62 ∷ [])) (Some (end_tag name)) t e in
+    let rest = following is_qualified_byte bs in
+    let g = guard_tells (is_qualified name && bytes_eq (following is_white rest) (62 ∷ [])) (Some (end_tag name)) t e in
     let p = and_parts (is_qualified name) _ g.0 in
-    let closes = (bytes_eq-Decides (behind is_white rest) (62 ∷ [])).0 p.1 in
+    let closes = (bytes_eq-Decides (following is_white rest) (62 ∷ [])).0 p.1 in
     subst (IsTag (60 ∷ 47 ∷ bs)) (same_Some (end_tag name) t g.1) (record {
       space = front is_white rest;
       bytes_are = ap (λ l. 60 ∷ 47 ∷ l) (sym (joined is_qualified_byte bs) ∙ ap (λ l. name ++ l) (sym (joined is_white rest) ∙ ap (λ l. front is_white rest ++ l) closes));

@@ -4,9 +4,9 @@ use Rattle.std.proofs.lemmas.Bool.{eqb-true, false≢true, not-false}
 use Rattle.std.specs.List.{list_all}
 use Rattle.base_lemmas.proofs.Conditions.{guard_tells}
 use Rattle.xml_tokens.specs.Characters.{is_white}
-use Rattle.xml_tokens.specs.Fronts.{front, behind}
+use Rattle.xml_tokens.specs.Fronts.{front, following}
 use Rattle.xml_tokens.specs.Tags.{is_quote, is_qualified, are_white, IsSpelled, Spelled, closed, quoted, assigned, is_empty, is_qualified_byte, spelled_at}
-use Rattle.xml_tokens.proofs.Splits.{joined, front_passes, behind_stops}
+use Rattle.xml_tokens.proofs.Splits.{joined, front_passes, after_stops}
 
 abbrev spelled : List ℕ → List ℕ → List ℕ → Spelled
 spelled n r s = record { name = n; raw = r; rest = s }
@@ -36,13 +36,13 @@ quoted_tells : (name bytes : List ℕ) (s : Spelled) → quoted name bytes ≡ S
 quoted_tells name [] s e = absurd cc
 quoted_tells name (q ∷ bs) s e =
     let g = guard_tells (is_quote q) _ s e in
-    let c = closed_tells name (front (λ b. not (eqb b q)) bs) (behind (λ b. not (eqb b q)) bs) s g.1 in
-    let last_is : c.last ≡ q = eqb-true c.last q (not-false _ (behind_stops (λ b. not (eqb b q)) bs c.last s.rest c.end_is)) in
-    let whole : front (λ b. not (eqb b q)) bs ++ behind (λ b. not (eqb b q)) bs ≡ bs = joined (λ b. not (eqb b q)) bs in
+    let c = closed_tells name (front (λ b. not (eqb b q)) bs) (following (λ b. not (eqb b q)) bs) s g.1 in
+    let last_is : c.last ≡ q = eqb-true c.last q (not-false _ (after_stops (λ b. not (eqb b q)) bs c.last s.rest c.end_is)) in
+    let whole : front (λ b. not (eqb b q)) bs ++ following (λ b. not (eqb b q)) bs ≡ bs = joined (λ b. not (eqb b q)) bs in
     record {
       quote = q;
       quote_is = g.0;
-      bytes_are = ap (λ l. q ∷ l) (sym whole ∙ ap (λ l. l ++ behind (λ b. not (eqb b q)) bs) (sym c.raw_is) ∙ ap (λ l. s.raw ++ l) (c.end_is ∙ ap (λ b. b ∷ s.rest) last_is));
+      bytes_are = ap (λ l. q ∷ l) (sym whole ∙ ap (λ l. l ++ following (λ b. not (eqb b q)) bs) (sym c.raw_is) ∙ ap (λ l. s.raw ++ l) (c.end_is ∙ ap (λ b. b ∷ s.rest) last_is));
       raw_inside = subst (λ l. list_all (λ b. not (eqb b q)) l ≡ true) (sym c.raw_is) (front_passes (λ b. not (eqb b q)) bs);
       name_is = c.name_is;
     }
@@ -60,10 +60,10 @@ assigned_tells name (b ∷ bs) s e =
     let g = guard_tells (eqb b 61) _ s e in
     record {
       after = front is_white bs;
-      left = behind is_white bs;
+      left = following is_white bs;
       after_white = front_passes is_white bs;
       bytes_are = ap (λ x. x ∷ bs) (eqb-true b 61 g.0) ∙ ap (λ l. 61 ∷ l) (sym (joined is_white bs));
-      quotes = quoted_tells name (behind is_white bs) s g.1;
+      quotes = quoted_tells name (following is_white bs) s g.1;
     }
 
 pub some-from_is_empty : (bs : List ℕ) → is_empty bs ≡ false → bs ≢ []
@@ -82,14 +82,14 @@ pub is_spelled : (bs : List ℕ) (s : Spelled) → spelled_at bs ≡ Some s → 
 unfolding spelled_at
 is_spelled bs s e =
     let g = guard_not (is_empty (front is_white bs)) _ s e in
-    let inner = behind is_white bs in
+    let inner = following is_white bs in
     let n = front is_qualified_byte inner in
-    let m = behind is_qualified_byte inner in
+    let m = following is_qualified_byte inner in
     let h = guard_tells (is_qualified n) _ s g.1 in
-    let a = assigned_tells n (behind is_white m) s h.1 in
+    let a = assigned_tells n (following is_white m) s h.1 in
     let q = a.quotes in
     let name_same : n ≡ s.name = sym q.name_is in
-    let ending : behind is_white m ≡ 61 ∷ (a.after ++ (q.quote ∷ (s.raw ++ (q.quote ∷ s.rest)))) = a.bytes_are ∙ ap (λ l. 61 ∷ (a.after ++ l)) q.bytes_are in
+    let ending : following is_white m ≡ 61 ∷ (a.after ++ (q.quote ∷ (s.raw ++ (q.quote ∷ s.rest)))) = a.bytes_are ∙ ap (λ l. 61 ∷ (a.after ++ l)) q.bytes_are in
     let middle : m ≡ front is_white m ++ (61 ∷ (a.after ++ (q.quote ∷ (s.raw ++ (q.quote ∷ s.rest))))) = sym (joined is_white m) ∙ ap (λ l. front is_white m ++ l) ending in
     let tail : inner ≡ s.name ++ (front is_white m ++ (61 ∷ (a.after ++ (q.quote ∷ (s.raw ++ (q.quote ∷ s.rest)))))) = sym (joined is_qualified_byte inner) ∙ ap (λ l. l ++ m) name_same ∙ ap (λ l. s.name ++ l) middle in
     record {

@@ -6,7 +6,7 @@ use Rattle.std.specs.List.{list_all}
 use Rattle.base_lemmas.proofs.Conditions.{chosen}
 use Rattle.base_lemmas.proofs.Lists.{list_all-weaker}
 use Rattle.xml_tokens.specs.Characters.{is_white, is_digit, is_name_byte, is_name_start}
-use Rattle.xml_tokens.specs.Fronts.{front, behind}
+use Rattle.xml_tokens.specs.Fronts.{front, following}
 use Rattle.xml_tokens.specs.References.{referred, is_hex_digit, number_goes_on, reference_goes_on, each_goes_on}
 use Rattle.xml_tokens.specs.Tags.{Attribute, Tag, start_tag, end_tag, is_quote, is_qualified_byte, are_white, IsSpelled, AreAttributes, tag_end, IsStartTag, IsTag, has_unknown_quoted, is_restricted}
 use Rattle.xml_tokens.specs.ValueGrammar.{IsValue, IsValueData, SpellsValue, data_alone, with_reference}
@@ -64,16 +64,16 @@ character_no_ampersand : (name : List ℕ) (c : ℕ) → referred name ≡ Chara
 character_no_ampersand name c e = each_no_ampersand [] name (references_go_on name (λ bad. let clash : Malformed ≡ Character c = sym bad ∙ e in cc))
 
 -- where a name and `;` begin, the reference ends there
-fronts_same : (bs : List ℕ) → begins_with 59 (behind is_name_byte bs) ≡ true → front (λ b. not (eqb b 59)) bs ≡ front is_name_byte bs
+fronts_same : (bs : List ℕ) → begins_with 59 (following is_name_byte bs) ≡ true → front (λ b. not (eqb b 59)) bs ≡ front is_name_byte bs
 fronts_same [] h = refl
 fronts_same (x ∷ xs) h =
     ⊎_elim
     (λ (part : is_name_byte x ≡ true).
     let on : eqb x 59 ≡ false = no_semicolon x part in
-    let rest : begins_with 59 (behind is_name_byte xs) ≡ true = subst (λ b. begins_with 59 (cond b (behind is_name_byte xs) (x ∷ xs)) ≡ true) part h in
+    let rest : begins_with 59 (following is_name_byte xs) ≡ true = subst (λ b. begins_with 59 (cond b (following is_name_byte xs) (x ∷ xs)) ≡ true) part h in
     rw (on, part) (ap (λ l. x ∷ l) (fronts_same xs rest)))
     (λ (other : is_name_byte x ≡ false).
-    let end : eqb x 59 ≡ true = subst (λ b. begins_with 59 (cond b (behind is_name_byte xs) (x ∷ xs)) ≡ true) other h in
+    let end : eqb x 59 ≡ true = subst (λ b. begins_with 59 (cond b (following is_name_byte xs) (x ∷ xs)) ≡ true) other h in
     rw (end, other) refl)
     (cases_Bool (is_name_byte x))
   where
@@ -82,9 +82,9 @@ fronts_same (x ∷ xs) h =
 
 not_unknown : (bs v : List ℕ) → value_from (reference []) bs ≡ Some v → begins_unknown bs ≡ false
 not_unknown bs v e =
-    let t = ended_tells (front (λ b. not (eqb b 59)) bs) (behind (λ b. not (eqb b 59)) bs) v (sym (reference_run [] bs) ∙ e) in
+    let t = ended_tells (front (λ b. not (eqb b 59)) bs) (following (λ b. not (eqb b 59)) bs) v (sym (reference_run [] bs) ∙ e) in
     false_from_ne_true _ (λ h.
-    let p = and_parts (begins_with 59 (behind is_name_byte bs)) _ h in
+    let p = and_parts (begins_with 59 (following is_name_byte bs)) _ h in
     let known : referred (front is_name_byte bs) ≡ Character t.0 = ap referred (sym (fronts_same bs p.0)) ∙ t.1 in
     false≢true (sym (ap is_unknown known) ∙ p.1))
 
@@ -120,7 +120,7 @@ front_same [] rest q h = rw h refl
 front_same (x ∷ xs) rest q h =
     ⊎_elim (λ (t : is_name_byte x ≡ true). rw t (ap (λ l. x ∷ l) (front_same xs rest q h))) (λ (f : is_name_byte x ≡ false). rw f refl) (cases_Bool (is_name_byte x))
 
-end_same : (bs rest : List ℕ) (q : ℕ) → is_name_byte q ≡ false → eqb q 59 ≡ false → begins_with 59 (behind is_name_byte (bs ++ q ∷ rest)) ≡ begins_with 59 (behind is_name_byte bs)
+end_same : (bs rest : List ℕ) (q : ℕ) → is_name_byte q ≡ false → eqb q 59 ≡ false → begins_with 59 (following is_name_byte (bs ++ q ∷ rest)) ≡ begins_with 59 (following is_name_byte bs)
 end_same [] rest q h k = rw h k
 end_same (x ∷ xs) rest q h k =
     ⊎_elim (λ (t : is_name_byte x ≡ true). rw t (end_same xs rest q h k)) (λ (f : is_name_byte x ≡ false). rw f refl) (cases_Bool (is_name_byte x))
@@ -128,7 +128,7 @@ end_same (x ∷ xs) rest q h k =
 begins_same : (bs rest : List ℕ) (q : ℕ) → is_quote q ≡ true → begins_unknown (bs ++ q ∷ rest) ≡ begins_unknown bs
 begins_same bs rest q h =
     ap (λ b. b && is_unknown (referred (front is_name_byte (bs ++ q ∷ rest)))) (end_same bs rest q (quote_no_name q h) (quote_no_semicolon q h))
-    ∙ ap (λ n. begins_with 59 (behind is_name_byte bs) && is_unknown (referred n)) (front_same bs rest q (quote_no_name q h))
+    ∙ ap (λ n. begins_with 59 (following is_name_byte bs) && is_unknown (referred n)) (front_same bs rest q (quote_no_name q h))
 
 quoted_run : (q : ℕ) (raw rest : List ℕ) → is_quote q ≡ true → list_all (λ b. not (eqb b q)) raw ≡ true → has_unknown raw ≡ false → has_unknown_quoted (Some q) (raw ++ q ∷ rest) ≡ has_unknown_quoted None rest
 quoted_run q [] rest h inside known = let same : eqb q q ≡ true = eq-eqb q q refl in rw (quote_no_ampersand q h, same) refl

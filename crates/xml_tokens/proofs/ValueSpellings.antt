@@ -10,13 +10,13 @@ use Rattle.std.specs.Option.{option_and_then}
 use Rattle.std.specs.Str.{IsUtf8, is_utf8}
 use Rattle.base_lemmas.proofs.Conditions.{by_test, guard_tells}
 use Rattle.xml_tokens.proofs.Going.{references_go_on}
-use Rattle.xml_tokens.proofs.Splits.{behind-append, behind_stops, front-append, front_passes, joined}
+use Rattle.xml_tokens.proofs.Splits.{after_stops, following-append, front-append, front_passes, joined}
 use Rattle.xml_tokens.proofs.Utf8Runs.{runs_are_text, text_runs}
 use Rattle.xml_tokens.proofs.ValueRuns.{ended, in_front-append, in_front-nil, reference_run}
 use Rattle.xml_tokens.proofs.ValueTexts.{Runs, ascii_step, begins_anew, in_front_tells, leads, legal_scalar, reference_names, runs_append, said_tells, value_runs}
 use Rattle.xml_tokens.specs.Characters.{are_characters, is_white}
-use Rattle.xml_tokens.specs.Fronts.{front, behind}
-use Rattle.xml_tokens.specs.Lines.{line_ends, line_ends_behind}
+use Rattle.xml_tokens.specs.Fronts.{front, following}
+use Rattle.xml_tokens.specs.Lines.{line_ends, line_ends_after}
 use Rattle.xml_tokens.specs.References.{each_goes_on, number_goes_on, reference_goes_on, referred}
 use Rattle.xml_tokens.specs.Utf8.{utf8_run}
 use Rattle.xml_tokens.specs.ValueGrammar.{IsValue, IsValueData, SpellsValue, data_alone, with_reference, space_of, spaces}
@@ -57,7 +57,7 @@ one_said : (b s : ℕ) (more : List ℕ) (rest : List ℕ) (o : Option (List ℕ
 one_said b s more rest o same = ap (λ x. in_front (x ∷ []) (in_front more o)) (sym same) ∙ sym (in_front-append (s ∷ []) more o)
 
 pub data_said : (plain rest : List ℕ) (returned : Bool) → IsValueData plain → Settled rest
-    → value_from (text returned) (plain ++ rest) ≡ in_front (spaces (line_ends_behind returned plain)) (value_from (text false) rest)
+    → value_from (text returned) (plain ++ rest) ≡ in_front (spaces (line_ends_after returned plain)) (value_from (text false) rest)
 data_said [] rest returned h settled = settled returned ∙ sym (in_front-nil (value_from (text false) rest))
 data_said (b ∷ bs) rest returned h settled =
     let p = and_parts (no_mark b) (list_all no_mark bs) h in
@@ -67,16 +67,16 @@ data_said (b ∷ bs) rest returned h settled =
     (λ (n13 : eqb b 13 ≡ true).
     let no_feed : eqb b 10 ≡ false = grind (arith, nat_tests) in
     let unjoined : (returned && eqb b 10) ≡ false = rw no_feed (and-false returned) in
-    rw (unjoined, q.1, q.0, n13) (ap (in_front (32 ∷ [])) (data_said bs rest true p.1 settled) ∙ one_said 32 32 (spaces (line_ends_behind true bs)) rest o refl))
+    rw (unjoined, q.1, q.0, n13) (ap (in_front (32 ∷ [])) (data_said bs rest true p.1 settled) ∙ one_said 32 32 (spaces (line_ends_after true bs)) rest o refl))
     (λ (n13 : eqb b 13 ≡ false).
     ⊎_elim
     (λ (joins : (returned && eqb b 10) ≡ true). rw (joins, n13) (data_said bs rest false p.1 settled))
     (λ (unjoined : (returned && eqb b 10) ≡ false).
     ⊎_elim
     (λ (white : (eqb b 9 || eqb b 10) ≡ true).
-    rw (unjoined, q.1, q.0, n13, white) (ap (in_front (32 ∷ [])) (data_said bs rest false p.1 settled) ∙ one_said 32 (space_of b) (spaces (line_ends_behind false bs)) rest o (white_space b white)))
+    rw (unjoined, q.1, q.0, n13, white) (ap (in_front (32 ∷ [])) (data_said bs rest false p.1 settled) ∙ one_said 32 (space_of b) (spaces (line_ends_after false bs)) rest o (white_space b white)))
     (λ (other : (eqb b 9 || eqb b 10) ≡ false).
-    rw (unjoined, q.1, q.0, n13, other) (ap (in_front (b ∷ [])) (data_said bs rest false p.1 settled) ∙ one_said b (space_of b) (spaces (line_ends_behind false bs)) rest o (other_space b n13 other)))
+    rw (unjoined, q.1, q.0, n13, other) (ap (in_front (b ∷ [])) (data_said bs rest false p.1 settled) ∙ one_said b (space_of b) (spaces (line_ends_after false bs)) rest o (other_space b n13 other)))
     (cases_Bool (eqb b 9 || eqb b 10)))
     (cases_Bool (returned && eqb b 10)))
     (cases_Bool (eqb b 13))
@@ -112,8 +112,8 @@ pub reference_said : (name rest more : List ℕ) (c : ℕ) → referred name ≡
 reference_said name rest more c known is =
     let all = name_unended name c known in
     reference_run [] (name ++ (59 ∷ rest))
-    ∙ ap (λ n. ended n (behind no_end (name ++ (59 ∷ rest)))) (front-append no_end name (59 ∷ rest) all refl)
-    ∙ ap (ended name) (behind-append no_end name (59 ∷ rest) all refl)
+    ∙ ap (λ n. ended n (following no_end (name ++ (59 ∷ rest)))) (front-append no_end name (59 ∷ rest) all refl)
+    ∙ ap (ended name) (following-append no_end name (59 ∷ rest) all refl)
     ∙ ap (λ r. said r (value_from (text false) rest)) known ∙ ap (said (Character c)) is
 
 pub spelled_is_said : (raw v : List ℕ) → SpellsValue raw v → value_from (text false) raw ≡ Some v
@@ -139,11 +139,11 @@ record Ends (after v : List ℕ) : Type 0 where
   is : after ≡ name ++ (59 ∷ rest)
   value_is : v ≡ encode_utf8 c ++ more
 
-ends_after : (name tail after v : List ℕ) → front no_end after ≡ name → behind no_end after ≡ tail → ended name tail ≡ Some v → Ends after v
+ends_after : (name tail after v : List ℕ) → front no_end after ≡ name → following no_end after ≡ tail → ended name tail ≡ Some v → Ends after v
 ends_after name [] after v f b e = absurd (none-some v e)
 ends_after name (x ∷ rest) after v f b e =
     let s = said_tells (referred name) (value_from (text false) rest) v e in
-    let semicolon : x ≡ 59 = eqb-true x 59 (not-false _ (behind_stops no_end after x rest b)) in
+    let semicolon : x ≡ 59 = eqb-true x 59 (not-false _ (after_stops no_end after x rest b)) in
     record {
       name = name;
       rest = rest;
@@ -151,12 +151,12 @@ ends_after name (x ∷ rest) after v f b e =
       c = s.0;
       known = s.1;
       says = s.2.is;
-      is = sym (joined no_end after) ∙ ap (λ l. l ++ behind no_end after) f ∙ ap (λ l. name ++ l) (b ∙ ap (λ y. y ∷ rest) semicolon);
+      is = sym (joined no_end after) ∙ ap (λ l. l ++ following no_end after) f ∙ ap (λ l. name ++ l) (b ∙ ap (λ y. y ∷ rest) semicolon);
       value_is = s.2.value_is;
     }
 
 reference_tells : (after v : List ℕ) → value_from (reference []) after ≡ Some v → Ends after v
-reference_tells after v e = ends_after (front no_end after) (behind no_end after) after v refl refl (sym (reference_run [] after) ∙ e)
+reference_tells after v e = ends_after (front no_end after) (following no_end after) after v refl refl (sym (reference_run [] after) ∙ e)
 
 rest_shorter : (raw plain name rest : List ℕ) (k : ℕ) → raw ≡ plain ++ (38 ∷ (name ++ (59 ∷ rest))) → length raw < suc k → length rest < k
 rest_shorter raw plain name rest k is less =
@@ -167,11 +167,11 @@ module _ (k : ℕ) (ih : (raw v : List ℕ) → length raw < k → value_from (t
   plainly : IsValueData (front no_mark raw)
   plainly = front_passes no_mark raw
 
-  said_first : (tail : List ℕ) → behind no_mark raw ≡ tail → Settled tail → in_front (spaces (line_ends (front no_mark raw))) (value_from (text false) tail) ≡ Some v
+  said_first : (tail : List ℕ) → following no_mark raw ≡ tail → Settled tail → in_front (spaces (line_ends (front no_mark raw))) (value_from (text false) tail) ≡ Some v
   said_first tail b settled =
       sym (data_said (front no_mark raw) tail false plainly settled) ∙ ap (λ l. value_from (text false) (front no_mark raw ++ l)) (sym b) ∙ ap (value_from (text false)) (joined no_mark raw) ∙ e
 
-  with_ampersand : (after : List ℕ) → behind no_mark raw ≡ 38 ∷ after → SpellsValue raw v
+  with_ampersand : (after : List ℕ) → following no_mark raw ≡ 38 ∷ after → SpellsValue raw v
   with_ampersand after b =
       let s = in_front_tells (spaces (line_ends (front no_mark raw))) (value_from (reference []) after) v (said_first (38 ∷ after) b (ampersand_settled after)) in
       let r = reference_tells after s.more s.is in
@@ -179,7 +179,7 @@ module _ (k : ℕ) (ih : (raw v : List ℕ) → length raw < k → value_from (t
       with_reference raw v (front no_mark raw) r.name r.rest r.more r.c plainly r.known
       (ih r.rest r.more (rest_shorter raw (front no_mark raw) r.name r.rest k is less) r.says) is (s.value_is ∙ ap (λ l. spaces (line_ends (front no_mark raw)) ++ l) r.value_is)
 
-  at_tail : (tail : List ℕ) → behind no_mark raw ≡ tail → SpellsValue raw v
+  at_tail : (tail : List ℕ) → following no_mark raw ≡ tail → SpellsValue raw v
   at_tail [] b =
       let whole : front no_mark raw ≡ raw = sym (append-nil (front no_mark raw)) ∙ ap (λ l. front no_mark raw ++ l) (sym b) ∙ joined no_mark raw in
       let says : v ≡ spaces (line_ends raw) =
@@ -188,14 +188,14 @@ module _ (k : ℕ) (ih : (raw v : List ℕ) → length raw < k → value_from (t
   at_tail (x ∷ after) b =
       ⊎_elim
       (λ (less_than : eqb x 60 ≡ true).
-      let b60 : behind no_mark raw ≡ 60 ∷ after = b ∙ ap (λ y. y ∷ after) (eqb-true x 60 less_than) in
+      let b60 : following no_mark raw ≡ 60 ∷ after = b ∙ ap (λ y. y ∷ after) (eqb-true x 60 less_than) in
       absurd (none-some v (said_first (60 ∷ after) b60 (less_settled after))))
       (λ (ampersand : eqb x 38 ≡ true). with_ampersand after (b ∙ ap (λ y. y ∷ after) (eqb-true x 38 ampersand)))
-      (or_cases (eqb x 60) (eqb x 38) (not-false _ (behind_stops no_mark raw x after b)))
+      (or_cases (eqb x 60) (eqb x 38) (not-false _ (after_stops no_mark raw x after b)))
 
 said_within : (k : ℕ) (raw v : List ℕ) → length raw < k → value_from (text false) raw ≡ Some v → SpellsValue raw v
 said_within zero raw v less e = absurd (omega arith)
-said_within (suc k) raw v less e = at_tail k (said_within k) raw v less e (behind no_mark raw) refl
+said_within (suc k) raw v less e = at_tail k (said_within k) raw v less e (following no_mark raw) refl
 
 pub said_is_spelled : (raw v : List ℕ) → value_from (text false) raw ≡ Some v → SpellsValue raw v
 said_is_spelled raw v e = said_within (suc (length raw)) raw v (omega arith) e
@@ -228,14 +228,14 @@ parts_at b (x ∷ xs) after held low h =
 spaced : (held : List ℕ) (bs : List ℕ) → held ≡ [] → Runs [] bs → Runs held (32 ∷ bs)
 spaced held bs nothing h = ap (λ x. utf8_run x (32 ∷ bs)) nothing ∙ ascii_step 32 bs (omega arith) ∙ h
 
-spaces_run : (bs : List ℕ) (returned : Bool) (held : List ℕ) → Runs held bs → Runs held (spaces (line_ends_behind returned bs))
+spaces_run : (bs : List ℕ) (returned : Bool) (held : List ℕ) → Runs held bs → Runs held (spaces (line_ends_after returned bs))
 spaces_run [] returned held h = h
 spaces_run (b ∷ bs) returned held h =
     ⊎_elim
     (λ (n13 : eqb b 13 ≡ true).
     let low : b < 128 = grind (arith, nat_tests) in
     let a = ascii_alone b held bs low h in
-    rw n13 (spaced held (spaces (line_ends_behind true bs)) a.nothing (spaces_run bs true [] a.goes)))
+    rw n13 (spaced held (spaces (line_ends_after true bs)) a.nothing (spaces_run bs true [] a.goes)))
     (λ (n13 : eqb b 13 ≡ false).
     ⊎_elim
     (λ (joins : (returned && eqb b 10) ≡ true).
@@ -248,10 +248,10 @@ spaces_run (b ∷ bs) returned held h =
     (λ (white : is_white b ≡ true).
     let low : b < 128 = grind (arith, nat_tests) in
     let a = ascii_alone b held bs low h in
-    rw (n13, unjoined, white) (spaced held (spaces (line_ends_behind false bs)) a.nothing (spaces_run bs false [] a.goes)))
+    rw (n13, unjoined, white) (spaced held (spaces (line_ends_after false bs)) a.nothing (spaces_run bs false [] a.goes)))
     (λ (other : is_white b ≡ false).
     let l = leads held b bs h in
-    rw (n13, unjoined, other) (ap (option_and_then (λ next. utf8_run next (spaces (line_ends_behind false bs)))) l.is ∙ spaces_run bs false l.next l.goes))
+    rw (n13, unjoined, other) (ap (option_and_then (λ next. utf8_run next (spaces (line_ends_after false bs)))) l.is ∙ spaces_run bs false l.next l.goes))
     (cases_Bool (is_white b)))
     (cases_Bool (returned && eqb b 10)))
     (cases_Bool (eqb b 13))

@@ -14,7 +14,7 @@ use Rattle.base_lemmas.proofs.Conditions.{chosen}
 use Rattle.xml_tokens.proofs.Utf8Runs.{text_runs}
 use Rattle.xml_tokens.proofs.ValueRuns.{ended, reference_run}
 use Rattle.xml_tokens.specs.Characters.{are_characters, is_character, is_digit, is_name}
-use Rattle.xml_tokens.specs.Fronts.{front, behind}
+use Rattle.xml_tokens.specs.Fronts.{front, following}
 use Rattle.xml_tokens.specs.References.{character_numbered, character_reference, decimal_reference, entity_reference, hexadecimal_reference, is_hex_digit, number_of, referred}
 use Rattle.xml_tokens.specs.Utf8.{is_lead, is_second, is_tail, utf8_next, utf8_run}
 use Rattle.xml_tokens.specs.Values.{as_text, in_front, reference, said, text, value_from, value_of}
@@ -133,14 +133,14 @@ hexadecimal_names (d ∷ ds) c e =
     (λ (f : list_all is_hex_digit (d ∷ ds) ≡ false). absurd (malformed c (sym (cond-false (list_all is_hex_digit (d ∷ ds)) (character_numbered (number_of 16 (d ∷ ds))) Malformed f) ∙ e)))
     (cases_Bool (list_all is_hex_digit (d ∷ ds)))
 
-behind_ascii : (b n c : ℕ) (bs : List ℕ) → eqb b n ≡ true → ltb n 128 ≡ true → Names bs c → Names (b ∷ bs) c
-behind_ascii b n c bs e low h = record { ascii = and_from _ _ (ap (λ x. ltb x 128) (eqb-true b n e) ∙ low) h.ascii; legal = h.legal }
+after_ascii : (b n c : ℕ) (bs : List ℕ) → eqb b n ≡ true → ltb n 128 ≡ true → Names bs c → Names (b ∷ bs) c
+after_ascii b n c bs e low h = record { ascii = and_from _ _ (ap (λ x. ltb x 128) (eqb-true b n e) ∙ low) h.ascii; legal = h.legal }
 
 character_names : (bs : List ℕ) (c : ℕ) → character_reference bs ≡ Character c → Names bs c
 character_names [] c e = absurd (malformed c e)
 character_names (b ∷ bs) c e =
     ⊎_elim
-    (λ (t : eqb b 120 ≡ true). behind_ascii b 120 c bs t refl (hexadecimal_names bs c (sym (cond-true (eqb b 120) (hexadecimal_reference bs) (decimal_reference (b ∷ bs)) t) ∙ e)))
+    (λ (t : eqb b 120 ≡ true). after_ascii b 120 c bs t refl (hexadecimal_names bs c (sym (cond-true (eqb b 120) (hexadecimal_reference bs) (decimal_reference (b ∷ bs)) t) ∙ e)))
     (λ (f : eqb b 120 ≡ false). decimal_names (b ∷ bs) c (sym (cond-false (eqb b 120) (hexadecimal_reference bs) (decimal_reference (b ∷ bs)) f) ∙ e))
     (cases_Bool (eqb b 120))
 
@@ -171,7 +171,7 @@ unfolding referred
 reference_names [] c e = absurd (malformed c e)
 reference_names (b ∷ bs) c e =
     ⊎_elim
-    (λ (t : eqb b 35 ≡ true). behind_ascii b 35 c bs t refl (character_names bs c (sym (cond-true (eqb b 35) (character_reference bs) (entity_reference (b ∷ bs)) t) ∙ e)))
+    (λ (t : eqb b 35 ≡ true). after_ascii b 35 c bs t refl (character_names bs c (sym (cond-true (eqb b 35) (character_reference bs) (entity_reference (b ∷ bs)) t) ∙ e)))
     (λ (f : eqb b 35 ≡ false). entity_names (b ∷ bs) c (sym (cond-false (eqb b 35) (character_reference bs) (entity_reference (b ∷ bs)) f) ∙ e))
     (cases_Bool (eqb b 35))
 
@@ -202,8 +202,8 @@ encoded_anew c held more h =
     let l = leads held s.first (s.others ++ more) (ap (λ e. utf8_run held (e ++ more)) (sym s.is) ∙ h) in
     begins_anew s.first held l.next s.begins l.is
 
-pub encoded_behind : (c : ℕ) (held more : List ℕ) → is_character c ≡ true → Runs held (encode c ++ more) → Runs [] more
-encoded_behind c held more legal h =
+pub encoded_after : (c : ℕ) (held more : List ℕ) → is_character c ≡ true → Runs held (encode c ++ more) → Runs [] more
+encoded_after c held more legal h =
     let anew = encoded_anew c held more h in
     let alone : Runs [] (encode c) = text_runs (encode c) (IsUtf8-encode c (legal_scalar c legal)) in
     sym (runs_append (encode c) more [] alone) ∙ ap (λ l. utf8_run l (encode c ++ more)) (sym anew) ∙ h
@@ -242,7 +242,7 @@ ended_tells name (x ∷ xs) v e = let s = said_tells (referred name) (value_from
 name_byte : (bs so : List ℕ) (b : ℕ) (v : List ℕ) → value_from (reference (so ++ b ∷ [])) bs ≡ Some v → b < 128
 name_byte bs so b v e =
     let rest = front (λ b. not (eqb b 59)) bs in
-    let t = ended_tells ((so ++ b ∷ []) ++ front (λ b. not (eqb b 59)) bs) (behind (λ b. not (eqb b 59)) bs) v (sym (reference_run (so ++ b ∷ []) bs) ∙ e) in
+    let t = ended_tells ((so ++ b ∷ []) ++ front (λ b. not (eqb b 59)) bs) (following (λ b. not (eqb b 59)) bs) v (sym (reference_run (so ++ b ∷ []) bs) ∙ e) in
     inside_name so rest b (reference_names ((so ++ b ∷ []) ++ rest) t.0 t.1).ascii
 
 -- a byte of ASCII where no character is in hand
@@ -258,46 +258,46 @@ space_tells held v o e h =
     let f = in_front_tells (32 ∷ []) o v e in
     let l = leads held 32 f.more (ap (utf8_run held) (sym f.value_is) ∙ h) in
     let nothing = begins_anew 32 held l.next (inl (omega arith)) l.is in
-    let behind : Runs [] f.more = sym (ascii_step 32 f.more (omega arith)) ∙ ap (λ s. utf8_run s (32 ∷ f.more)) (sym nothing) ∙ ap (utf8_run held) (sym f.value_is) ∙ h in
-    (f.more, f.is, record { nothing = nothing; goes = behind })
+    let following : Runs [] f.more = sym (ascii_step 32 f.more (omega arith)) ∙ ap (λ s. utf8_run s (32 ∷ f.more)) (sym nothing) ∙ ap (utf8_run held) (sym f.value_is) ∙ h in
+    (f.more, f.is, record { nothing = nothing; goes = following })
 
 mutual
-  text_behind : (bs : List ℕ) (returned : Bool) (held v : List ℕ) → value_from (text returned) bs ≡ Some v → (returned ≡ true → held ≡ []) → Runs held v → Runs held bs
-  text_behind [] returned held v e anew h = let same : [] ≡ v = same_Some [] v e in ap (utf8_run held) same ∙ h
-  text_behind (b ∷ bs) returned held v e anew h =
+  text_after : (bs : List ℕ) (returned : Bool) (held v : List ℕ) → value_from (text returned) bs ≡ Some v → (returned ≡ true → held ≡ []) → Runs held v → Runs held bs
+  text_after [] returned held v e anew h = let same : [] ≡ v = same_Some [] v e in ap (utf8_run held) same ∙ h
+  text_after (b ∷ bs) returned held v e anew h =
       ⊎_elim (λ c.
       let p = and_parts returned (eqb b 10) c.0 in
       let nothing = anew p.0 in
-      let rest = text_behind bs false [] v c.1 (λ other. refl) (ap (λ s. utf8_run s v) (sym nothing) ∙ h) in
+      let rest = text_after bs false [] v c.1 (λ other. refl) (ap (λ s. utf8_run s v) (sym nothing) ∙ h) in
       ap (λ s. utf8_run s (b ∷ bs)) nothing ∙ plain_step b 10 bs p.1 (omega arith) rest)
-      (λ c. ⊎_elim (λ d. let r = reference_behind bs [] held v d.1 h in ap (λ s. utf8_run s (b ∷ bs)) r.nothing ∙ plain_step b 38 bs d.0 (omega arith) r.goes)
+      (λ c. ⊎_elim (λ d. let r = reference_after bs [] held v d.1 h in ap (λ s. utf8_run s (b ∷ bs)) r.nothing ∙ plain_step b 38 bs d.0 (omega arith) r.goes)
       (λ d. ⊎_elim (λ f. absurd (none-some v f.1))
       (λ f. ⊎_elim (λ g.
       let s = space_tells held v (value_from (text true) bs) g.1 h in
-      ap (λ s. utf8_run s (b ∷ bs)) s.2.nothing ∙ plain_step b 13 bs g.0 (omega arith) (text_behind bs true [] s.0 s.1 (λ other. refl) s.2.goes))
+      ap (λ s. utf8_run s (b ∷ bs)) s.2.nothing ∙ plain_step b 13 bs g.0 (omega arith) (text_after bs true [] s.0 s.1 (λ other. refl) s.2.goes))
       (λ g. ⊎_elim (λ k.
       let s = space_tells held v (value_from (text false) bs) k.1 h in
-      let rest = text_behind bs false [] s.0 s.1 (λ other. refl) s.2.goes in
+      let rest = text_after bs false [] s.0 s.1 (λ other. refl) s.2.goes in
       ap (λ s. utf8_run s (b ∷ bs)) s.2.nothing
       ∙ ⊎_elim (λ tab. plain_step b 9 bs tab (omega arith) rest) (λ feed. plain_step b 10 bs feed (omega arith) rest) (or_cases (eqb b 9) (eqb b 10) k.0))
       (λ k.
       let s = in_front_tells (b ∷ []) (value_from (text false) bs) v k.1 in
       let l = leads held b s.more (ap (utf8_run held) (sym s.value_is) ∙ h) in
-      ap (option_and_then (λ next. utf8_run next bs)) l.is ∙ text_behind bs false l.next s.more s.is (λ never. absurd (false≢true never)) l.goes)
+      ap (option_and_then (λ next. utf8_run next bs)) l.is ∙ text_after bs false l.next s.more s.is (λ never. absurd (false≢true never)) l.goes)
       (chosen (eqb b 9 || eqb b 10) _ _ (Some v) g.1)) (chosen (eqb b 13) _ _ (Some v) f.1)) (chosen (eqb b 60) _ _ (Some v) d.1)) (chosen (eqb b 38) _ _ (Some v) c.1)) (chosen (returned && eqb b 10) _ _ (Some v) e)
 
-  reference_behind : (bs so held v : List ℕ) → value_from (reference so) bs ≡ Some v → Runs held v → Spaced held bs
-  reference_behind [] so held v e h = absurd (none-some v e)
-  reference_behind (b ∷ bs) so held v e h =
+  reference_after : (bs so held v : List ℕ) → value_from (reference so) bs ≡ Some v → Runs held v → Spaced held bs
+  reference_after [] so held v e h = absurd (none-some v e)
+  reference_after (b ∷ bs) so held v e h =
       ⊎_elim
       (λ end.
       let s = said_tells (referred so) (value_from (text false) bs) v end.1 in
       let n = reference_names so s.0 s.1 in
       let whole : Runs held (encode_utf8 s.0 ++ s.2.more) = ap (utf8_run held) (sym s.2.value_is) ∙ h in
-      let rest = text_behind bs false [] s.2.more s.2.is (λ other. refl) (encoded_behind s.0 held s.2.more n.legal whole) in
+      let rest = text_after bs false [] s.2.more s.2.is (λ other. refl) (encoded_after s.0 held s.2.more n.legal whole) in
       let both : Spaced held (b ∷ bs) = record { nothing = encoded_anew s.0 held s.2.more whole; goes = plain_step b 59 bs end.0 (omega arith) rest } in both)
       (λ on.
-      let r = reference_behind bs (so ++ b ∷ []) held v on.1 h in
+      let r = reference_after bs (so ++ b ∷ []) held v on.1 h in
       let both : Spaced held (b ∷ bs) = record { nothing = r.nothing; goes = ascii_step b bs (name_byte bs so b v on.1) ∙ r.goes } in both)
       (chosen (eqb b 59) _ _ (Some v) e)
 
@@ -309,4 +309,4 @@ text_of (Some w) v e =
 pub value_runs : (raw v : List ℕ) → value_of raw ≡ Some v → utf8_run [] raw ≡ Some []
 unfolding value_of
 value_runs raw v e =
-    ⊎_elim (λ c. let w = text_of (value_from (text false) raw) v c.1 in text_behind raw false [] w.0 w.1 (λ other. refl) (text_runs w.0 w.2)) (λ c. absurd (none-some v c.1)) (chosen (are_characters raw) _ _ (Some v) e)
+    ⊎_elim (λ c. let w = text_of (value_from (text false) raw) v c.1 in text_after raw false [] w.0 w.1 (λ other. refl) (text_runs w.0 w.2)) (λ c. absurd (none-some v c.1)) (chosen (are_characters raw) _ _ (Some v) e)

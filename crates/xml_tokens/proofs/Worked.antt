@@ -109,9 +109,9 @@ other : declaration_of (codes "<?xml encoding='' version='1.0'?>") ≡ declarati
 unfolding declaration_of has_other is_good is_utf8_label spelled_at is_qualified are_characters is_utf8 chars encode
 other = refl
 
-behind_departure : declaration_of (codes "<?xml version=1.0 encoding='x'?>") ≡ declaration.NotWellFormed
+after_departure : declaration_of (codes "<?xml version=1.0 encoding='x'?>") ≡ declaration.NotWellFormed
 unfolding declaration_of has_other is_good is_utf8_label spelled_at is_qualified are_characters is_utf8 chars encode
-behind_departure = refl
+after_departure = refl
 
 written_value : spelled_value (codes "a&'" ++ 13 ∷ 9 ∷ []) ≡ codes "a&amp;&apos;&#xD;&#x9;"
 unfolding value_byte text_byte

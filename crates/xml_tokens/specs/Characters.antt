@@ -46,13 +46,13 @@ abbrev pub ends_forbidden : ℕ → ℕ → ℕ → Bool
 ends_forbidden a b c = is_control c || ((a == 239 && b == 191) && (c == 190 || c == 191))
 
 -- behind the bytes a and b, each character of a text is one of XML's
-abbrev pub are_characters_behind : ℕ → ℕ → List ℕ → Bool
-are_characters_behind a b [] = true
-are_characters_behind a b (c ∷ cs) = not (ends_forbidden a b c) && are_characters_behind b c cs
+abbrev pub are_characters_after : ℕ → ℕ → List ℕ → Bool
+are_characters_after a b [] = true
+are_characters_after a b (c ∷ cs) = not (ends_forbidden a b c) && are_characters_after b c cs
 
 -- each character of a text is one of XML's
 unfoldable pub are_characters : List ℕ → Bool
-are_characters bs = are_characters_behind 0 0 bs
+are_characters bs = are_characters_after 0 0 bs
 
 -- each byte can go on a name
 abbrev pub go_on : List ℕ → Bool

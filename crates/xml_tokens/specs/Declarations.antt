@@ -4,7 +4,7 @@ use Rattle.std.specs.Prelude.{ℕ, zero, suc, ◌≡◌, ◌⊎◌, Bool, true, 
 use Rattle.std.specs.Option.{option_and_then}
 use Rattle.std.specs.Str.{bytes_eq, str_eq_ignore_ascii_case}
 use Rattle.xml_tokens.specs.Characters.{is_white}
-use Rattle.xml_tokens.specs.Fronts.{behind}
+use Rattle.xml_tokens.specs.Fronts.{following}
 use Rattle.xml_tokens.specs.Tags.{IsSpelled, Spelled, are_white, spelled_at}
 use Rattle.xml_tokens.specs.declared.declarations.Declaration.{Declaration}
 use Rattle.xml_tokens.specs.declared.declarations.Declaration.TheVariants.{Good, Encoding, NotWellFormed}
@@ -28,15 +28,15 @@ MaySpell bytes name fits rest = (rest ≡ bytes) ⊎ ((raw : List ℕ) × IsSpel
 -- '<?xml' version (encoding)? (standalone)? S? '?>' (XMLDecl), with version 1.0 and encoding UTF-8
 pub record IsGood (bytes : List ℕ) : Type 0 where
   pub items : List ℕ
-  pub behind_version : List ℕ
-  pub behind_encoding : List ℕ
-  pub behind_standalone : List ℕ
+  pub after_version : List ℕ
+  pub after_encoding : List ℕ
+  pub after_standalone : List ℕ
   pub space : List ℕ
   pub bytes_are : bytes ≡ codes "<?xml" ++ items
-  pub version : IsSpelled items (codes "version") (codes "1.0") behind_version
-  pub encoding : MaySpell behind_version (codes "encoding") is_utf8_label behind_encoding
-  pub standalone : MaySpell behind_encoding (codes "standalone") is_yes_or_no behind_standalone
-  pub end_is : behind_standalone ≡ space ++ codes "?>"
+  pub version : IsSpelled items (codes "version") (codes "1.0") after_version
+  pub encoding : MaySpell after_version (codes "encoding") is_utf8_label after_encoding
+  pub standalone : MaySpell after_encoding (codes "standalone") is_yes_or_no after_standalone
+  pub end_is : after_standalone ≡ space ++ codes "?>"
   pub space_white : are_white space ≡ true
 
 -- bytes spell items `name = 'value'`, and one of them is an encoding other than UTF-8
@@ -73,15 +73,15 @@ abbrev pub optional_at : List ℕ → (List ℕ → Bool) → List ℕ → List 
 optional_at name fits bs = unwrap_or (item_at name fits bs) bs
 
 abbrev pub is_closed : List ℕ → Bool
-is_closed bs = bytes_eq (behind is_white bs) (codes "?>")
+is_closed bs = bytes_eq (following is_white bs) (codes "?>")
 
-abbrev pub is_good_behind : Option (List ℕ) → Bool
-is_good_behind None = false
-is_good_behind (Some bs) = is_closed (optional_at (codes "standalone") is_yes_or_no (optional_at (codes "encoding") is_utf8_label bs))
+abbrev pub is_good_after : Option (List ℕ) → Bool
+is_good_after None = false
+is_good_after (Some bs) = is_closed (optional_at (codes "standalone") is_yes_or_no (optional_at (codes "encoding") is_utf8_label bs))
 
 -- behind `<?xml`
 unfoldable pub is_good : List ℕ → Bool
-is_good bs = is_good_behind (item_at (codes "version") is_one_zero bs)
+is_good bs = is_good_after (item_at (codes "version") is_one_zero bs)
 
 abbrev pub declared : List ℕ → Declaration
 declared bs = if has_other bs then Encoding else (if is_good bs then Good else NotWellFormed)

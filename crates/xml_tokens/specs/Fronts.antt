@@ -5,6 +5,6 @@ abbrev pub front : {X : Type 0} → (X → Bool) → List X → List X
 front p [] = []
 front p (x ∷ xs) = if p x then x ∷ front p xs else []
 
-abbrev pub behind : {X : Type 0} → (X → Bool) → List X → List X
-behind p [] = []
-behind p (x ∷ xs) = if p x then behind p xs else x ∷ xs
+abbrev pub following : {X : Type 0} → (X → Bool) → List X → List X
+following p [] = []
+following p (x ∷ xs) = if p x then following p xs else x ∷ xs

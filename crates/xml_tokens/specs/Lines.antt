@@ -10,11 +10,11 @@ pub record IsCharacters (bytes : List ℕ) : Type 0 where
 
 -- Line ends (2.11): a carriage return with the line feed after it, or alone, is a line feed. `returned`: a carriage
 -- return stands before the bytes.
-abbrev pub line_ends_behind : Bool → List ℕ → List ℕ
-line_ends_behind returned [] = []
-line_ends_behind returned (b ∷ bs) =
-    if b == 13 then 10 ∷ line_ends_behind true bs
-    else (if returned && b == 10 then line_ends_behind false bs else b ∷ line_ends_behind false bs)
+abbrev pub line_ends_after : Bool → List ℕ → List ℕ
+line_ends_after returned [] = []
+line_ends_after returned (b ∷ bs) =
+    if b == 13 then 10 ∷ line_ends_after true bs
+    else (if returned && b == 10 then line_ends_after false bs else b ∷ line_ends_after false bs)
 
 abbrev pub line_ends : List ℕ → List ℕ
-line_ends bytes = line_ends_behind false bytes
+line_ends bytes = line_ends_after false bytes

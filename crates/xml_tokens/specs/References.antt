@@ -59,8 +59,8 @@ last_two a b [] = a ∷ b ∷ []
 last_two a b (c ∷ cs) = last_two b c cs
 
 -- a byte ends a character that is none of XML's, behind the last two of a list
-abbrev pub ends_forbidden_behind : List ℕ → ℕ → Bool
-ends_forbidden_behind bs c = ends_forbidden (slice_index (last_two 0 0 bs) 0) (slice_index (last_two 0 0 bs) 1) c
+abbrev pub ends_forbidden_after : List ℕ → ℕ → Bool
+ends_forbidden_after bs c = ends_forbidden (slice_index (last_two 0 0 bs) 0) (slice_index (last_two 0 0 bs) 1) c
 
 abbrev pub number_goes_on : List ℕ → ℕ → Bool
 number_goes_on [] b = b == 120 || is_digit b
@@ -69,7 +69,7 @@ number_goes_on (x ∷ xs) b = if x == 120 then is_hex_digit b else is_digit b
 -- Behind `&` and the bytes so far, a byte other than `;` goes on a reference.
 unfoldable pub reference_goes_on : List ℕ → ℕ → Bool
 reference_goes_on [] b = b == 35 || is_name_start b
-reference_goes_on (x ∷ xs) b = if x == 35 then number_goes_on xs b else is_name_byte b && not (ends_forbidden_behind (x ∷ xs) b)
+reference_goes_on (x ∷ xs) b = if x == 35 then number_goes_on xs b else is_name_byte b && not (ends_forbidden_after (x ∷ xs) b)
 
 -- each byte goes on the reference that those before it began
 abbrev pub each_goes_on : List ℕ → List ℕ → Bool

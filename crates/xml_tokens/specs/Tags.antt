@@ -6,7 +6,7 @@ use Rattle.std.specs.Option.{option_map, option_and_then, ok_or}
 use Rattle.std.specs.Str.{bytes_eq, is_utf8}
 use Rattle.base_lemmas.specs.Distinct.{are_distinct_by}
 use Rattle.xml_tokens.specs.Characters.{is_white, is_name_byte, is_name}
-use Rattle.xml_tokens.specs.Fronts.{front, behind}
+use Rattle.xml_tokens.specs.Fronts.{front, following}
 use Rattle.xml_tokens.specs.ValueGrammar.{IsValue}
 use Rattle.xml_tokens.specs.Values.{value_of, begins_unknown}
 use Rattle.xml_tokens.specs.declared.fault.TagWhy.{TagWhy}
@@ -33,12 +33,12 @@ abbrev pub not_byte : ℕ → ℕ → Bool
 not_byte c b = not (b == c)
 
 -- a name, or two with a colon between (Namespaces, section 3, QName)
-abbrev pub is_behind_colon : List ℕ → Bool
-is_behind_colon [] = true
-is_behind_colon (c ∷ bs) = is_name bs
+abbrev pub is_after_colon : List ℕ → Bool
+is_after_colon [] = true
+is_after_colon (c ∷ bs) = is_name bs
 
 abbrev pub has_parts : List ℕ → Bool
-has_parts bs = is_name (front (λ b. not (b == 58)) bs) && is_behind_colon (behind (λ b. not (b == 58)) bs)
+has_parts bs = is_name (front (λ b. not (b == 58)) bs) && is_after_colon (following (λ b. not (b == 58)) bs)
 
 unfoldable pub is_qualified : List ℕ → Bool
 is_qualified bs = has_parts bs && is_utf8 bs
@@ -141,18 +141,18 @@ closed name raw (q ∷ rest) = Some (record { name = name; raw = raw; rest = res
 
 abbrev pub quoted : List ℕ → List ℕ → Option Spelled
 quoted name [] = None
-quoted name (q ∷ bs) = if is_quote q then closed name (front (λ b. not (b == q)) bs) (behind (λ b. not (b == q)) bs) else None
+quoted name (q ∷ bs) = if is_quote q then closed name (front (λ b. not (b == q)) bs) (following (λ b. not (b == q)) bs) else None
 
 abbrev pub assigned : List ℕ → List ℕ → Option Spelled
 assigned name [] = None
-assigned name (b ∷ bs) = if b == 61 then quoted name (behind is_white bs) else None
+assigned name (b ∷ bs) = if b == 61 then quoted name (following is_white bs) else None
 
 -- a byte of a qualified name
 abbrev pub is_qualified_byte : ℕ → Bool
 is_qualified_byte b = is_name_byte b || b == 58
 
 abbrev pub named : List ℕ → List ℕ → Option Spelled
-named name rest = if is_qualified name then assigned name (behind is_white rest) else None
+named name rest = if is_qualified name then assigned name (following is_white rest) else None
 
 abbrev pub is_empty : List ℕ → Bool
 is_empty [] = true
@@ -162,7 +162,7 @@ is_empty (b ∷ bs) = false
 unfoldable pub spelled_at : List ℕ → Option Spelled
 spelled_at bs =
     if is_empty (front is_white bs) then None
-    else named (front is_qualified_byte (behind is_white bs)) (behind is_qualified_byte (behind is_white bs))
+    else named (front is_qualified_byte (following is_white bs)) (following is_qualified_byte (following is_white bs))
 
 -- how a start tag ends that has only these bytes left: `>`, or `/>`, behind white space
 abbrev pub end_in : List ℕ → Option Bool
@@ -199,7 +199,7 @@ unless_ended (Some empty) inside = ended_inside empty
 -- the attributes and the end that bytes say, fewer of them than a number
 abbrev pub inside_within : ℕ → List ℕ → Option Inside
 inside_within zero bs = None
-inside_within (suc k) bs = unless_ended (end_in (behind is_white bs)) (option_and_then (λ f. with_more (f.attribute ∷ []) (inside_within k f.rest)) (attribute_at bs))
+inside_within (suc k) bs = unless_ended (end_in (following is_white bs)) (option_and_then (λ f. with_more (f.attribute ∷ []) (inside_within k f.rest)) (attribute_at bs))
 
 -- all of them: each takes a byte at least
 unfoldable pub inside_of : List ℕ → Option Inside
@@ -215,13 +215,13 @@ start_with name i = if are_distinct (names_of i.attributes) then Some (start_tag
 unfoldable pub start_at : List ℕ → Option Tag
 start_at bs =
     if is_qualified (front is_qualified_byte bs)
-    then option_and_then (start_with (front is_qualified_byte bs)) (inside_of (behind is_qualified_byte bs))
+    then option_and_then (start_with (front is_qualified_byte bs)) (inside_of (following is_qualified_byte bs))
     else None
 
 -- behind `</`
 unfoldable pub end_at : List ℕ → Option Tag
 end_at bs =
-    if is_qualified (front is_qualified_byte bs) && bytes_eq (behind is_white (behind is_qualified_byte bs)) (62 ∷ [])
+    if is_qualified (front is_qualified_byte bs) && bytes_eq (following is_white (following is_qualified_byte bs)) (62 ∷ [])
     then Some (end_tag (front is_qualified_byte bs))
     else None
 

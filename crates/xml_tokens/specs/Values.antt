@@ -4,7 +4,7 @@ use Rattle.std.specs.Int.{is_in_range}
 use Rattle.std.specs.Option.{option_map, ok_or}
 use Rattle.std.specs.Str.{is_utf8}
 use Rattle.xml_tokens.specs.Characters.{is_name_byte, are_characters}
-use Rattle.xml_tokens.specs.Fronts.{front, behind}
+use Rattle.xml_tokens.specs.Fronts.{front, following}
 use Rattle.xml_tokens.specs.References.{referred}
 use Rattle.xml_tokens.specs.declared.fault.TagWhy.{TagWhy}
 use Rattle.xml_tokens.specs.declared.fault.TagWhy.TheVariants.{Restricted, NotWellFormed}
@@ -62,7 +62,7 @@ begins_with b (x ∷ xs) = x == b
 
 -- bytes behind `&` begin with an unknown name and `;`
 abbrev pub begins_unknown : List ℕ → Bool
-begins_unknown bs = begins_with 59 (behind is_name_byte bs) && is_unknown (referred (front is_name_byte bs))
+begins_unknown bs = begins_with 59 (following is_name_byte bs) && is_unknown (referred (front is_name_byte bs))
 
 -- some reference has an unknown name
 abbrev pub has_unknown : List ℕ → Bool

@@ -1,7 +1,7 @@
 //! An attribute as it is spelled, read off the bytes of a tag.
 ghost use Rattle.std.specs.Prelude.{◌≡◌, Some, None, if◌then◌else◌};
 ghost use Rattle.std.specs.Option.{option_map};
-ghost use Rattle.xml_tokens.specs.Fronts.{front, behind};
+ghost use Rattle.xml_tokens.specs.Fronts.{front, following};
 ghost use Rattle.xml_tokens.specs.Tags;
 ghost use Rattle.xml_tokens.specs.Values.{as_text};
 ghost use Rattle.xml_tokens.specs.SpelledView.{spelled_view};
@@ -28,8 +28,8 @@ pub fn is_quote(b: u8) -> bool
 }
 
 // Whether what is behind the first part of a name is nothing, or a colon and a name.
-fn is_behind_colon(bytes: &[u8]) -> bool
-    ensures { result ≡ Tags.is_behind_colon bytes.now }
+fn is_after_colon(bytes: &[u8]) -> bool
+    ensures { result ≡ Tags.is_after_colon bytes.now }
 {
     match bytes.split_first() {
         Some((_, rest)) => is_name(rest),
@@ -42,7 +42,7 @@ fn has_parts(name: &[u8]) -> bool
     ensures { result ≡ Tags.has_parts name.now }
 {
     let (prefix, rest) = split_colon(name);
-    is_name(prefix) && is_behind_colon(rest)
+    is_name(prefix) && is_after_colon(rest)
 }
 
 // The text that bytes are, if they are UTF-8.
@@ -65,11 +65,11 @@ fn qualified(name: &[u8]) -> Option<&str>
 
 // The text of the qualified name that bytes begin with, if they do, and what is behind its bytes. Most names are of ASCII
 // and have no colon.
-#[tactic(auto, using(crate::proofs::AsciiNames::stops_behind, crate::proofs::AsciiNames::front_ascii, crate::proofs::AsciiNames::front_named, crate::proofs::AsciiNames::front_alone))]
+#[tactic(auto, using(crate::proofs::AsciiNames::stops_after, crate::proofs::AsciiNames::front_ascii, crate::proofs::AsciiNames::front_named, crate::proofs::AsciiNames::front_alone))]
 pub(crate) fn split_named(bytes: &[u8]) -> (Option<&str>, &[u8])
     ensures name { option_map (λ s. s.now) result.0
         ≡ (if Tags.is_qualified (front Tags.is_qualified_byte bytes.now) then Some (front Tags.is_qualified_byte bytes.now) else None) }
-    ensures rest { result.1.now ≡ behind Tags.is_qualified_byte bytes.now }
+    ensures rest { result.1.now ≡ following Tags.is_qualified_byte bytes.now }
 {
     let (name, rest) = split_ascii_name(bytes);
     if begins_as_name(name) && goes_no_further(rest) {

@@ -72,7 +72,7 @@ fn version_at(bytes: &[u8]) -> Option<&[u8]>
 }
 
 // What is behind `encoding` UTF-8, or all where that isn't there.
-fn behind_encoding(bytes: &[u8]) -> &[u8]
+fn after_encoding(bytes: &[u8]) -> &[u8]
     ensures { result.now ≡ Declarations.optional_at (codes "encoding") Declarations.is_utf8_label bytes.now }
 {
     match spelled_at(bytes) {
@@ -82,7 +82,7 @@ fn behind_encoding(bytes: &[u8]) -> &[u8]
 }
 
 // What is behind `standalone` yes or no, or all where that isn't there.
-fn behind_standalone(bytes: &[u8]) -> &[u8]
+fn after_standalone(bytes: &[u8]) -> &[u8]
     ensures { result.now ≡ Declarations.optional_at (codes "standalone") Declarations.is_yes_or_no bytes.now }
 {
     match spelled_at(bytes) {
@@ -102,13 +102,13 @@ fn is_good(bytes: &[u8]) -> bool
     ensures { result ≡ Declarations.is_good bytes.now }
 {
     match version_at(bytes) {
-        Some(rest) => is_closed(behind_standalone(behind_encoding(rest))),
+        Some(rest) => is_closed(after_standalone(after_encoding(rest))),
         None => false,
     }
 }
 
 // What is behind `<?xml`.
-fn behind_opening(bytes: &[u8]) -> Option<&[u8]>
+fn after_opening(bytes: &[u8]) -> Option<&[u8]>
     ensures { option_map (λ r. r.now) result ≡ (if bytes_eq (take 5 bytes.now) (codes "<?xml") then Some (drop 5 bytes.now) else None) }
 {
     if bytes.len() < 5 {
@@ -128,7 +128,7 @@ fn behind_opening(bytes: &[u8]) -> Option<&[u8]>
 pub fn read_declaration(bytes: &[u8]) -> Declaration
     ensures { result ≡ declaration_of bytes.now }
 {
-    match behind_opening(bytes) {
+    match after_opening(bytes) {
         Some(items) if has_other(items) => Declaration::Encoding,
         Some(items) if is_good(items) => Declaration::Good,
         _ => Declaration::NotWellFormed,

@@ -3,7 +3,7 @@ ghost use Rattle.std.specs.Prelude.{◌≡◌, ◌<◌, ◌≤◌, ◌==◌, tru
 ghost use Rattle.std.specs.Char.{is_ascii_lowercase};
 ghost use Rattle.std.specs.List.{list_all, prefix_len};
 ghost use Rattle.xml_tokens.specs.Characters;
-ghost use Rattle.xml_tokens.specs.Fronts.{front, behind};
+ghost use Rattle.xml_tokens.specs.Fronts.{front, following};
 ghost use Rattle.xml_tokens.specs.Spelling;
 ghost use Rattle.xml_tokens.specs.Tags;
 ghost use Rattle.xml_tokens.specs.Tags.{is_empty};
@@ -29,7 +29,7 @@ fn name_len(bytes: &[u8]) -> usize
 #[tactic(auto, using(crate::proofs::Splits::take_prefix, crate::proofs::Splits::drop_prefix, crate::proofs::Splits::prefix_within))]
 pub(crate) fn split_name_bytes(bytes: &[u8]) -> (&[u8], &[u8])
     ensures front { result.0.now ≡ front Characters.is_name_byte bytes.now }
-    ensures behind { result.1.now ≡ behind Characters.is_name_byte bytes.now }
+    ensures following { result.1.now ≡ following Characters.is_name_byte bytes.now }
 {
     bytes.split_at(name_len(bytes))
 }
@@ -44,7 +44,7 @@ fn white_len(bytes: &[u8]) -> usize
 #[tactic(auto, using(crate::proofs::Splits::take_prefix, crate::proofs::Splits::drop_prefix, crate::proofs::Splits::prefix_within))]
 pub(crate) fn split_white(bytes: &[u8]) -> (&[u8], &[u8])
     ensures front { result.0.now ≡ front Characters.is_white bytes.now }
-    ensures behind { result.1.now ≡ behind Characters.is_white bytes.now }
+    ensures following { result.1.now ≡ following Characters.is_white bytes.now }
 {
     bytes.split_at(white_len(bytes))
 }
@@ -62,7 +62,7 @@ fn until_len(bytes: &[u8], end: u8) -> usize
 #[tactic(auto, using(crate::proofs::Splits::take_prefix, crate::proofs::Splits::drop_prefix, crate::proofs::Splits::prefix_within))]
 pub(crate) fn split_until(bytes: &[u8], end: u8) -> (&[u8], &[u8])
     ensures front { result.0.now ≡ front (λ b. not (b == end)) bytes.now }
-    ensures behind { result.1.now ≡ behind (λ b. not (b == end)) bytes.now }
+    ensures following { result.1.now ≡ following (λ b. not (b == end)) bytes.now }
 {
     bytes.split_at(until_len(bytes, end))
 }
@@ -77,7 +77,7 @@ fn colon_len(bytes: &[u8]) -> usize
 #[tactic(auto, using(crate::proofs::Splits::take_prefix, crate::proofs::Splits::drop_prefix, crate::proofs::Splits::prefix_within))]
 pub(crate) fn split_colon(bytes: &[u8]) -> (&[u8], &[u8])
     ensures front { result.0.now ≡ front (λ b. not (b == 58)) bytes.now }
-    ensures behind { result.1.now ≡ behind (λ b. not (b == 58)) bytes.now }
+    ensures following { result.1.now ≡ following (λ b. not (b == 58)) bytes.now }
 {
     bytes.split_at(colon_len(bytes))
 }
@@ -98,7 +98,7 @@ fn plain_len(bytes: &[u8]) -> usize
 #[tactic(auto, using(crate::proofs::Splits::take_prefix, crate::proofs::Splits::drop_prefix, crate::proofs::Splits::prefix_within))]
 pub(crate) fn split_plain(bytes: &[u8]) -> (&[u8], &[u8])
     ensures front { result.0.now ≡ front Values.is_plain bytes.now }
-    ensures behind { result.1.now ≡ behind Values.is_plain bytes.now }
+    ensures following { result.1.now ≡ following Values.is_plain bytes.now }
 {
     bytes.split_at(plain_len(bytes))
 }
@@ -119,7 +119,7 @@ fn qualified_len(bytes: &[u8]) -> usize
 #[tactic(auto, using(crate::proofs::Splits::take_prefix, crate::proofs::Splits::drop_prefix, crate::proofs::Splits::prefix_within))]
 pub(crate) fn split_qualified(bytes: &[u8]) -> (&[u8], &[u8])
     ensures front { result.0.now ≡ front Tags.is_qualified_byte bytes.now }
-    ensures behind { result.1.now ≡ behind Tags.is_qualified_byte bytes.now }
+    ensures following { result.1.now ≡ following Tags.is_qualified_byte bytes.now }
 {
     bytes.split_at(qualified_len(bytes))
 }
@@ -152,7 +152,7 @@ fn ascii_name_len(bytes: &[u8]) -> usize
 #[tactic(auto, using(crate::proofs::Splits::take_prefix, crate::proofs::Splits::drop_prefix, crate::proofs::Splits::prefix_within))]
 pub(crate) fn split_ascii_name(bytes: &[u8]) -> (&[u8], &[u8])
     ensures front { result.0.now ≡ front Characters.is_ascii_name_byte bytes.now }
-    ensures behind { result.1.now ≡ behind Characters.is_ascii_name_byte bytes.now }
+    ensures following { result.1.now ≡ following Characters.is_ascii_name_byte bytes.now }
 {
     bytes.split_at(ascii_name_len(bytes))
 }
@@ -201,7 +201,7 @@ fn text_plain_len(bytes: &[u8]) -> usize
 #[tactic(auto, using(crate::proofs::Splits::take_prefix, crate::proofs::Splits::drop_prefix, crate::proofs::Splits::prefix_within))]
 fn split_text_plain(bytes: &[u8]) -> (&[u8], &[u8])
     ensures front { result.0.now ≡ front Spelling.is_text_plain bytes.now }
-    ensures behind { result.1.now ≡ behind Spelling.is_text_plain bytes.now }
+    ensures following { result.1.now ≡ following Spelling.is_text_plain bytes.now }
 {
     bytes.split_at(text_plain_len(bytes))
 }
@@ -238,7 +238,7 @@ fn value_plain_len(bytes: &[u8]) -> usize
 #[tactic(auto, using(crate::proofs::Splits::take_prefix, crate::proofs::Splits::drop_prefix, crate::proofs::Splits::prefix_within))]
 fn split_value_plain(bytes: &[u8]) -> (&[u8], &[u8])
     ensures front { result.0.now ≡ front Spelling.is_value_plain bytes.now }
-    ensures behind { result.1.now ≡ behind Spelling.is_value_plain bytes.now }
+    ensures following { result.1.now ≡ following Spelling.is_value_plain bytes.now }
 {
     bytes.split_at(value_plain_len(bytes))
 }
@@ -246,7 +246,7 @@ fn split_value_plain(bytes: &[u8]) -> (&[u8], &[u8])
 // The bytes that are written as they are, and the rest.
 pub(crate) fn split_plain_as(form: Written, bytes: &[u8]) -> (&[u8], &[u8])
     ensures front { result.0.now ≡ front (Spelling.is_plain_as form) bytes.now }
-    ensures behind { result.1.now ≡ behind (Spelling.is_plain_as form) bytes.now }
+    ensures following { result.1.now ≡ following (Spelling.is_plain_as form) bytes.now }
 {
     match form {
         Written::Text => split_text_plain(bytes),
@@ -255,7 +255,7 @@ pub(crate) fn split_plain_as(form: Written, bytes: &[u8]) -> (&[u8], &[u8])
 }
 
 // Whether each byte is one that a text is written with as it is.
-#[tactic(auto, using(crate::proofs::Splits::all_in_parts, crate::proofs::Splits::all_behind))]
+#[tactic(auto, using(crate::proofs::Splits::all_in_parts, crate::proofs::Splits::all_after))]
 fn are_text_plain(bytes: &[u8]) -> bool
     ensures { result ≡ list_all Spelling.is_text_plain bytes.now }
 {
@@ -289,7 +289,7 @@ fn all_text_plain(bytes: &[u8]) -> bool
 }
 
 // Whether each byte is one that a value is written with as it is.
-#[tactic(auto, using(crate::proofs::Splits::all_in_parts, crate::proofs::Splits::all_behind))]
+#[tactic(auto, using(crate::proofs::Splits::all_in_parts, crate::proofs::Splits::all_after))]
 fn are_value_plain(bytes: &[u8]) -> bool
     ensures { result ≡ list_all Spelling.is_value_plain bytes.now }
 {

@@ -174,8 +174,8 @@ pub fn referred(name: &[u8]) -> Reference
 }
 
 // Whether a byte ends a character that is none of XML's behind other bytes.
-fn ends_forbidden_behind(bytes: &[u8], c: u8) -> bool
-    ensures { result ≡ References.ends_forbidden_behind bytes.now c }
+fn ends_forbidden_after(bytes: &[u8], c: u8) -> bool
+    ensures { result ≡ References.ends_forbidden_after bytes.now c }
 {
     match *bytes {
         [.., a, b] => ends_forbidden(a, b, c),
@@ -202,7 +202,7 @@ pub fn reference_goes_on(so_far: &[u8], b: u8) -> bool
 {
     match so_far.split_first() {
         Some((first, rest)) if *first == b'#' => number_goes_on(rest, b),
-        Some(_) => is_name_byte(b) && !ends_forbidden_behind(so_far, b),
+        Some(_) => is_name_byte(b) && !ends_forbidden_after(so_far, b),
         None => b == b'#' || is_name_start(b),
     }
 }

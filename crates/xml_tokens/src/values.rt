@@ -136,7 +136,7 @@ fn is_plain_ascii(b: u8) -> bool
 }
 
 // Whether a spelled value is what it says, and in ASCII.
-#[tactic(auto, using(crate::proofs::Splits::all_in_parts, crate::proofs::Splits::all_behind))]
+#[tactic(auto, using(crate::proofs::Splits::all_in_parts, crate::proofs::Splits::all_after))]
 fn are_plain_ascii(raw: &[u8]) -> bool
     ensures { result ≡ list_all Values.is_plain_ascii raw.now }
 {

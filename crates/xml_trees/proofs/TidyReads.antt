@@ -5,7 +5,7 @@ use Rattle.std.specs.Option.{option_or}
 use Rattle.xml_trees.proofs.AttributeOrder.{sorted_attributes_IsAttrsOf}
 use Rattle.xml_trees.specs.Attributes.{Attribute, found, has_name}
 use Rattle.xml_trees.specs.Readers.{attr_of, child_of, elements_of, first_named, is_named, text_of}
-use Rattle.xml_trees.specs.Tidied.{text_node, tidied, tidied_behind}
+use Rattle.xml_trees.specs.Tidied.{text_node, tidied, tidied_after}
 use Rattle.xml_trees.specs.Trees.{Elem, element, Nodes, no_nodes, child, text, joined, nodes_of, with_attribute, with_nodes, IsTree, AreTidy, depth, depth_below}
 
 -- ---- lists joined
@@ -75,40 +75,40 @@ is_named-tidied ns name (element m n attrs kids) = refl
 pub attr_of-tidied : (ns name : List ℕ) (e : Elem) → attr_of ns name (tidied e) ≡ attr_of ns name e
 attr_of-tidied ns name (element m n attrs kids) = ap (option_map (λ (a : Attribute). a.value)) ((sorted_attributes_IsAttrsOf attrs).firsts ns name)
 
-pub text_of-tidied_behind : (run : List ℕ) (ks : Nodes) → text_of (tidied_behind run ks) ≡ run ++ text_of ks
-text_of-tidied_behind run no_nodes = text_of-text_node run ∙ sym (append-nil run)
-text_of-tidied_behind run (child e rest) =
-    text_of-joined (text_node run) (child (tidied e) (tidied_behind [] rest)) ∙ ap (λ s. s ++ text_of (tidied_behind [] rest)) (text_of-text_node run) ∙ ap (λ s. run ++ s) (text_of-tidied_behind [] rest)
-text_of-tidied_behind run (text t rest) = text_of-tidied_behind (run ++ t) rest ∙ append_assoc run t (text_of rest)
+pub text_of-tidied_after : (run : List ℕ) (ks : Nodes) → text_of (tidied_after run ks) ≡ run ++ text_of ks
+text_of-tidied_after run no_nodes = text_of-text_node run ∙ sym (append-nil run)
+text_of-tidied_after run (child e rest) =
+    text_of-joined (text_node run) (child (tidied e) (tidied_after [] rest)) ∙ ap (λ s. s ++ text_of (tidied_after [] rest)) (text_of-text_node run) ∙ ap (λ s. run ++ s) (text_of-tidied_after [] rest)
+text_of-tidied_after run (text t rest) = text_of-tidied_after (run ++ t) rest ∙ append_assoc run t (text_of rest)
 
 pub text_of-tidied : (e : Elem) → text_of (nodes_of (tidied e)) ≡ text_of (nodes_of e)
-text_of-tidied (element m n attrs kids) = text_of-tidied_behind [] kids
+text_of-tidied (element m n attrs kids) = text_of-tidied_after [] kids
 
-pub first_named-tidied_behind : (ns name run : List ℕ) (ks : Nodes) → first_named ns name (tidied_behind run ks) ≡ option_map tidied (first_named ns name ks)
-first_named-tidied_behind ns name [] no_nodes = refl
-first_named-tidied_behind ns name (c ∷ cs) no_nodes = refl
-first_named-tidied_behind ns name run (child e rest) =
-    first_named-text_node ns name run (child (tidied e) (tidied_behind [] rest))
-    ∙ rw (is_named-tidied ns name e, first_named-tidied_behind ns name [] rest) (one_of (is_named ns name e) e (first_named ns name rest))
+pub first_named-tidied_after : (ns name run : List ℕ) (ks : Nodes) → first_named ns name (tidied_after run ks) ≡ option_map tidied (first_named ns name ks)
+first_named-tidied_after ns name [] no_nodes = refl
+first_named-tidied_after ns name (c ∷ cs) no_nodes = refl
+first_named-tidied_after ns name run (child e rest) =
+    first_named-text_node ns name run (child (tidied e) (tidied_after [] rest))
+    ∙ rw (is_named-tidied ns name e, first_named-tidied_after ns name [] rest) (one_of (is_named ns name e) e (first_named ns name rest))
   where
     one_of : (b : Bool) (e : Elem) (o : Option Elem) → cond b (Some (tidied e)) (option_map tidied o) ≡ option_map tidied (cond b (Some e) o)
     one_of true e o = refl
     one_of false e o = refl
-first_named-tidied_behind ns name run (text t rest) = first_named-tidied_behind ns name (run ++ t) rest
+first_named-tidied_after ns name run (text t rest) = first_named-tidied_after ns name (run ++ t) rest
 
 pub child_of-tidied : (ns name : List ℕ) (e : Elem) → child_of ns name (tidied e) ≡ option_map tidied (child_of ns name e)
-child_of-tidied ns name (element m n attrs kids) = first_named-tidied_behind ns name [] kids
+child_of-tidied ns name (element m n attrs kids) = first_named-tidied_after ns name [] kids
 
 mutual
   pub depth-tidied : (e : Elem) → depth (tidied e) ≡ depth e
-  depth-tidied (element ns name attrs kids) = ap (λ n. n + 1) (depth_below-tidied_behind [] kids)
+  depth-tidied (element ns name attrs kids) = ap (λ n. n + 1) (depth_below-tidied_after [] kids)
 
-  pub depth_below-tidied_behind : (run : List ℕ) (ks : Nodes) → depth_below (tidied_behind run ks) ≡ depth_below ks
-  depth_below-tidied_behind [] no_nodes = refl
-  depth_below-tidied_behind (c ∷ cs) no_nodes = refl
-  depth_below-tidied_behind run (child e rest) =
-      depth_below-text_node run (child (tidied e) (tidied_behind [] rest)) ∙ (λ i. max (depth-tidied e i) (depth_below-tidied_behind [] rest i))
-  depth_below-tidied_behind run (text t rest) = depth_below-tidied_behind (run ++ t) rest
+  pub depth_below-tidied_after : (run : List ℕ) (ks : Nodes) → depth_below (tidied_after run ks) ≡ depth_below ks
+  depth_below-tidied_after [] no_nodes = refl
+  depth_below-tidied_after (c ∷ cs) no_nodes = refl
+  depth_below-tidied_after run (child e rest) =
+      depth_below-text_node run (child (tidied e) (tidied_after [] rest)) ∙ (λ i. max (depth-tidied e i) (depth_below-tidied_after [] rest i))
+  depth_below-tidied_after run (text t rest) = depth_below-tidied_after (run ++ t) rest
 
 -- ---- parts of trees
 

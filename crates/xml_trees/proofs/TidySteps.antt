@@ -2,7 +2,7 @@
 use Rattle.std.proofs.Common.{◌≡◌, ℕ, zero, suc, ◌+◌, ◌<◌, ◌≤◌, List, [], ◌∷◌, ◌++◌, length, get_or, set, take, drop, refl, sym, ap, ◌∙◌, arith, add-one}
 use Rattle.std.proofs.lemmas.List.{drop_all, take_all}
 use Rattle.xml_trees.proofs.Folds.{joined_assoc, joined_none}
-use Rattle.xml_trees.specs.Tidied.{inner_tidied, texts_joined, text_node, tidied, tidied_behind}
+use Rattle.xml_trees.specs.Tidied.{inner_tidied, texts_joined, text_node, tidied, tidied_after}
 use Rattle.xml_trees.specs.Trees.{Nodes, no_nodes, child, text, joined}
 use Rattle.xml_trees.specs.Views.{node_view, nodes_view}
 use Rattle.xml_trees.specs.declared.elements.Node.{Node}
@@ -13,7 +13,7 @@ inner_joined (child e rest) b = ap (child (tidied e)) (inner_joined rest b)
 inner_joined (text t rest) b = ap (text t) (inner_joined rest b)
 
 -- the texts are joined after the children are tidied
-pub two_steps : (run : List ℕ) (ks : Nodes) → texts_joined run (inner_tidied ks) ≡ tidied_behind run ks
+pub two_steps : (run : List ℕ) (ks : Nodes) → texts_joined run (inner_tidied ks) ≡ tidied_after run ks
 two_steps run no_nodes = refl
 two_steps run (child e rest) = ap (λ n. joined (text_node run) (child (tidied e) n)) (two_steps [] rest)
 two_steps run (text t rest) = two_steps (run ++ t) rest

@@ -12,15 +12,15 @@ text_node (c ∷ cs) = text (c ∷ cs) no_nodes
 -- each child. `run` is the text in front of the nodes.
 abbrev mutual
   pub tidied : Elem → Elem
-  tidied (element ns name attrs kids) = element ns name (sorted_attributes attrs) (tidied_behind [] kids)
+  tidied (element ns name attrs kids) = element ns name (sorted_attributes attrs) (tidied_after [] kids)
 
-  pub tidied_behind : List ℕ → Nodes → Nodes
-  tidied_behind run no_nodes = text_node run
-  tidied_behind run (child e rest) = joined (text_node run) (child (tidied e) (tidied_behind [] rest))
-  tidied_behind run (text t rest) = tidied_behind (run ++ t) rest
+  pub tidied_after : List ℕ → Nodes → Nodes
+  tidied_after run no_nodes = text_node run
+  tidied_after run (child e rest) = joined (text_node run) (child (tidied e) (tidied_after [] rest))
+  tidied_after run (text t rest) = tidied_after (run ++ t) rest
 
 abbrev pub tidied_nodes : Nodes → Nodes
-tidied_nodes = tidied_behind []
+tidied_nodes = tidied_after []
 
 -- The same in two steps: each child is tidied, and then the texts are joined.
 abbrev pub inner_tidied : Nodes → Nodes

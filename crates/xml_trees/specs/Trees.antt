@@ -68,9 +68,9 @@ abbrev mutual
   depth_below (text t rest) = depth_below rest
 
 -- the rule for nodes that stand behind a text, or not
-abbrev pub AreTidyBehind : Bool → Nodes → Type 0
-AreTidyBehind true ks = NoTextFirst ks × AreTidy ks
-AreTidyBehind false ks = AreTidy ks
+abbrev pub AreTidyAfter : Bool → Nodes → Type 0
+AreTidyAfter true ks = NoTextFirst ks × AreTidy ks
+AreTidyAfter false ks = AreTidy ks
 
 -- the first node is a text
 abbrev pub is_text_first : Nodes → Bool

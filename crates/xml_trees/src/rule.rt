@@ -1,5 +1,5 @@
 ghost use Rattle.std.specs.Prelude.{◌≡◌, ◌↔◌, IsTrue};
-ghost use Rattle.xml_trees.specs.Trees.{AreTidy, AreTidyBehind, IsTree, Nodes, is_text_first, joined};
+ghost use Rattle.xml_trees.specs.Trees.{AreTidy, AreTidyAfter, IsTree, Nodes, is_text_first, joined};
 ghost use Rattle.xml_trees.specs.Views.{elem_view, node_view, nodes_view};
 
 use crate::attributes::are_in_order;
@@ -29,22 +29,22 @@ pub(crate) fn keeps_rule(element: &Element) -> bool
 fn are_tidy(nodes: &Vec<Node>) -> bool
     ensures { IsTrue result ↔ AreTidy (nodes_view nodes.now.items) }
 {
-    let mut behind_text = false;
+    let mut after_text = false;
     for node in nodes {
-        if !is_tidy_behind(behind_text, node) {
+        if !is_tidy_after(after_text, node) {
             return false;
         }
-        behind_text = node.is_text();
+        after_text = node.is_text();
     }
     true
 }
 
 #[cycle(rule)]
-fn is_tidy_behind(behind_text: bool, node: &Node) -> bool
-    ensures { (rest : Nodes) → AreTidyBehind behind_text (joined (node_view node.now) rest) ↔ (IsTrue result × AreTidyBehind (is_text_first (node_view node.now)) rest) }
+fn is_tidy_after(after_text: bool, node: &Node) -> bool
+    ensures { (rest : Nodes) → AreTidyAfter after_text (joined (node_view node.now) rest) ↔ (IsTrue result × AreTidyAfter (is_text_first (node_view node.now)) rest) }
 {
     match node {
         Node::Child(element) => keeps_rule(element),
-        Node::Text(text) => !behind_text && !text.as_str().is_empty(),
+        Node::Text(text) => !after_text && !text.as_str().is_empty(),
     }
 }

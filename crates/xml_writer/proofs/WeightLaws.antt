@@ -14,7 +14,7 @@ use Rattle.xml_tokens.specs.Tags.{is_empty, tag_end}
 use Rattle.xml_trees.specs.Attributes.{Attribute}
 use Rattle.xml_trees.specs.Trees.{Elem, Nodes, no_nodes, child, text, element}
 use Rattle.xml_writer.proofs.WrittenTags.{next_most}
-use Rattle.xml_writer.specs.Canon.{assignment, assignments, behind_attributes, declared_default, declares_default, default_inside, foreign, has_nothing, next_number, number_text, opened, spelled, spelled_attribute, spelled_attributes, spelled_name, streams_namespace, tag_attributes, written, written_end_tag, written_nodes}
+use Rattle.xml_writer.specs.Canon.{after_attributes, assignment, assignments, declared_default, declares_default, default_inside, foreign, has_nothing, next_number, number_text, opened, spelled, spelled_attribute, spelled_attributes, spelled_name, streams_namespace, tag_attributes, written, written_end_tag, written_nodes}
 use Rattle.xml_writer.specs.Weight.{attribute_weight, attributes_weight, nodes_weight, weight}
 
 number_short : (n : ℕ) → n < 2 ^ 64 → length (number_text n) ≤ 20
@@ -102,10 +102,10 @@ start_fits default ns name attrs =
     let parts = joined_long (declared_default default ns) (spelled_attributes 0 attrs) in
     omega (arith, length-append (spelled_name ns name) inside, parts, name_short ns name, default_short default ns, attributes_fit attrs)
 
-behind_fits : (nothing : Bool) (ns name inside : List ℕ) (room : ℕ) → min (length inside) (2 ^ 64 - 1) ≤ room
-    → min (length (behind_attributes nothing ns name inside)) (2 ^ 64 - 1) ≤ 11 + length name + room
-behind_fits true ns name inside room fits = omega arith
-behind_fits false ns name inside room fits =
+after_fits : (nothing : Bool) (ns name inside : List ℕ) (room : ℕ) → min (length inside) (2 ^ 64 - 1) ≤ room
+    → min (length (after_attributes nothing ns name inside)) (2 ^ 64 - 1) ≤ 11 + length name + room
+after_fits true ns name inside room fits = omega arith
+after_fits false ns name inside room fits =
     omega (arith, fits, length-append (tag_end false) (inside ++ written_end_tag ns name), length-append inside (written_end_tag ns name), length-append (spelled_name ns name) (62 ∷ []), name_short ns name)
 
 -- ---- elements
@@ -114,8 +114,8 @@ mutual
   pub element_fits : (default : List ℕ) (e : Elem) → min (length (written default e)) (2 ^ 64 - 1) ≤ 6 * weight e
   element_fits default (element ns name attrs kids) =
       let inside = written_nodes (default_inside default ns) kids in
-      let behind = behind_fits (has_nothing kids) ns name inside (6 * nodes_weight kids) (nodes_fit (default_inside default ns) kids) in
-      omega (arith, length-append (opened default ns name attrs) (behind_attributes (has_nothing kids) ns name inside), start_fits default ns name attrs, behind)
+      let following = after_fits (has_nothing kids) ns name inside (6 * nodes_weight kids) (nodes_fit (default_inside default ns) kids) in
+      omega (arith, length-append (opened default ns name attrs) (after_attributes (has_nothing kids) ns name inside), start_fits default ns name attrs, following)
 
   nodes_fit : (default : List ℕ) (kids : Nodes) → min (length (written_nodes default kids)) (2 ^ 64 - 1) ≤ 6 * nodes_weight kids
   nodes_fit default no_nodes = omega arith

@@ -2,7 +2,7 @@
 use Rattle.std.proofs.Common.{◌≡◌, ◌≢◌, true≢false, ℕ, ◌+◌, ◌≤◌, false, List, [], ◌∷◌, ◌++◌, length, min, Vec, vec_len, refl, sym, ap, ◌∙◌, arith, append_assoc, length-append}
 use Rattle.std.specs.Prelude.{◌==◌}
 use Rattle.std.specs.declared.alloc.Global.{Global}
-use Rattle.xml_writer.specs.Canon.{behind_attributes, default_inside, has_nothing, written_inside, written_nodes, written_end_tag}
+use Rattle.xml_writer.specs.Canon.{after_attributes, default_inside, has_nothing, written_inside, written_nodes, written_end_tag}
 use Rattle.xml_trees.specs.Trees.{Elem, Nodes, joined}
 use Rattle.xml_trees.specs.Views.{nodes_view, node_step, elem_step}
 use Rattle.xml_trees.specs.declared.elements.Node.{Node, fold_out-Node}
@@ -24,7 +24,7 @@ some_nodes v h = has_nothing_is v.items (λ e. let n = ap length e in let zero_i
 
 pub inside_is : (d at ns name : List ℕ) (kids : Nodes) → has_nothing kids ≡ false → at ≡ default_inside d ns → written_inside d ns name kids ≡ (62 ∷ []) ++ (written_nodes at kids ++ written_end_tag ns name)
 inside_is d at ns name kids some is =
-    ap (λ b. behind_attributes b ns name (written_nodes (default_inside d ns) kids)) some ∙ ap (λ d. (62 ∷ []) ++ (written_nodes d kids ++ written_end_tag ns name)) (sym is)
+    ap (λ b. after_attributes b ns name (written_nodes (default_inside d ns) kids)) some ∙ ap (λ d. (62 ∷ []) ++ (written_nodes d kids ++ written_end_tag ns name)) (sym is)
 
 -- ---- three parts
 

@@ -106,15 +106,15 @@ has_nothing (child e rest) = false
 has_nothing (text t rest) = false
 
 -- the end of a start tag, and where there is something inside, that and an end tag
-abbrev pub behind_attributes : Bool → List ℕ → List ℕ → List ℕ → List ℕ
-behind_attributes true ns name inside = tag_end true
-behind_attributes false ns name inside = tag_end false ++ (inside ++ written_end_tag ns name)
+abbrev pub after_attributes : Bool → List ℕ → List ℕ → List ℕ → List ℕ
+after_attributes true ns name inside = tag_end true
+after_attributes false ns name inside = tag_end false ++ (inside ++ written_end_tag ns name)
 
 -- an element where a default namespace is in force, and nodes
 abbrev mutual
   pub written : List ℕ → Elem → List ℕ
   written default (element ns name attrs kids) =
-      opened default ns name attrs ++ behind_attributes (has_nothing kids) ns name (written_nodes (default_inside default ns) kids)
+      opened default ns name attrs ++ after_attributes (has_nothing kids) ns name (written_nodes (default_inside default ns) kids)
 
   pub written_nodes : List ℕ → Nodes → List ℕ
   written_nodes default no_nodes = []
@@ -123,7 +123,7 @@ abbrev mutual
 
 -- what is behind the attributes of a start tag with these nodes inside
 abbrev pub written_inside : List ℕ → List ℕ → List ℕ → Nodes → List ℕ
-written_inside default ns name kids = behind_attributes (has_nothing kids) ns name (written_nodes (default_inside default ns) kids)
+written_inside default ns name kids = after_attributes (has_nothing kids) ns name (written_nodes (default_inside default ns) kids)
 
 -- a top-level element as it is written
 abbrev pub canon : Elem → List ℕ

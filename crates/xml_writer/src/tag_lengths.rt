@@ -4,7 +4,7 @@ ghost use Rattle.xml_writer.specs.Canon.{assignment, assignments, declared_defau
 ghost use Rattle.xml_writer.specs.Canon.{spelled_attribute, spelled_attributes, spelled_name, written_end_tag};
 ghost use Rattle.xml_tokens.specs.Spelling.{spelled_value};
 
-use crate::tag_writing::{STREAMS_NAMESPACE, XML_NAMESPACE, declares_default, number_behind};
+use crate::tag_writing::{STREAMS_NAMESPACE, XML_NAMESPACE, declares_default, number_after};
 use itoa::Buffer;
 use xml_tokens::spelled_value_len;
 use xml_trees::Attr;
@@ -64,7 +64,7 @@ fn attributes_len(attrs: &[Attr]) -> usize
     let mut len = 0usize;
     for attr in attrs {
         len = len.saturating_add(attribute_len(number, attr));
-        number = number_behind(number, attr);
+        number = number_after(number, attr);
     }
     len
 }

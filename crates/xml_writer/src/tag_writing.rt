@@ -114,7 +114,7 @@ fn put_attribute(out: &mut Bytes, number: usize, attr: &Attr)
 
 /// The number of the next prefix behind an attribute.
 #[tactic(auto, unfolding(crate::specs::Canon::next_number))]
-pub(crate) fn number_behind(number: usize, attr: &Attr) -> usize
+pub(crate) fn number_after(number: usize, attr: &Attr) -> usize
     requires { number < 2 ^ 64 - 1 }
     ensures { result ≡ next_number number attr.now }
 {
@@ -130,7 +130,7 @@ fn put_attributes(out: &mut Bytes, attrs: &[Attr])
     let mut number = 0usize;
     for attr in attrs {
         put_attribute(out, number, attr);
-        number = number_behind(number, attr);
+        number = number_after(number, attr);
     }
 }
 

@@ -4,7 +4,7 @@ ghost use Rattle.std.specs.List.{All};
 ghost use Rattle.cmd_schedule.specs.Contents.{account_name, accounts_of};
 ghost use Rattle.base_io.specs.Names.{is_among};
 ghost use Rattle.cmd_replay.specs.Homes.{Home, home_of_account, names_of, empty_home, appended_at, delivered};
-ghost use Rattle.base_io.specs.Names.{place_of};
+ghost use Rattle.base_io.specs.Names.{position_of};
 ghost use Rattle.cmd_schedule.specs.Schedules.{steps_of};
 ghost use Rattle.cmd_schedule.specs.Standing.{AreRight};
 
@@ -105,7 +105,7 @@ impl Accounts {
 
     /// The place of an account, from 0.
     pub(crate) fn find(&self, name: &str) -> Option<usize>
-        ensures place { result ≡ place_of name.now (names_of self.now.homes) }
+        ensures position { result ≡ position_of name.now (names_of self.now.homes) }
         ensures there { IfSome result (λ i. (i < length self.now.homes) × (slice_get (names_of self.now.homes) i ≡ Some name.now)) }
         ensures nowhere { IfNone result (is_among name.now (names_of self.now.homes) ≡ false) }
     {
@@ -113,32 +113,32 @@ impl Accounts {
     }
 
     /// The name of the account at a place.
-    pub(crate) fn name(&self, place: usize) -> &AccountName
-        requires { place < length self.now.homes }
-        ensures { slice_get (names_of self.now.homes) place ≡ Some result.now }
+    pub(crate) fn name(&self, position: usize) -> &AccountName
+        requires { position < length self.now.homes }
+        ensures { slice_get (names_of self.now.homes) position ≡ Some result.now }
     {
-        &self.accounts[place].name
+        &self.accounts[position].name
     }
 
     /// The archive of the account at a place.
-    pub(crate) fn archive(&self, place: usize) -> &Archive
-        requires { place < length self.now.homes }
-        ensures entries { (d : Home) → result.now.entries ≡ (slice_index_or self.now.homes place d).entries }
-        ensures last { (d : Home) → result.now.last ≡ (slice_index_or self.now.homes place d).last }
+    pub(crate) fn archive(&self, position: usize) -> &Archive
+        requires { position < length self.now.homes }
+        ensures entries { (d : Home) → result.now.entries ≡ (slice_index_or self.now.homes position d).entries }
+        ensures last { (d : Home) → result.now.last ≡ (slice_index_or self.now.homes position d).last }
     {
-        &self.accounts[place].archive
+        &self.accounts[position].archive
     }
 
     /// Makes room for one entry more in the archive at a place, and changes nothing else.
-    fn reserve(&mut self, place: usize) -> Result<(), NoMemory>
-        requires there { place < length self.old.homes }
+    fn reserve(&mut self, position: usize) -> Result<(), NoMemory>
+        requires there { position < length self.old.homes }
         requires few { All (λ (home : Home). home.last < 4294967295) self.old.homes }
-        ensures ok { OnOk result (1 ≤ slice_index self.new.rooms place) }
+        ensures ok { OnOk result (1 ≤ slice_index self.new.rooms position) }
         ensures homes { self.new.homes ≡ self.old.homes }
         ensures keep { self.new.keep ≡ self.old.keep }
         ensures others { (k : ℕ) → slice_index self.old.rooms k ≤ slice_index self.new.rooms k }
     {
-        match self.accounts[place].archive.reserve() {
+        match self.accounts[position].archive.reserve() {
             Ok(()) => Ok(()),
             Err(ArchiveFault::NoMemory) => Err(NoMemory),
             Err(ArchiveFault::Full) => unreachable!(),
@@ -146,15 +146,15 @@ impl Accounts {
     }
 
     /// Adds an entry at the end of the archive at a place. It takes no memory.
-    fn append(&mut self, place: usize, entry: Entry)
-        requires there { place < length self.old.homes }
+    fn append(&mut self, position: usize, entry: Entry)
+        requires there { position < length self.old.homes }
         requires few { All (λ (home : Home). home.last < 4294967295) self.old.homes }
-        requires room { 1 ≤ slice_index self.old.rooms place }
-        ensures homes { self.new.homes ≡ appended_at self.old.keep place entry self.old.homes }
+        requires room { 1 ≤ slice_index self.old.rooms position }
+        ensures homes { self.new.homes ≡ appended_at self.old.keep position entry self.old.homes }
         ensures keep { self.new.keep ≡ self.old.keep }
-        ensures others { (k : ℕ) → k ≢ place → slice_index self.old.rooms k ≤ slice_index self.new.rooms k }
+        ensures others { (k : ℕ) → k ≢ position → slice_index self.old.rooms k ≤ slice_index self.new.rooms k }
     {
-        self.accounts[place].archive.append_reserved(entry);
+        self.accounts[position].archive.append_reserved(entry);
     }
 
     /// Adds an entry to the archives at two places, or once where they are the same. A refusal leaves every archive

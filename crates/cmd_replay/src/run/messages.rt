@@ -3,7 +3,7 @@ ghost use Rattle.std.specs.Prelude.{◌≡◌, ◌+◌, ◌<◌, ◌∷◌, ◌+
 ghost use Rattle.std.specs.List.{All};
 ghost use Rattle.cmd_report.specs.Takes.{entry_of};
 ghost use Rattle.cmd_report.specs.Addresses.{bare_address, full_address, origin_of};
-ghost use Rattle.cmd_report.specs.Lines.{take_line, told_moment};
+ghost use Rattle.cmd_report.specs.Lines.{reported_moment, take_line};
 ghost use Rattle.cmd_replay.specs.Homes.{Home, delivered, names_of};
 ghost use Rattle.cmd_replay.specs.Messages.{HasSaid, homes_after, said_by, sent_of, take_by, takes_after};
 
@@ -26,7 +26,7 @@ pub(crate) struct Clock {
 impl Clock {
     /// The moment, where the report tells it.
     fn told(self) -> Option<u64>
-        ensures { result ≡ told_moment self.version self.moment }
+        ensures { result ≡ reported_moment self.version self.moment }
     {
         match self.version {
             Version::One => None,
@@ -103,7 +103,7 @@ fn recipient(alloc: Global, accounts: &Accounts, to: &str) -> Result<Text, NoMem
     ensures { IfOk result (λ name. name ≡ to.now) }
 {
     match accounts.find(to) {
-        Some(place) => accounts.name(place).text().copied(alloc),
+        Some(position) => accounts.name(position).text().copied(alloc),
         None => Text::from_str(alloc, to),
     }
 }
@@ -130,25 +130,25 @@ fn take_message(
     device: &Device,
     accounts: &mut Accounts,
     takes: &mut TakeLines,
-    place: usize,
+    position: usize,
     to: &str,
     text: &Text,
 ) -> Result<(), NoMemory>
     requires sent { sent_of device.now < 100000 }
     requires home { device.now.home < length accounts.old.homes }
-    requires place { place < length accounts.old.homes }
-    requires named { slice_get (names_of accounts.old.homes) place ≡ Some to.now }
+    requires position { position < length accounts.old.homes }
+    requires named { slice_get (names_of accounts.old.homes) position ≡ Some to.now }
     requires few { All (λ (home : Home). home.last < 4294967294) accounts.old.homes }
-    ensures homes { OnOk result (accounts.new.homes ≡ delivered accounts.old.keep device.now.home place (entry_of (take_by clock.moment device.now to.now text.now)) accounts.old.homes) }
+    ensures homes { OnOk result (accounts.new.homes ≡ delivered accounts.old.keep device.now.home position (entry_of (take_by clock.moment device.now to.now text.now)) accounts.old.homes) }
     ensures takes { OnOk result (takes.new.items ≡ takes.old.items ++ take_line clock.version (take_by clock.moment device.now to.now text.now) ∷ []) }
     ensures refused_homes { OnErr result (accounts.new.homes ≡ accounts.old.homes) }
     ensures keep { accounts.new.keep ≡ accounts.old.keep }
     ensures refused_takes { OnErr result (takes.new.items ≡ takes.old.items) }
 {
-    let line = take_line(alloc, clock, device, accounts.name(place))?;
-    let entry = sent_entry(alloc, clock.moment, device, accounts.name(place), text)?;
+    let line = take_line(alloc, clock, device, accounts.name(position))?;
+    let entry = sent_entry(alloc, clock.moment, device, accounts.name(position), text)?;
     takes.reserve(1)?;
-    accounts.deliver(alloc, device.home, place, entry)?;
+    accounts.deliver(alloc, device.home, position, entry)?;
     takes.push_reserved(line);
     Ok(())
 }
@@ -174,7 +174,7 @@ fn take_if_known(
     ensures refused_takes { OnErr result (takes.new.items ≡ takes.old.items) }
 {
     match accounts.find(to) {
-        Some(place) => take_message(alloc, clock, device, accounts, takes, place, to, text),
+        Some(position) => take_message(alloc, clock, device, accounts, takes, position, to, text),
         None => Ok(()),
     }
 }

@@ -1,8 +1,8 @@
 //! The pages that a device takes of its account's archive, one behind the other (XEP-0313 section 4.3, XEP-0059).
 ghost use Rattle.std.specs.Prelude.{◌≡◌, ◌-◌, ◌+◌, ◌<◌, ◌≤◌, true, nat_le, if◌then◌else◌, [], Some, None, Ok, length, map, take, slice_index_or, OnOk, IfOk, IsSome, IsSomeAnd};
 ghost use Rattle.mam_archive.specs.Entries.{AreKept, EntryView};
-ghost use Rattle.cmd_direct.specs.Direct.{as_logged, place_behind, query_at, query_behind};
-ghost use Rattle.cmd_direct.specs.NextPages.{cut_at, is_purged, kept_behind, last_logged, purged};
+ghost use Rattle.cmd_direct.specs.Direct.{as_logged, position_after, query_after, query_at};
+ghost use Rattle.cmd_direct.specs.NextPages.{cut_at, is_purged, kept_after, last_logged, purged};
 ghost use Rattle.mam_log.specs.LogPages.{last_id};
 ghost use Rattle.mam_log.specs.Views.{after_fin, fin_answer, outcome_of, page_for, with_result};
 ghost use Rattle.mam_pages.specs.Kept.{kept_of};
@@ -13,16 +13,16 @@ ghost use Rattle.cmd_replay.specs.Turns.{IsInOrder, caught_up, opened, turn_of, 
 use base_io::{Copied, NoMemory, Text};
 use mam_archive::{Archive, entries_are_kept, id_of_number};
 use mam_log::{BeginFault, FinFault, Log, LogEntry, RestartFault, ResultFault};
-use mam_pages::{ArchiveLook, Fin, PageCut, PageFault, PageQuery, Place, page};
+use mam_pages::{ArchiveLook, Fin, PageCut, PageFault, PagePosition, PageQuery, page};
 use std::alloc::Global;
 
 /// Behind the log's last entry, or at the archive's first one where the log has none.
-fn place_behind(alloc: Global, log: &Log) -> Result<Place, NoMemory>
-    ensures { IfOk result (λ place. place ≡ place_behind (last_id log.now.entries)) }
+fn position_after(alloc: Global, log: &Log) -> Result<PagePosition, NoMemory>
+    ensures { IfOk result (λ position. position ≡ position_after (last_id log.now.entries)) }
 {
     match log.entries().last() {
-        Some(last) => Ok(Place::After(last.id.copied(alloc)?)),
-        None => Ok(Place::First),
+        Some(last) => Ok(PagePosition::After(last.id.copied(alloc)?)),
+        None => Ok(PagePosition::First),
     }
 }
 
@@ -31,16 +31,16 @@ fn place_behind(alloc: Global, log: &Log) -> Result<Place, NoMemory>
 fn ask_at(
     alloc: Global,
     archive: &Archive,
-    place: Place,
+    position: PagePosition,
     most: u32,
 ) -> Result<Option<PageCut>, NoMemory>
-    ensures { IfOk result (λ cut. page_of (kept_of archive.now) (query_at place most) ≡ cut) }
+    ensures { IfOk result (λ cut. page_of (kept_of archive.now) (query_at position most) ≡ cut) }
 {
     let query = PageQuery {
         peer: None,
         start: None,
         end: None,
-        place,
+        position,
         max: Some(most),
     };
     match page(alloc, &mut ArchiveLook::new(archive), &query) {
@@ -53,9 +53,9 @@ fn ask_at(
 /// Asks the archive for the page from its first entry on, which there always is.
 fn ask_first(alloc: Global, archive: &Archive, most: u32) -> Result<PageCut, NoMemory>
     requires { most ≤ 100 }
-    ensures { IfOk result (λ cut. page_of (kept_of archive.now) (query_behind None most) ≡ Some cut) }
+    ensures { IfOk result (λ cut. page_of (kept_of archive.now) (query_after None most) ≡ Some cut) }
 {
-    match ask_at(alloc, archive, Place::First, most)? {
+    match ask_at(alloc, archive, PagePosition::First, most)? {
         Some(cut) => Ok(cut),
         None => unreachable!(),
     }
@@ -77,7 +77,7 @@ fn ask(alloc: Global, log: &Log, archive: &Archive, most: u32) -> Result<Answere
     ensures cut { IfOk result (λ answered. answered.cut ≡ cut_at (last_logged log.now.entries) most archive.now.last archive.now.entries) }
     ensures anew { IfOk result (λ answered. answered.anew ≡ is_purged (last_logged log.now.entries) archive.now.last archive.now.entries) }
 {
-    match ask_at(alloc, archive, place_behind(alloc, log)?, most)? {
+    match ask_at(alloc, archive, position_after(alloc, log)?, most)? {
         Some(cut) => Ok(Answered { cut, anew: false }),
         None => Ok(Answered {
             cut: ask_first(alloc, archive, most)?,
@@ -96,7 +96,7 @@ fn query_id(alloc: Global, log: &Log, again: &str) -> Result<Text, NoMemory> {
 }
 
 /// Begins the next page behind the log's last entry, and answers its query's id.
-fn begin_behind(alloc: Global, log: &mut Log, most: u32) -> Result<Text, NoMemory>
+fn begin_after(alloc: Global, log: &mut Log, most: u32) -> Result<Text, NoMemory>
     requires most { (1 ≤ most) × (most ≤ 100) }
     requires closed { log.old.page ≡ None }
     ensures { IfOk result (λ queryid. log.new ≡ opened queryid most (last_id log.old.entries) log.old []) }
@@ -127,10 +127,10 @@ fn begin_anew(alloc: Global, log: &mut Log, queryid: &str) -> Result<Text, NoMem
 fn begin_page(alloc: Global, log: &mut Log, most: u32, anew: bool) -> Result<Text, NoMemory>
     requires most { (1 ≤ most) × (most ≤ 100) }
     requires closed { log.old.page ≡ None }
-    requires behind { anew ≡ true → IsSome (last_id log.old.entries) }
+    requires following { anew ≡ true → IsSome (last_id log.old.entries) }
     ensures { IfOk result (λ queryid. log.new ≡ opened queryid most (if anew then None else last_id log.old.entries) log.old []) }
 {
-    let queryid = begin_behind(alloc, log, most)?;
+    let queryid = begin_after(alloc, log, most)?;
     if anew {
         begin_anew(alloc, log, queryid.as_str())
     } else {
@@ -176,9 +176,9 @@ fn add_results(
 ) -> Result<(), NoMemory>
     requires kept { AreKept archive.now.keep archive.now.last archive.now.entries }
     requires begun { IsSomeAnd (page_for queryid.now log.old.page) (λ page. (page.max ≡ most) × (page.results ≡ [])) }
-    requires next { numbers.now ≡ numbers_of (take most (kept_behind (last_logged log.old.entries) archive.now.last archive.now.entries)) }
+    requires next { numbers.now ≡ numbers_of (take most (kept_after (last_logged log.old.entries) archive.now.last archive.now.entries)) }
     ensures { OnOk result (log.new ≡ with_results log.old
-        (map as_logged (take most (kept_behind (last_logged log.old.entries) archive.now.last archive.now.entries)))) }
+        (map as_logged (take most (kept_after (last_logged log.old.entries) archive.now.last archive.now.entries)))) }
 {
     for number in numbers {
         add_result(alloc, log, queryid, archive, *number)?;

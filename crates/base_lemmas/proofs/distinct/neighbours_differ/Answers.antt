@@ -13,8 +13,8 @@ returns-then-eq g c = (
       let x = c.index-items-later.result in
       let y = c.index-items-later-in-loop-later.result in
       let alike : eq_by_cmp g.T.Ord.cmp x y ≡ true = cc (g.met.T.Ord.matches_eq x y, c.eq.ensures, c.if-eq.true) in
-      let at_their_places = pair_read xs (λ a b. eq_by_cmp g.T.Ord.cmp a b ≡ true) (c.loop-later.later - 1) c.loop-later.later x y (omega arith) c.loop-later-test.true c.index-items-later.is c.index-items-later-in-loop-later.is alike x in
-      absurd (neighbour_repeated g.T.Ord.cmp xs (c.loop-later.later - 1) c.loop-later.later x (omega arith) c.loop-later-test.true at_their_places h),
+      let at_their_positions = pair_read xs (λ a b. eq_by_cmp g.T.Ord.cmp a b ≡ true) (c.loop-later.later - 1) c.loop-later.later x y (omega arith) c.loop-later-test.true c.index-items-later.is c.index-items-later-in-loop-later.is alike x in
+      absurd (neighbour_repeated g.T.Ord.cmp xs (c.loop-later.later - 1) c.loop-later.later x (omega arith) c.loop-later-test.true at_their_positions h),
 )
 
 pub returns : goal.returns

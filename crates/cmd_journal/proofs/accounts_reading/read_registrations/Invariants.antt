@@ -7,7 +7,7 @@ use Rattle.cmd_journal.proofs.accounts_reading.read_registrations.Given as goal
 
 abbrev pub invariant-loop-alloc : goal.invariant-loop-alloc
 invariant-loop-alloc l = record {
-  told : with_accounts l.accounts.items (read_registrations l.behind l.above l.next (pieces_of l.rest)) ≡ read_registrations l.behind [] l.number (pieces_of l.text);
+  told : with_accounts l.accounts.items (read_registrations l.following l.above l.next (pieces_of l.rest)) ≡ read_registrations l.following [] l.number (pieces_of l.text);
   counted : l.next + length l.rest ≤ l.number + length l.text;
 }
 

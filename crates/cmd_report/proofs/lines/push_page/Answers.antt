@@ -1,6 +1,6 @@
 use Rattle.std.proofs.Common.{◌≡◌, suc, ◌+◌, ◌++◌, ◌∷◌, length, take, drop, ap, arith}
 use Rattle.std.specs.Vec.Iter.{into_iter_items, into_iter_len}
-use Rattle.cmd_report.specs.Lines.{logged_behind}
+use Rattle.cmd_report.specs.Lines.{logged_after}
 use Rattle.cmd_report.proofs.LoggedLines.{page_step, rest_step}
 use Rattle.cmd_report.proofs.lines.push_page.Goals as goal
 
@@ -17,7 +17,7 @@ loop-i-preserved c =
     record {
       lines =
           rw (c.in_ok-push-in-Some.ensures.ok, c.logged_line.ensures)
-          (page_step c.args.count at.i at.lines.items (c.args.lines.now.items ++ logged_behind c.args.broken (take c.args.count all)) at.broken logged rest
+          (page_step c.args.count at.i at.lines.items (c.args.lines.now.items ++ logged_after c.args.broken (take c.args.count all)) at.broken logged rest
           c.loop-i-test.true (rw came at at.invariant.lines));
       rest = rest_step c.args.count at.i (drop c.args.count all) logged rest c.loop-i-test.true (rw came at at.invariant.rest);
       counted = omega (arith, fewer, counted, count);

@@ -10,14 +10,14 @@ loop-tile-preserved c =
     let at = c.loop-tile in
     let tiles = c.as_slice-tile-items.result.now in
     let tile = c.tile-item.result in
-    let behind = drop (at.tile-index + 1) tiles in
-    let here : drop at.tile-index tiles ≡ tile ∷ behind =
-    let more : drop at.tile-index tiles ≡ get_or tiles at.tile-index tile ∷ behind = drop_more tiles at.tile-index tile c.loop-tile-test.true in
+    let following = drop (at.tile-index + 1) tiles in
+    let here : drop at.tile-index tiles ≡ tile ∷ following =
+    let more : drop at.tile-index tiles ≡ get_or tiles at.tile-index tile ∷ following = drop_more tiles at.tile-index tile c.loop-tile-test.true in
     rw (sym c.tile-item.is) at more in
     record {
       lines =
           rw (c.in_ok-push_page.ensures.lines, c.in_ok-push_page.ensures.rest, c.is_break.ensures)
-          (pages_step at.lines.items (c.args.lines.now.items ++ logged_by 0 tiles (into_iter_items c.args.entries.now)) at.before c.saturating_add-before.result tile behind
+          (pages_step at.lines.items (c.args.lines.now.items ++ logged_by 0 tiles (into_iter_items c.args.entries.now)) at.before c.saturating_add-before.result tile following
           (into_iter_items at.entries) c.saturating_add-before.ensures (rw here at at.invariant.lines));
       counted = c.in_ok-push_page.ensures.counted;
     }

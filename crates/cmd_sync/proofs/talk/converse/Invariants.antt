@@ -2,12 +2,12 @@
 use Rattle.std.proofs.Common.{◌≡◌, ◌-◌, ◌≤◌, true}
 use Rattle.cmd_sync.specs.Courses.{is_awaiting}
 use Rattle.cmd_sync.specs.Talks.{IsSpoken}
-use Rattle.cmd_sync.specs.Views.{course_of, turned_of}
+use Rattle.cmd_sync.specs.Views.{course_of, course_step_of}
 use Rattle.cmd_sync.proofs.talk.converse.Given as goal
 
 abbrev pub invariant-loop-alloc : goal.invariant-loop-alloc
 invariant-loop-alloc g l = record {
-  spoken : IsSpoken (turned_of l.fn.course l.first) (g.L.Link.told l.fn.link) (g.L.Link.told l.link) (course_of l.course);
+  spoken : IsSpoken (course_step_of l.fn.course l.first) (g.L.Link.told l.fn.link) (g.L.Link.told l.link) (course_of l.course);
   few : is_awaiting l.course.stage ≡ true → l.course.total ≤ 67108864;
 }
 

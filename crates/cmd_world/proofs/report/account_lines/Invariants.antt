@@ -5,6 +5,6 @@ use Rattle.cmd_world.proofs.report.account_lines.Given as goal
 
 abbrev pub invariant-loop-name : goal.invariant-loop-name
 invariant-loop-name l = record {
-  whole : l.lines.items ++ account_lines l.place (drop l.name-index l.names) l.server.hall.archives ≡ account_lines 0 l.names l.server.hall.archives;
-  at : l.place ≡ l.name-index;
+  whole : l.lines.items ++ account_lines l.position (drop l.name-index l.names) l.server.server_state.archives ≡ account_lines 0 l.names l.server.server_state.archives;
+  at : l.position ≡ l.name-index;
 }

@@ -2,7 +2,7 @@ use Rattle.std.proofs.Common.{◌≡◌, ◌∙◌, not, [], drop, sym, ap, subs
 use Rattle.std.proofs.lemmas.List.{drop_all}
 use Rattle.base64.specs.GeneralPurpose.{IsBytes}
 use Rattle.auth_primitives.proofs.ByteSteps.{IsBytes-nil}
-use Rattle.im_bad_fields.specs.PayloadTexts.{payload_behind, payload_may_end}
+use Rattle.im_bad_fields.specs.PayloadTexts.{payload_after, payload_may_end}
 use Rattle.im_bad_fields.specs.declared.payload.PayloadText.TheVariants.{Empty}
 use Rattle.auth_primitives.proofs.TextRuns.{IsBytes-from_utf8}
 use Rattle.im_bad_fields.proofs.PayloadRuns.{node_bytes, node_read, text_bad}
@@ -41,6 +41,6 @@ returns c =
     let i = c.loop-node.node-index in
     let none : drop i nodes ≡ [] = drop_all i nodes (omega arith) in
     let fits : IsBytes (text_of (nodes_view nodes)) = c.loop-node.invariant.bytes (subst (λ ns. IsBytes (text_of (nodes_view ns))) (sym none) IsBytes-nil) in
-    let read : c.loop-node.payload ≡ payload_behind Empty (text_of (nodes_view nodes)) =
-    sym (ap (λ ns. payload_behind c.loop-node.payload (text_of (nodes_view ns))) none) ∙ c.loop-node.invariant.read in
+    let read : c.loop-node.payload ≡ payload_after Empty (text_of (nodes_view nodes)) =
+    sym (ap (λ ns. payload_after c.loop-node.payload (text_of (nodes_view ns))) none) ∙ c.loop-node.invariant.read in
     ap not (c.is_complete.ensures ∙ ap payload_may_end read) ∙ sym (text_bad (text_of (nodes_view nodes)) fits)

@@ -1,5 +1,5 @@
-use Rattle.law_server.proofs.EventsTurned.{bytes_turned, fault_turned, item_turned, piece_turned, turn_turned}
+use Rattle.law_server.proofs.EventsRendered.{bytes_rendered, fault_rendered, item_rendered, piece_rendered, turn_rendered}
 use Rattle.law_server.proofs.server_maps.events_are_the_same_however_written.Goals as goal
 
 pub returns : goal.returns
-returns g c = record { item = item_turned; fault = fault_turned; turn = turn_turned; piece = piece_turned; bytes = bytes_turned }
+returns g c = record { item = item_rendered; fault = fault_rendered; turn = turn_rendered; piece = piece_rendered; bytes = bytes_rendered }

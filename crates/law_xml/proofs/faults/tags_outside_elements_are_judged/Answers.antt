@@ -17,10 +17,10 @@ pub returns-clause-deep : goal.returns-clause-deep
 returns-clause-deep c = λ t tag h outer p opens is far. laws.top_deep t outer h tag p opens is far
 
 pub returns-clause-header_declared : goal.returns-clause-header_declared
-returns-clause-header_declared c = λ t e h outer p opens is. laws.header_behind_declaration t outer h e p opens is
+returns-clause-header_declared c = λ t e h outer p opens is. laws.header_after_declaration t outer h e p opens is
 
 pub returns-clause-declared : goal.returns-clause-declared
-returns-clause-declared c = λ t h outer p opens. laws.behind_declaration t outer h p opens
+returns-clause-declared c = λ t h outer p opens. laws.after_declaration t outer h p opens
 
 pub returns-clause-ended : goal.returns-clause-ended
 returns-clause-ended c = λ t h outer p. laws.behind_footer t outer h p

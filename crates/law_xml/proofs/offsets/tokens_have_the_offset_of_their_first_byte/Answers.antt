@@ -2,7 +2,7 @@ use Rattle.law_xml.proofs.OffsetRuns as runs
 use Rattle.law_xml.proofs.offsets.tokens_have_the_offset_of_their_first_byte.Goals as goal
 
 pub returns-clause-next : goal.returns-clause-next
-returns-clause-next c = runs.place_behind_bytes
+returns-clause-next c = runs.position_after_bytes
 
 pub returns-clause-begins : goal.returns-clause-begins
 returns-clause-begins c = runs.begins

@@ -1,4 +1,4 @@
-use Rattle.mam_archive.proofs.ChainPlaces.{chained_none}
+use Rattle.mam_archive.proofs.ChainPositions.{chained_none}
 use Rattle.mam_archive.proofs.archive.link_all.Goals as goal
 
 pub loop-entry-init : goal.loop-entry-init

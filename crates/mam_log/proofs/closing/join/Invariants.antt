@@ -12,7 +12,7 @@ invariant-loop-entry l = record {
   whole : l.entries.items ++ into_iter_items l.entry-iterator ≡ l.initial.entries.items ++ l.fn.results.items;
   counted : into_iter_len l.entry-iterator ≡ length (into_iter_items l.entry-iterator);
   room : length (into_iter_items l.entry-iterator) ≤ l.entries.spare;
-  places : length (into_iter_items l.entry-iterator) ≤ vec_capacity l.order - vec_len l.order;
+  positions : length (into_iter_items l.entry-iterator) ≤ vec_capacity l.order - vec_len l.order;
   order : IsOrderOf l.order.items (ids_of l.entries.items);
   rising : IsTrue l.rising → Rise (ids_of l.entries.items) (ids_of (into_iter_items l.entry-iterator));
   fresh : first_repeat (ids_of l.entries.items) (ids_of (into_iter_items l.entry-iterator)) ≡ None;

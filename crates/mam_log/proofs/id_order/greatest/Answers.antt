@@ -5,4 +5,4 @@ use Rattle.mam_log.proofs.id_order.greatest.Goals as goal
 
 pub returns : goal.returns
 returns c =
-    up_to_last c.args.places.now (ids_of c.args.entries.now) c.id_at.result.now (length c.args.places.now) refl (omega arith) c.requires.order c.id_at.ensures
+    up_to_last c.args.positions.now (ids_of c.args.entries.now) c.id_at.result.now (length c.args.positions.now) refl (omega arith) c.requires.order c.id_at.ensures

@@ -9,5 +9,5 @@ pub returns-clause-order : goal.returns-clause-order
 returns-clause-order c =
     let gap = rw c.deref.ensures.value at c.in-Some.ensures.gap in
     rw c.in-Ok.ensures.items
-    (order-push c.args.places.now.items (ids_of c.args.entries.now) c.args.id.now c.in-Some.at (length c.args.entries.now)
+    (order-push c.args.positions.now.items (ids_of c.args.entries.now) c.args.id.now c.in-Some.at (length c.args.entries.now)
     (sym (length-map c.args.entries.now (λ (e : LogEntry). e.id))) c.requires.order gap)

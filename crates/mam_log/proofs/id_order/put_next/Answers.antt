@@ -11,11 +11,11 @@ use Rattle.mam_log.proofs.id_order.put_next.Goals as goal
 
 pub returns-then-above-clause-order : goal.returns-then-above-clause-order
 returns-then-above-clause-order c =
-    let places = c.args.places.now.items in
+    let positions = c.args.positions.now.items in
     let ids = ids_of c.args.entries.now in
     let id = c.args.id.now in
     let count = length c.args.entries.now in
-    let end : insert places (length places) count ≡ c.push_reserved.new.self.items = insert_end places count ∙ sym c.push_reserved.ensures.items in
+    let end : insert positions (length positions) count ≡ c.push_reserved.new.self.items = insert_end positions count ∙ sym c.push_reserved.ensures.items in
     subst (λ now. IsOrderOf now (ids ++ id ∷ [])) end
-    (order-push places ids id (length places) count (sym (length-map c.args.entries.now (λ (e : LogEntry). e.id))) c.requires.order
-    (gap_above places ids id c.requires.order (c.requires.above c.if-above.true)))
+    (order-push positions ids id (length positions) count (sym (length-map c.args.entries.now (λ (e : LogEntry). e.id))) c.requires.order
+    (gap_above positions ids id c.requires.order (c.requires.above c.if-above.true)))

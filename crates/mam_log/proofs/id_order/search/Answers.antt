@@ -10,7 +10,7 @@ use Rattle.mam_log.proofs.id_order.search.Goals as goal
 pub loop-low-preserved-in-Less : goal.loop-low-preserved-in-Less
 loop-low-preserved-in-Less c =
     let middle = c.loop-low.low + (c.loop-low.high - c.loop-low.low) / 2 in
-    let keys = texts_at (ids_of c.args.entries.now) c.args.places.now in
+    let keys = texts_at (ids_of c.args.entries.now) c.args.positions.now in
     record {
       order = omega arith;
       high = c.loop-low.invariant.high;
@@ -21,7 +21,7 @@ loop-low-preserved-in-Less c =
 pub loop-low-preserved : goal.loop-low-preserved
 loop-low-preserved c =
     let middle = c.loop-low.low + (c.loop-low.high - c.loop-low.low) / 2 in
-    let keys = texts_at (ids_of c.args.entries.now) c.args.places.now in
+    let keys = texts_at (ids_of c.args.entries.now) c.args.positions.now in
     record {
       order = omega arith;
       high = omega (arith, c.loop-low.invariant.high);
@@ -33,12 +33,12 @@ loop-low-preserved c =
 pub returns-in-Equal-clause-there : goal.returns-in-Equal-clause-there
 returns-in-Equal-clause-there c =
     let middle = c.loop-low.low + (c.loop-low.high - c.loop-low.low) / 2 in
-    found_text c.args.places.now (ids_of c.args.entries.now) c.args.id.now c.id_at.result.now middle c.requires.order c.id_at.ensures
+    found_text c.args.positions.now (ids_of c.args.entries.now) c.args.id.now c.id_at.result.now middle c.requires.order c.id_at.ensures
     (same_from_equal c.id_at.result.now c.args.id.now (sym c.cmp.ensures ∙ c.in-Equal.is))
 
 pub returns-clause-gap : goal.returns-clause-gap
 returns-clause-gap c =
-    let size = length-map c.args.places.now (text_at (ids_of c.args.entries.now)) in
+    let size = length-map c.args.positions.now (text_at (ids_of c.args.entries.now)) in
     record {
       bound = omega (arith, size, c.loop-low.invariant.order, c.loop-low.invariant.high);
       below = c.loop-low.invariant.below;

@@ -9,9 +9,9 @@ use Rattle.mam_log.proofs.id_order.search.Given as goal
 abbrev pub invariant-loop-low : goal.invariant-loop-low
 invariant-loop-low l = record {
   order : l.low ≤ l.high;
-  high : l.high ≤ length l.places;
-  below : (i : ℕ) (q : List ℕ) → i < l.low → slice_get (texts_at (ids_of l.entries) l.places) i ≡ Some q → IsBelow q l.id;
-  above : (i : ℕ) (q : List ℕ) → l.high ≤ i → slice_get (texts_at (ids_of l.entries) l.places) i ≡ Some q → IsBelow l.id q;
+  high : l.high ≤ length l.positions;
+  below : (i : ℕ) (q : List ℕ) → i < l.low → slice_get (texts_at (ids_of l.entries) l.positions) i ≡ Some q → IsBelow q l.id;
+  above : (i : ℕ) (q : List ℕ) → l.high ≤ i → slice_get (texts_at (ids_of l.entries) l.positions) i ≡ Some q → IsBelow l.id q;
 }
 
 abbrev pub decreases-loop-low : goal.decreases-loop-low

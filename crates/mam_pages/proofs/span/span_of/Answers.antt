@@ -1,7 +1,7 @@
 use Rattle.std.proofs.Common.{ap, ◌∙◌, sym}
 use Rattle.mam_pages.proofs.Edges.{edge_after, edge_before}
 use Rattle.mam_pages.proofs.SpanPages.{page_after, page_before, page_first, page_last}
-use Rattle.mam_pages.specs.declared.query.Place.TheVariants.{After, Before}
+use Rattle.mam_pages.specs.declared.query.PagePosition.TheVariants.{After, Before}
 use Rattle.mam_pages.proofs.span.span_of.Goals as goal
 
 pub returns-in-First-clause-span : goal.returns-in-First-clause-span
@@ -24,11 +24,11 @@ returns-in_ok-number_kept-in-Before-clause-span c kept known =
 
 pub returns-in_ok-number_kept-in-After-clause-edge : goal.returns-in_ok-number_kept-in-After-clause-edge
 returns-in_ok-number_kept-in-After-clause-edge c kept peer known =
-    edge_after kept peer c.as_str.result.now c.args.query.now.place c.args.first c.args.last c.in_ok-number_kept-in-After.field-0 known
+    edge_after kept peer c.as_str.result.now c.args.query.now.position c.args.first c.args.last c.in_ok-number_kept-in-After.field-0 known
     (c.in-After.is ∙ ap After (sym c.as_str.ensures)) (c.in_ok-number_kept-in-After.ensures.number kept.entries known) c.in_ok-number_kept-in-After.ensures.kept.0
 
 pub returns-in_ok-number_kept-in-Before-clause-edge : goal.returns-in_ok-number_kept-in-Before-clause-edge
 returns-in_ok-number_kept-in-Before-clause-edge c kept peer known =
-    edge_before kept peer c.as_str-in-Before.result.now c.args.query.now.place c.args.first c.args.last c.in_ok-number_kept-in-Before.field-0 known
+    edge_before kept peer c.as_str-in-Before.result.now c.args.query.now.position c.args.first c.args.last c.in_ok-number_kept-in-Before.field-0 known
     (c.in-Before.is ∙ ap Before (sym c.as_str-in-Before.ensures)) (c.in_ok-number_kept-in-Before.ensures.number kept.entries known)
     c.in_ok-number_kept-in-Before.ensures.kept.0 c.in_ok-number_kept-in-Before.ensures.kept.1

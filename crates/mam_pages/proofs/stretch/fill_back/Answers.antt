@@ -13,12 +13,12 @@ loop-at-preserved g c =
     let same = c.loop-at.invariant.same in
     record {
       same = c.previous_of.ensures.archive ∙ same;
-      run = λ peer place is fits.
-          let run = c.loop-at.invariant.run peer place is fits in
-          back_more (chain_numbers kept peer) c.loop-at.slots place c.args.count c.loop-at.at c.loop-at.number c.unwrap_or-number.result c.previous_of.result run
-          c.loop-at-test.true fits (slice_get_within (chain_numbers kept peer) place c.args.last is) (omega (arith, c.requires.few))
+      run = λ peer position is fits.
+          let run = c.loop-at.invariant.run peer position is fits in
+          back_more (chain_numbers kept peer) c.loop-at.slots position c.args.count c.loop-at.at c.loop-at.number c.unwrap_or-number.result c.previous_of.result run
+          c.loop-at-test.true fits (slice_get_within (chain_numbers kept peer) position c.args.last is) (omega (arith, c.requires.few))
           (c.previous_of.ensures.number ∙ ap (λ (k : Kept). previous_of k.owner c.loop-at.number k.entries) same
-          ∙ numbers_previous kept peer (place - c.loop-at.at) c.loop-at.number c.requires.consecutive run.here (omega (arith, c.loop-at-test.true, fits)))
+          ∙ numbers_previous kept peer (position - c.loop-at.at) c.loop-at.number c.requires.consecutive run.here (omega (arith, c.loop-at-test.true, fits)))
           c.unwrap_or-number.ensures;
       looks = omega (arith, c.loop-at.invariant.looks, c.previous_of.ensures.looks);
     }

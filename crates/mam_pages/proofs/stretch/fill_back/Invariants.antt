@@ -6,7 +6,7 @@ abbrev pub invariant-loop-at : goal.invariant-loop-at
 invariant-loop-at g l =
     record {
       same : g.V.Look.archive l.look ≡ g.V.Look.archive l.fn.look;
-      run : (peer : List ℕ) → (place : ℕ) → slice_get (chain_numbers (g.V.Look.archive l.fn.look) peer) place ≡ Some l.fn.last → l.fn.count ≤ place + 1 →
-          IsBackRun (chain_numbers (g.V.Look.archive l.fn.look) peer) place l.fn.count l.at l.number l.slots;
+      run : (peer : List ℕ) → (position : ℕ) → slice_get (chain_numbers (g.V.Look.archive l.fn.look) peer) position ≡ Some l.fn.last → l.fn.count ≤ position + 1 →
+          IsBackRun (chain_numbers (g.V.Look.archive l.fn.look) peer) position l.fn.count l.at l.number l.slots;
       looks : g.V.Look.looks l.look ≤ g.V.Look.looks l.fn.look + l.at;
     }

@@ -11,7 +11,7 @@ loop-at-init g c =
     let kept = g.V.Look.archive c.args.look.now in
     record {
       same = refl;
-      run = λ peer place is room. run_begin (chain_numbers kept peer) place c.args.first c.push_reserved.new.self.items is
+      run = λ peer position is room. run_begin (chain_numbers kept peer) position c.args.first c.push_reserved.new.self.items is
           (c.push_reserved.ensures.items ∙ ap (λ t. t ++ c.args.first ∷ []) (c.in_ok-reserve.ensures.items ∙ c.new-numbers.ensures));
       spare = omega (arith, c.in_ok-reserve.ensures.ok, c.push_reserved.ensures.spare);
       looks = omega arith;
@@ -23,12 +23,12 @@ loop-at-preserved g c =
     let same = c.loop-at.invariant.same in
     record {
       same = c.next_of.ensures.archive ∙ same;
-      run = λ peer place is room.
-          let run = c.loop-at.invariant.run peer place is room in
-          run_more (chain_numbers kept peer) place c.loop-at._at c.loop-at.number c.unwrap_or-number.result c.loop-at.numbers.items c.push_reserved-in-loop-at.new.self.items
+      run = λ peer position is room.
+          let run = c.loop-at.invariant.run peer position is room in
+          run_more (chain_numbers kept peer) position c.loop-at._at c.loop-at.number c.unwrap_or-number.result c.loop-at.numbers.items c.push_reserved-in-loop-at.new.self.items
           c.next_of.result run (omega (arith, room, c.loop-at-test.true))
           (c.next_of.ensures.number ∙ ap (λ (k : Kept). next_of k.owner c.loop-at.number k.entries) same
-          ∙ numbers_next kept peer (place + c.loop-at._at) c.loop-at.number c.requires.consecutive run.here)
+          ∙ numbers_next kept peer (position + c.loop-at._at) c.loop-at.number c.requires.consecutive run.here)
           c.unwrap_or-number.ensures c.push_reserved-in-loop-at.ensures.items;
       spare = omega (arith, c.loop-at.invariant.spare, c.push_reserved-in-loop-at.ensures.spare);
       looks = omega (arith, c.loop-at.invariant.looks, c.next_of.ensures.looks);

@@ -10,10 +10,10 @@ returns-then-span-clause-numbers g c peer last reach stretch =
     let kept = g.V.Look.archive c.args.look.now in
     let ns = chain_numbers kept peer in
     let s = c.args.stretch.now in
-    let place = s.skipped + s.found - 1 in
+    let position = s.skipped + s.found - 1 in
     subst (λ t. IfOk c.numbers_up_to.result (λ numbers. numbers.items ≡ t))
-    (backward_page c.args.span.now (last_number kept.entries) last place ns s c.args.count c.if-span.true (numbers_rise kept peer c.requires.consecutive) reach stretch c.requires.count (omega (arith, c.if-count-eq0.false)) refl)
-    (c.numbers_up_to.ensures.numbers peer place (backward_start c.args.span.now ns s c.args.count c.if-span.true stretch c.requires.count (omega (arith, c.if-count-eq0.false)))
+    (backward_page c.args.span.now (last_number kept.entries) last position ns s c.args.count c.if-span.true (numbers_rise kept peer c.requires.consecutive) reach stretch c.requires.count (omega (arith, c.if-count-eq0.false)) refl)
+    (c.numbers_up_to.ensures.numbers peer position (backward_start c.args.span.now ns s c.args.count c.if-span.true stretch c.requires.count (omega (arith, c.if-count-eq0.false)))
     (omega (arith, c.requires.count, c.if-count-eq0.false)))
 
 pub returns-else-span-clause-numbers : goal.returns-else-span-clause-numbers

@@ -7,7 +7,7 @@ use Rattle.net_hub.proofs.ending.append_archives.Given as goal
 -- the archives so far, and those of the accounts that are left
 abbrev pub invariant-loop-r : goal.invariant-loop-r
 invariant-loop-r l = record {
-  place : l.place ≡ l.r-index;
-  made : l.out.items ++ flat_map (archive_text l.version) (named_archives (drop l.r-index l.registrations) (drop l.r-index l.server.hall.archives))
-      ≡ l.initial.out.items ++ flat_map (archive_text l.version) (named_archives l.registrations l.server.hall.archives);
+  position : l.position ≡ l.r-index;
+  made : l.out.items ++ flat_map (archive_text l.version) (named_archives (drop l.r-index l.registrations) (drop l.r-index l.server.server_state.archives))
+      ≡ l.initial.out.items ++ flat_map (archive_text l.version) (named_archives l.registrations l.server.server_state.archives);
 }

@@ -13,8 +13,8 @@ pub returns-then-bundle-clause-closed : goal.returns-then-bundle-clause-closed
 returns-then-bundle-clause-closed g c = λ i was. c.close.ensures.closed i (c.put.ensures.closed i was)
 
 pub returns-then-bundle-clause-shut : goal.returns-then-bundle-clause-shut
-returns-then-bundle-clause-shut g c is i place below =
-    c.close.ensures.this i place (subst (λ n. i < n) (sym (as_many g.O.Outgoing.told c.args.senders.now.items c.put.new.senders.items c.put.ensures.numbers)) below)
+returns-then-bundle-clause-shut g c is i position below =
+    c.close.ensures.this i position (subst (λ n. i < n) (sym (as_many g.O.Outgoing.told c.args.senders.now.items c.put.new.senders.items c.put.ensures.numbers)) below)
 
 pub returns-else-bundle-clause-sent : goal.returns-else-bundle-clause-sent
 returns-else-bundle-clause-sent g c = λ before have.

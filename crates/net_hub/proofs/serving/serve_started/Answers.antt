@@ -1,5 +1,5 @@
 use Rattle.std.proofs.Common.{sym}
-use Rattle.net_hub.proofs.CountedLinks.{behind}
+use Rattle.net_hub.proofs.CountedLinks.{following}
 use Rattle.net_hub.proofs.Served.{has_served, ok_then}
 use Rattle.net_hub.proofs.serving.serve_started.Goals as goal
 use Rattle.cmd_journal.specs.AccountsFiles.{accounts_text}
@@ -13,4 +13,4 @@ returns-in-None-clause-served g c =
     (c.finish.ensures.served moment drawn kept)
 
 pub returns-in-None-clause-given : goal.returns-in-None-clause-given
-returns-in-None-clause-given g c = behind _ _ _ _ c.finish.ensures.all_back
+returns-in-None-clause-given g c = following _ _ _ _ c.finish.ensures.all_back

@@ -30,4 +30,4 @@ pub returns-in-Ok-start-clause-workers : goal.returns-in-Ok-start-clause-workers
 returns-in-Ok-start-clause-workers g c =
     let given = g.D.Door.given in let started = g.S.Spawner.started in let door = ap (λ j. j.door) c.in-Ok-start.ensures.job ∙ c.new-2.ensures.door in
     with_acceptor _ (given c.in-Ok-start.acceptor.door) (given c.args.door) (given c.serve_started-served.result.1) (started c.args.spawner.now) (started c.start.new.self) (started c.serve_started-served.new.spawner)
-    c.in-Ok.ensures.places (ap given door) c.in-Ok-start.ensures.started c.serve_started-served.ensures.readers
+    c.in-Ok.ensures.positions (ap given door) c.in-Ok-start.ensures.started c.serve_started-served.ensures.readers

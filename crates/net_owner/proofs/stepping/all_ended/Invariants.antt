@@ -1,6 +1,6 @@
 use Rattle.std.proofs.Common.{◌≡◌, drop}
-use Rattle.net_owner.specs.Places.{are_over}
+use Rattle.net_owner.specs.Positions.{are_over}
 use Rattle.net_owner.proofs.stepping.all_ended.Given as goal
 
-abbrev pub invariant-loop-place : goal.invariant-loop-place
-invariant-loop-place g l = are_over l.places ≡ are_over (drop l.place-index l.places)
+abbrev pub invariant-loop-position : goal.invariant-loop-position
+invariant-loop-position g l = are_over l.positions ≡ are_over (drop l.position-index l.positions)

@@ -1,4 +1,4 @@
-use Rattle.sim_3_images.proofs.Turns.{passes_count, passes_down, passes_up}
+use Rattle.sim_3_images.proofs.ClientSteps.{passes_count, passes_down, passes_up}
 use Rattle.sim_3_images.proofs.wire_worlds.passes_are_up_and_down.Goals as goal
 
 pub returns : goal.returns

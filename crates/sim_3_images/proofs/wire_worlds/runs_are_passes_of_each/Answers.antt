@@ -1,4 +1,4 @@
-use Rattle.sim_3_images.proofs.Turns.{rounds_count, rounds_down, rounds_up}
+use Rattle.sim_3_images.proofs.ClientSteps.{rounds_count, rounds_down, rounds_up}
 use Rattle.sim_3_images.proofs.wire_worlds.runs_are_passes_of_each.Goals as goal
 
 pub returns : goal.returns

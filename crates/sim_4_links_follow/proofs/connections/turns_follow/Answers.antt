@@ -4,8 +4,8 @@ use Rattle.sim_4_links_follow.proofs.connections.turns_follow.Goals as goal
 
 pub returns : goal.returns
 returns c = record {
-  hears = λ who logins w v place d wire i s. hear_lifts who logins w v s place d wire i;
-  reads = λ who logins w v place d wire i s reached n. read_lifts who logins w v s reached place d wire i n;
+  hears = λ who logins w v position d wire i s. hear_lifts who logins w v s position d wire i;
+  reads = λ who logins w v position d wire i s reached n. read_lifts who logins w v s reached position d wire i n;
   says = λ who logins w v to text private d n s. say_lifts who logins w v s to text private d n;
   refused = λ who logins w v to text private d e s. refused_lifts who logins w v s to text private d e;
   asks = λ who logins w v most d s. ask_lifts who logins w v s most d tt;

@@ -1,5 +1,5 @@
-use Rattle.sim_4_links_follow.proofs.Comings.{fresh_pipes, fresh_shows}
+use Rattle.sim_4_links_follow.proofs.Comings.{fresh_pipes, fresh_represents}
 use Rattle.sim_4_links_follow.proofs.others.connections_come_beside.Goals as goal
 
 pub returns : goal.returns
-returns c = record { server = fresh_shows; pipes = fresh_pipes }
+returns c = record { server = fresh_represents; pipes = fresh_pipes }

@@ -1,9 +1,9 @@
-use Rattle.sim_5_devices.proofs.Asking.{asks_log, asks_may, asks_pages, asks_put, asks_same, asks_shows, request_built}
+use Rattle.sim_5_devices.proofs.Asking.{asks_log, asks_may, asks_pages, asks_put, asks_represents, asks_same, request_built}
 use Rattle.sim_5_devices.proofs.submissions.catch_ups_told.Goals as goal
 
 pub returns : goal.returns
 returns c = record {
-  shows = λ keep history c x most began p. asks_shows keep history c x most p began;
+  represents = λ keep history c x most began p. asks_represents keep history c x most p began;
   log = λ keep history c x most began p. asks_log keep history c x most p began;
   pages = λ keep history c x most began p. asks_pages keep history c x most p;
   same = asks_same;

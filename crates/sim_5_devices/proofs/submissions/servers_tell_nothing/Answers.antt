@@ -9,7 +9,7 @@ returns c = record {
   served = acts_read;
   hears = hears_told;
   heard = hears_nothing;
-  grown = λ keep history more log b g shows. log_grown history more keep log b g shows;
+  grown = λ keep history more log b g represents. log_grown history more keep log b g represents;
   given = reading_given;
   taken = takes_grown;
 }

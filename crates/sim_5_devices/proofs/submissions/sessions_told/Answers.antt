@@ -5,7 +5,7 @@ pub returns : goal.returns
 returns c = record {
   begins = first_told;
   empty = first_log;
-  dropped = λ c d p shows. dropped_told c d shows p;
+  dropped = λ c d p represents. dropped_told c d represents p;
   failed = failed_told;
   forgot = forgot_told;
   closed = closed_told;

@@ -9,7 +9,7 @@ pub returns-clause-silent : goal.returns-clause-silent
 returns-clause-silent c = λ keep owned names takes h o s x e moment is. tells_nothing keep owned names takes h o s x e is moment
 
 pub returns-clause-flags : goal.returns-clause-flags
-returns-clause-flags c = λ keep owned names takes h o s x e d is rule present shows. own_flags keep owned names takes h o s x e is rule d present shows
+returns-clause-flags c = λ keep owned names takes h o s x e d is rule present represents. own_flags keep owned names takes h o s x e is rule d present represents
 
 pub returns-clause-spares : goal.returns-clause-spares
-returns-clause-spares c = λ keep owned names takes h o s x e account resource d is rule apart shows. other_flags keep owned names takes h o s x e is rule account resource d apart shows
+returns-clause-spares c = λ keep owned names takes h o s x e account resource d is rule apart represents. other_flags keep owned names takes h o s x e is rule account resource d apart represents

@@ -11,4 +11,4 @@ pub returns-clause-flags : goal.returns-clause-flags
 returns-clause-flags c = λ owned names h k account o d may rule. bind_flags owned names k account o h may d rule
 
 pub returns-clause-spares : goal.returns-clause-spares
-returns-clause-spares c = λ owned names h k account o other resource d may rule apart shows. bind_spares owned names k account o h may other resource d rule apart shows
+returns-clause-spares c = λ owned names h k account o other resource d may rule apart represents. bind_spares owned names k account o h may other resource d rule apart represents

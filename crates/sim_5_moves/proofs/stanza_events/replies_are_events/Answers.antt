@@ -5,4 +5,4 @@ use Rattle.sim_5_moves.specs.Handled.{EndsAs}
 
 pub returns : goal.returns
 returns c = λ ends x i d z last there none is others.
-    reply_handled (EndsAs ends) x i d z last there none is (λ j e at apart. let o = others j e at apart in (record { drifts = o.0; last = ends j; leads = o.1 }, refl))
+    reply_handled (EndsAs ends) x i d z last there none is (λ j e at apart. let o = others j e at apart in (record { session_steps = o.0; last = ends j; leads = o.1 }, refl))

@@ -9,10 +9,10 @@ pub returns-clause-silent : goal.returns-clause-silent
 returns-clause-silent c = λ who logins h wires v k word owned names o moment p is of. word_silent who logins h wires v k owned names o of moment word is p
 
 pub returns-clause-flags : goal.returns-clause-flags
-returns-clause-flags c = λ who logins h wires v k word account resource d p is shows. word_flags who logins h wires v k word account resource d p is shows
+returns-clause-flags c = λ who logins h wires v k word account resource d p is represents. word_flags who logins h wires v k word account resource d p is represents
 
 pub returns-clause-bare : goal.returns-clause-bare
 returns-clause-bare c = λ who logins h wires v k owned names o p of. bound_bare who logins h wires v k p owned names o of
 
 pub returns-clause-spares : goal.returns-clause-spares
-returns-clause-spares c = λ who logins h wires v k owned names o account resource d p of apart shows. bound_spares who logins h wires v k p owned names o of account resource d apart shows
+returns-clause-spares c = λ who logins h wires v k owned names o account resource d p of apart represents. bound_spares who logins h wires v k p owned names o of account resource d apart represents

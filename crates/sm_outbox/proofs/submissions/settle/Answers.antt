@@ -1,6 +1,6 @@
 use Rattle.std.proofs.Common.{add-one, arith}
 use Rattle.sm_outbox.specs.Submissions.{in_state}
-use Rattle.sm_outbox.proofs.SettledPlaces.{settled_next}
+use Rattle.sm_outbox.proofs.SettledPositions.{settled_next}
 use Rattle.sm_outbox.proofs.submissions.settle.Goals as goal
 
 pub loop-i-preserved : goal.loop-i-preserved

@@ -1,7 +1,7 @@
 use Rattle.std.proofs.Common.{◌≡◌, Some, refl}
 use Rattle.std.proofs.lemmas.Option.{slice_get_read}
 use Rattle.std.specs.List.{slice_get}
-use Rattle.srv_handlers.proofs.ArchivePlaces.{seen_longer}
+use Rattle.srv_handlers.proofs.ArchivePositions.{seen_longer}
 use Rattle.srv_handlers.proofs.archives.append_at.Goals as goal
 
 pub returns-in-Some-clause-seen : goal.returns-in-Some-clause-seen

@@ -3,7 +3,7 @@ use Rattle.std.proofs.lemmas.Bool.{false≢true}
 use Rattle.std.proofs.lemmas.Option.{slice_get_read}
 use Rattle.std.proofs.lemmas.Result.{on_ok_weaker}
 use Rattle.std.specs.List.{slice_get}
-use Rattle.srv_handlers.proofs.ArchivePlaces.{room_kept, room_nowhere, room_there, seen_same}
+use Rattle.srv_handlers.proofs.ArchivePositions.{room_kept, room_nowhere, room_there, seen_same}
 use Rattle.srv_handlers.proofs.archives.reserve_at.Goals as goal
 
 pub returns-in-Some-clause-seen : goal.returns-in-Some-clause-seen

@@ -10,9 +10,9 @@ use Rattle.srv_handlers.proofs.resuming.say_all.Given as goal
 -- what is put and what is left, and room for that
 abbrev pub invariant-loop-bytes : goal.invariant-loop-bytes
 invariant-loop-bytes l = record {
-  step : acted written_item (saying l.conn (stanzas_in (into_iter_items l.bytes-iterator)) []) (step_of l.desk) ≡ acted written_item (saying l.conn (stanzas_in (into_iter_items l.initial.bytes-iterator)) []) (step_of l.initial.desk);
-  live : l.desk.live ≡ l.initial.desk.live;
+  step : acted written_item (saying l.conn (stanzas_in (into_iter_items l.bytes-iterator)) []) (step_of l.context) ≡ acted written_item (saying l.conn (stanzas_in (into_iter_items l.initial.bytes-iterator)) []) (step_of l.initial.context);
+  live : l.context.live ≡ l.initial.context.live;
   left : into_iter_len l.bytes-iterator ≡ length (into_iter_items l.bytes-iterator);
-  room : into_iter_len l.bytes-iterator ≤ l.desk.out.spare;
-  spent : l.initial.desk.out.spare + into_iter_len l.bytes-iterator ≤ l.desk.out.spare + into_iter_len l.initial.bytes-iterator;
+  room : into_iter_len l.bytes-iterator ≤ l.context.out.spare;
+  spent : l.initial.context.out.spare + into_iter_len l.bytes-iterator ≤ l.context.out.spare + into_iter_len l.initial.bytes-iterator;
 }

@@ -5,7 +5,7 @@ use Rattle.xml_check.proofs.checking.tell_piece.Goals as goal
 pub returns-in-Ok-clause-told : goal.returns-in-Ok-clause-told
 returns-in-Ok-clause-told c =
     sound_told c.tell_sound.result c.args.framer.now c.feed.new.self c.new-items.result.items c.feed.new.items.items c.as_slice.result.now
-    c.args.piece.now c.args.text.now.items c.tell_sound.new.text.items c.any_pieces.ensures.pieces c.any_pieces.ensures.behind c.new-items.ensures
+    c.args.piece.now c.args.text.now.items c.tell_sound.new.text.items c.any_pieces.ensures.pieces c.any_pieces.ensures.following c.new-items.ensures
     c.as_slice.ensures c.in-Ok.ensures.ok.0 c.tell_sound.ensures
 
 pub returns-in-Err-Fault-clause-told : goal.returns-in-Err-Fault-clause-told

@@ -5,5 +5,5 @@ use Rattle.xml_framer.proofs.laws.any_pieces.Goals as goal
 pub returns-clause-pieces : goal.returns-clause-pieces
 returns-clause-pieces c = run_append
 
-pub returns-clause-behind : goal.returns-clause-behind
-returns-clause-behind c = given_before
+pub returns-clause-following : goal.returns-clause-following
+returns-clause-following c = given_before

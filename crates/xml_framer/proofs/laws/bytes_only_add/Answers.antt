@@ -1,4 +1,4 @@
-use Rattle.xml_framer.proofs.BytesSoFar.{items_split, nothing_behind, nothing_given, pieces_joined}
+use Rattle.xml_framer.proofs.BytesSoFar.{items_split, nothing_after, nothing_given, pieces_joined}
 use Rattle.xml_framer.proofs.laws.bytes_only_add.Goals as goal
 
 pub returns-clause-nothing : goal.returns-clause-nothing
@@ -11,4 +11,4 @@ pub returns-clause-pieces : goal.returns-clause-pieces
 returns-clause-pieces c = pieces_joined
 
 pub returns-clause-fault : goal.returns-clause-fault
-returns-clause-fault c = nothing_behind
+returns-clause-fault c = nothing_after

@@ -2,7 +2,7 @@ use Rattle.std.proofs.Common.{rules, ◌≡◌, ◌≤◌, ◌∙◌, sym, ap, a
 use Rattle.xml_trees.proofs.Folds.{elem_view_is, elem_view_made}
 use Rattle.xml_trees.proofs.TidySteps.{all_tidied, tidied_more, two_steps}
 use Rattle.xml_trees.specs.Attributes.{sorted_attributes}
-use Rattle.xml_trees.specs.Tidied.{texts_joined, tidied_behind}
+use Rattle.xml_trees.specs.Tidied.{texts_joined, tidied_after}
 use Rattle.xml_trees.specs.Trees.{element}
 use Rattle.xml_trees.specs.Views.{nodes_view}
 use Rattle.xml_trees.proofs.tidying.+tidy.Goals as goal
@@ -25,6 +25,6 @@ tidy-returns t c =
     let given = c.args.element.now in
     let past : length now.children.items ≤ c.loop-i.i = omega (arith, was.unvisited.0, c.args.element.now.children.ok.0) in
     let attrs : c.in_ok-element.field-0.items ≡ sorted_attributes given.attrs.items = rw (c.in_ok-element.ensures, c.replace-attrs.ensures.value, was.attrs) in
-    let children : nodes_view c.in_ok-element-2.field-0.items ≡ tidied_behind [] (nodes_view given.children.items) =
+    let children : nodes_view c.in_ok-element-2.field-0.items ≡ tidied_after [] (nodes_view given.children.items) =
     rw (c.in_ok-element-2.ensures, c.replace-children.ensures.value) (ap (texts_joined []) (sym (all_tidied now.children.items c.loop-i.i past) ∙ was.children) ∙ two_steps [] (nodes_view given.children.items)) in
     rw (elem_view_made, elem_view_is c.args.element.now) (λ i. element (was.ns i) (was.name i) (attrs i) (children i))

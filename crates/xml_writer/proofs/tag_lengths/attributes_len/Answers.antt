@@ -7,13 +7,13 @@ pub loop-attr-preserved : goal.loop-attr-preserved
 loop-attr-preserved c =
     let was = c.loop-attr.invariant in
     let part = assignments (spelled_attribute c.loop-attr.number c.attr-item.result) in
-    let rest = assignments (spelled_attributes c.number_behind-number.result (drop (c.loop-attr.attr-index + 1) c.args.attrs.now)) in
+    let rest = assignments (spelled_attributes c.number_after-number.result (drop (c.loop-attr.attr-index + 1) c.args.attrs.now)) in
     let whole = min (length (assignments (spelled_attributes 0 c.args.attrs.now))) (2 ^ 64 - 1) in
-    let more = attributes_more c.args.attrs.now c.loop-attr.attr-index c.loop-attr.number c.number_behind-number.result c.attr-item.result c.loop-attr-test.true c.attr-item.is c.number_behind-number.ensures in
+    let more = attributes_more c.args.attrs.now c.loop-attr.attr-index c.loop-attr.number c.number_after-number.result c.attr-item.result c.loop-attr-test.true c.attr-item.is c.number_after-number.ensures in
     record {
       len = len_step c.loop-attr.len c.attribute_len.result c.saturating_add-len.result whole (2 ^ 64 - 1) part rest (ap (λ l. min (c.loop-attr.len + length l) (2 ^ 64 - 1)) (sym more) ∙ was.len) c.attribute_len.ensures c.saturating_add-len.ensures;
       most = let e = c.saturating_add-len.ensures in omega (arith, e);
-      number = let most = next_most c.loop-attr.number c.number_behind-number.result c.attr-item.result c.number_behind-number.ensures in omega (arith, most, was.number);
+      number = let most = next_most c.loop-attr.number c.number_after-number.result c.attr-item.result c.number_after-number.ensures in omega (arith, most, was.number);
     }
 
 pub returns : goal.returns

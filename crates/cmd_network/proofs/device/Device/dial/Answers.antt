@@ -7,8 +7,8 @@ use Rattle.cmd_network.proofs.device.Device.dial.Goals as goal
 pub returns-clause-device : goal.returns-clause-device
 returns-clause-device c =
     let d : DeviceState = seen c.self.inside in
-    ap (λ (x : ClientValue). record d { client = x; here = Some c.args.place; newest = Some c.args.place }) c.in_ok-put.ensures.client
-    ∙ ap (λ (e : DeviceState). (dials_at c.args.entropy.now c.args.place e).device) c.self.view_is
+    ap (λ (x : ClientValue). record d { client = x; here = Some c.args.position; newest = Some c.args.position }) c.in_ok-put.ensures.client
+    ∙ ap (λ (e : DeviceState). (dials_at c.args.entropy.now c.args.position e).device) c.self.view_is
 
 pub returns-clause-put : goal.returns-clause-put
-returns-clause-put c = c.in_ok-put.ensures.put ∙ ap (λ (e : DeviceState). (dials_at c.args.entropy.now c.args.place e).put) c.self.view_is
+returns-clause-put c = c.in_ok-put.ensures.put ∙ ap (λ (e : DeviceState). (dials_at c.args.entropy.now c.args.position e).put) c.self.view_is

@@ -9,22 +9,22 @@ pub catch_up-requires-clause-in_order : goal.catch_up-requires-clause-in_order
 catch_up-requires-clause-in_order c =
     let inside = c.device.inside in
     let device : DeviceState = record { name = inside.name; account = inside.account; home = inside.home; said = inside.said; log = inside.log } in
-    order_ready c.args.self.now c.in-Some.place device c.archive.result.now.last c.requires.ready c.in-Some.ensures.there.0
-    (subst (λ (d : DeviceState). d ≡ get_or c.args.self.now.devices.items c.in-Some.place d) (sym c.device.view_is) c.index_mut-device.ensures.value)
+    order_ready c.args.self.now c.in-Some.position device c.archive.result.now.last c.requires.ready c.in-Some.ensures.there.0
+    (subst (λ (d : DeviceState). d ≡ get_or c.args.self.now.devices.items c.in-Some.position d) (sym c.device.view_is) c.index_mut-device.ensures.value)
     c.archive.ensures.last
 
 pub returns : goal.returns
 returns c =
     let inside = c.device.inside in
     let device : DeviceState = record { name = inside.name; account = inside.account; home = inside.home; said = inside.said; log = inside.log } in
-    let read = subst (λ (d : DeviceState). d ≡ get_or c.args.self.now.devices.items c.in-Some.place d) (sym c.device.view_is) c.index_mut-device.ensures.value in
+    let read = subst (λ (d : DeviceState). d ≡ get_or c.args.self.now.devices.items c.in-Some.position d) (sym c.device.view_is) c.index_mut-device.ensures.value in
     OnOk_then c.catch_up.result c.catch_up.ensures (λ done. record {
       frame = record { version = refl; keep = refl; moment = refl };
-      place = c.in-Some.place;
+      position = c.in-Some.position;
       old = device;
       new = _;
-      named = sym c.in-Some.ensures.place;
-      there = device_there c.args.self.now c.in-Some.place device c.requires.ready c.in-Some.ensures.there.0 read;
+      named = sym c.in-Some.ensures.position;
+      there = device_there c.args.self.now c.in-Some.position device c.requires.ready c.in-Some.ensures.there.0 read;
       devices = refl;
       index = refl;
       homes = refl;

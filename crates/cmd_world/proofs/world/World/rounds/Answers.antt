@@ -1,5 +1,5 @@
 use Rattle.std.proofs.Common.{◌≡◌, ◌-◌, ◌+◌, suc, arith}
-use Rattle.cmd_world.proofs.Turns.{rounds_more}
+use Rattle.cmd_world.proofs.TurnsLeft.{rounds_more}
 use Rattle.cmd_world.specs.Lines.{rounds_of}
 use Rattle.cmd_world.specs.Moves.{all_moved}
 use Rattle.cmd_world.proofs.world.World.rounds.Goals as goal

@@ -1,5 +1,5 @@
 use Rattle.std.proofs.Common.{◌≡◌, ◌+◌, ◌-◌, length, arith, sym}
-use Rattle.mam_archive.proofs.ChainPlaces.{chain_ends_is}
+use Rattle.mam_archive.proofs.ChainPositions.{chain_ends_is}
 use Rattle.mam_archive.proofs.NumberedEntries.{follow_numbered}
 use Rattle.mam_archive.proofs.archive.Archive.chain.Goals as goal
 

@@ -1,12 +1,12 @@
 use Rattle.std.proofs.Common.{◌≡◌, ◌+◌, ◌-◌, None, length, arith, sym, refl}
-use Rattle.mam_archive.proofs.ChainPlaces.{index_has}
+use Rattle.mam_archive.proofs.ChainPositions.{index_has}
 use Rattle.mam_archive.proofs.NumberedEntries.{follow_numbered, none_outside}
 use Rattle.mam_archive.specs.Entries.{entry_numbered}
 use Rattle.mam_archive.proofs.archive.Archive.index_of.Goals as goal
 
 pub returns-in_err-at : goal.returns-in_err-at
 returns-in_err-at c =
-    let kept = c.place.ensures.kept in
+    let kept = c.position.ensures.kept in
     let none : entry_numbered c.args.number c.args.self.now.entries ≡ None = none_outside c.args.number c.args.self.now.last c.args.self.now.entries kept c.in_err-at.ensures.none in
     rw (c.from_residual.ensures, none) refl
 

@@ -1,4 +1,4 @@
-use Rattle.mam_archive.proofs.ChainPlaces.{chained_none, kept_none}
+use Rattle.mam_archive.proofs.ChainPositions.{chained_none, kept_none}
 use Rattle.std.proofs.Common.{arith}
 use Rattle.mam_archive.proofs.archive.Archive.new.Goals as goal
 

@@ -1,6 +1,6 @@
 use Rattle.std.proofs.Common.{Some, map, sym, ap, ◌∙◌, arith}
 use Rattle.mam_archive.proofs.ChainReads.{ends_read, index_count}
-use Rattle.mam_archive.proofs.ChainSteps.{links_of_entries, peer_chained, peer_place}
+use Rattle.mam_archive.proofs.ChainSteps.{links_of_entries, peer_chained, peer_position}
 use Rattle.mam_archive.specs.Peers.{peer_of}
 use Rattle.std.proofs.lemmas.Option.{same_Some}
 use Rattle.mam_archive.proofs.chains.Links.index_at.Goals as goal
@@ -8,7 +8,7 @@ use Rattle.mam_archive.proofs.chains.Links.index_at.Goals as goal
 pub unreachable-requires : goal.unreachable-requires
 unreachable-requires c =
     let peers = map (peer_of c.args.owner.now) c.args.entries.now.items in
-    let here = peer_place (peer_of c.args.owner.now) c.args.entries.now.items c.args.at c.index.result.now c.requires.there c.index.ensures ∙ ap Some (sym c.peer.ensures) in
+    let here = peer_position (peer_of c.args.owner.now) c.args.entries.now.items c.args.at c.index.result.now c.requires.there c.index.ensures ∙ ap Some (sym c.peer.ensures) in
     peer_chained c.args.first peers c.peer.result.now c.args.self.now.links.items c.args.self.now.chains.items c.args.at c.in_default.field-0 c.requires.linked here c.in_default.ensures.absent
 
 pub overflow_sub-start : goal.overflow_sub-start
@@ -31,7 +31,7 @@ index-requires-4 c =
 pub overflow_sub-result : goal.overflow_sub-result
 overflow_sub-result c =
     let peers = map (peer_of c.args.owner.now) c.args.entries.now.items in
-    let here = peer_place (peer_of c.args.owner.now) c.args.entries.now.items c.args.at c.index.result.now c.requires.there c.index.ensures ∙ ap Some (sym c.peer.ensures) in
+    let here = peer_position (peer_of c.args.owner.now) c.args.entries.now.items c.args.at c.index.result.now c.requires.there c.index.ensures ∙ ap Some (sym c.peer.ensures) in
     let ends = ends_read c.args.first peers c.peer.result.now c.args.self.now.links.items c.args.self.now.chains.items c.in-Ok.chain c.index-2.result.now c.requires.linked c.in-Ok.ensures.found c.index-2.ensures in
     let count = index_count c.args.first peers c.peer.result.now c.args.self.now.links.items c.args.self.now.chains.items c.index-2.result.now c.args.at c.index-3.result.now c.index-4.result.now c.requires.linked ends here c.index-3.ensures c.index-4.ensures in
     count.0
@@ -39,7 +39,7 @@ overflow_sub-result c =
 pub returns : goal.returns
 returns c = λ peer is.
     let peers = map (peer_of c.args.owner.now) c.args.entries.now.items in
-    let here = peer_place (peer_of c.args.owner.now) c.args.entries.now.items c.args.at c.index.result.now c.requires.there c.index.ensures ∙ ap Some (sym c.peer.ensures) in
+    let here = peer_position (peer_of c.args.owner.now) c.args.entries.now.items c.args.at c.index.result.now c.requires.there c.index.ensures ∙ ap Some (sym c.peer.ensures) in
     let ends = ends_read c.args.first peers c.peer.result.now c.args.self.now.links.items c.args.self.now.chains.items c.in-Ok.chain c.index-2.result.now c.requires.linked c.in-Ok.ensures.found c.index-2.ensures in
     let count = index_count c.args.first peers c.peer.result.now c.args.self.now.links.items c.args.self.now.chains.items c.index-2.result.now c.args.at c.index-3.result.now c.index-4.result.now c.requires.linked ends here c.index-3.ensures c.index-4.ensures in
     rw (← same_Some c.peer.result.now peer (sym here ∙ is)) count.1

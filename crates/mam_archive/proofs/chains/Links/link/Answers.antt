@@ -4,8 +4,8 @@ use Rattle.mam_archive.proofs.ChainSteps.{chain_last, chained_more, chained_new,
 use Rattle.mam_archive.specs.Peers.{peer_of}
 use Rattle.mam_archive.proofs.chains.Links.link.Goals as goal
 
-pub extend-requires-clause-place : goal.extend-requires-clause-place
-extend-requires-clause-place c =
+pub extend-requires-clause-position : goal.extend-requires-clause-position
+extend-requires-clause-position c =
     chain_last c.args.first (map (peer_of c.args.owner.now) c.args.entries.now.items) c.args.peer.now c.args.self.now.links.items c.args.self.now.chains.items c.in-Ok.at c.requires.linked c.in-Ok.ensures.found
 
 pub extend-requires-clause-ordinal : goal.extend-requires-clause-ordinal

@@ -3,8 +3,8 @@ use Rattle.mam_archive.proofs.ChainSteps.{chain_peer, chain_within}
 use Rattle.mam_archive.specs.Peers.{peer_of}
 use Rattle.mam_archive.proofs.chains.Links.peer_at.Goals as goal
 
-pub overflow_sub-place : goal.overflow_sub-place
-overflow_sub-place c =
+pub overflow_sub-position : goal.overflow_sub-position
+overflow_sub-position c =
     let inside = chain_within c.args.first (peer_of c.args.owner.now) c.args.entries.now.items c.args.self.now.links.items c.args.self.now.chains.items c.args.at c.index.result.now c.requires.linked c.requires.there c.index.ensures in
     inside.0
 

@@ -16,16 +16,16 @@ returns-clause-kept g c = λ moment drawn kept at is_drawn.
     on_ok c.add_half.result (λ (adds : AddsHalf told c.args.half old.senders.items c.add_half.new.senders.items).
     subst (λ es. IsKeptBy told moment drawn old.file es c.connect.new.self c.add_half.new.senders.items) (sym c.in_ok-add_event.ensures)
     (kept_connect told moment drawn old.file (views_of old.events.items) old.server old.senders.items kept c.args.k c.args.now c.args.entropy.now c.connect.new.self c.add_half.new.senders.items adds.sender
-    (c.requires.place ∙ ap (λ n. n + 1) (many told old.senders.items)) (omega (arith, c.if-k-gt-LAST_CONNECTION.false)) c.requires.moment c.requires.entropy.1 c.requires.entropy.0 at is_drawn c.in_ok-connect.ensures.ok adds.added adds.sent)) c.add_half.ensures.added
+    (c.requires.position ∙ ap (λ n. n + 1) (many told old.senders.items)) (omega (arith, c.if-k-gt-LAST_CONNECTION.false)) c.requires.moment c.requires.entropy.1 c.requires.entropy.0 at is_drawn c.in_ok-connect.ensures.ok adds.added adds.sent)) c.add_half.ensures.added
 
 pub connect-requires-clause-fresh : goal.connect-requires-clause-fresh
 connect-requires-clause-fresh g c =
     let told = g.O.Outgoing.told in let old = c.args.self.now in let kept = c.requires.kept in
     (fresh told kept.0 kept.1 old.file (views_of old.events.items) old.server old.senders.items c.args.k c.args.now c.args.entropy.now kept.2
-    (c.requires.place ∙ ap (λ n. n + 1) (many told old.senders.items)) (omega (arith, c.if-k-gt-LAST_CONNECTION.false)) c.requires.moment c.requires.entropy.1 c.requires.entropy.0).0
+    (c.requires.position ∙ ap (λ n. n + 1) (many told old.senders.items)) (omega (arith, c.if-k-gt-LAST_CONNECTION.false)) c.requires.moment c.requires.entropy.1 c.requires.entropy.0).0
 
 pub connect-requires-clause-unframed : goal.connect-requires-clause-unframed
 connect-requires-clause-unframed g c =
     let told = g.O.Outgoing.told in let old = c.args.self.now in let kept = c.requires.kept in
     (fresh told kept.0 kept.1 old.file (views_of old.events.items) old.server old.senders.items c.args.k c.args.now c.args.entropy.now kept.2
-    (c.requires.place ∙ ap (λ n. n + 1) (many told old.senders.items)) (omega (arith, c.if-k-gt-LAST_CONNECTION.false)) c.requires.moment c.requires.entropy.1 c.requires.entropy.0).1
+    (c.requires.position ∙ ap (λ n. n + 1) (many told old.senders.items)) (omega (arith, c.if-k-gt-LAST_CONNECTION.false)) c.requires.moment c.requires.entropy.1 c.requires.entropy.0).1

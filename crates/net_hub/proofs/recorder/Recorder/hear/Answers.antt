@@ -16,7 +16,7 @@ returns-clause-kept g c = λ moment drawn kept at.
     let told = g.O.Outgoing.told in let old = c.args.self.now in let outs = c.bytes.new.outputs.items in let new = c.send_all.new.senders.items in
     subst (λ es. IsKeptBy told moment drawn old.file es c.bytes.new.self new) (sym c.in_ok-add_event.ensures)
     (kept_piece told moment drawn old.file (views_of old.events.items) old.server old.senders.items kept c.args.k c.args.now c.args.piece.items c.bytes.new.self outs new
-    c.requires.place.0 (subst (λ n. c.args.k ≤ n) (many told old.senders.items) c.requires.place.1) c.requires.moment c.requires.some
+    c.requires.position.0 (subst (λ n. c.args.k ≤ n) (many told old.senders.items) c.requires.position.1) c.requires.moment c.requires.some
     (subst (λ b. IsTrue (are_bytes b)) c.as_slice-read.ensures c.are_bytes.ensures) at
     (piece_is c.args.k c.args.piece.items c.args.now old.server c.bytes.new.self c.new-outputs.result.items outs c.new-outputs.ensures
     (subst (λ b. IsAfterBytes written_item c.args.k b c.args.now old.server (outs_of c.new-outputs.result.items) c.bytes.new.self (outs_of outs)) c.as_slice-read.ensures c.in_ok-bytes.ensures.ok))

@@ -10,4 +10,4 @@ returns-clause-kept g c = λ moment drawn kept at.
     on_ok c.add_event.result (λ more.
     subst (λ es. IsKeptBy told moment drawn old.file es c.gone.new.self c.close.new.senders.items) (sym more)
     (kept_gone told moment drawn old.file (views_of old.events.items) old.server old.senders.items kept c.args.k c.args.now c.gone.new.self c.close.new.senders.items
-    c.requires.place.0 (subst (λ n. c.args.k ≤ n) (many told old.senders.items) c.requires.place.1) c.requires.moment at c.gone.ensures c.close.ensures.numbers c.close.ensures.sent)) c.add_event.ensures
+    c.requires.position.0 (subst (λ n. c.args.k ≤ n) (many told old.senders.items) c.requires.position.1) c.requires.moment at c.gone.ensures c.close.ensures.numbers c.close.ensures.sent)) c.add_event.ensures

@@ -6,6 +6,6 @@ use Rattle.net_owner.specs.StartedReaders.{workers_of}
 abbrev pub invariant-loop : goal.invariant-loop
 invariant-loop g l = record {
   held : IsHeld g.I.Incoming.told g.T.Taker.numbers l.self;
-  workers : workers_of l.self.places.items ≡ workers_of l.initial.self.places.items;
+  workers : workers_of l.self.positions.items ≡ workers_of l.initial.self.positions.items;
   shut : g.T.Taker.shut l.self.taker;
 }

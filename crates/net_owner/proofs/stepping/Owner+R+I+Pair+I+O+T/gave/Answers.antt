@@ -3,7 +3,7 @@ use Rattle.net_owner.proofs.HeldHalves.{first_same, held_with}
 use Rattle.net_owner.proofs.OwnerSteps.{on_ok, pass_over, started_below, write_down}
 use Rattle.net_owner.proofs.stepping.Owner+R+I+Pair+I+O+T.gave.Goals as goal
 use Rattle.net_owner.specs.Events.{Gave}
-use Rattle.net_owner.specs.Places.{HasNoReader, IsStarted}
+use Rattle.net_owner.specs.Positions.{HasNoReader, IsStarted}
 use Rattle.net_owner.specs.declared.item.Item.{Item}
 use Rattle.net_owner.specs.declared.item.What.TheVariants as what
 
@@ -25,5 +25,5 @@ returns-in-Some-clause-held g c =
 pub piece-requires : goal.piece-requires
 piece-requires g c =
     let i = c.in-Some.field-0 in
-    let below = started_below c.args.self.now.places.items i (subst (λ l. IsStarted l i) c.as_slice.ensures.value c.in-Some.ensures.1) in
-    record { place = (omega (arith, c.in-Some.ensures.0), omega (arith, c.in-Some.ensures.0, below, c.requires.many)) }
+    let below = started_below c.args.self.now.positions.items i (subst (λ l. IsStarted l i) c.as_slice.ensures.value c.in-Some.ensures.1) in
+    record { position = (omega (arith, c.in-Some.ensures.0), omega (arith, c.in-Some.ensures.0, below, c.requires.many)) }

@@ -5,9 +5,9 @@ use Rattle.sm_acks.proofs.Paths.{IsJoined, ends_as, joined_from, last_held, leav
 use Rattle.sm_acks.proofs.nodes.Ends.join.Goals as goal
 use Rattle.sm_acks.proofs.nodes.Ends.join.Goals.{After-self-2-1}
 
-pub returns-then-behind-eq0-clause-stanzas : goal.returns-then-behind-eq0-clause-stanzas
-returns-then-behind-eq0-clause-stanzas c =
-    rw (stanzas_none c.args.nodes.now.slots c.args.behind c.if-behind-eq0.true) (sym (append-nil (stanzas_at c.args.nodes.now.slots c.args.self.now)))
+pub returns-then-following-eq0-clause-stanzas : goal.returns-then-following-eq0-clause-stanzas
+returns-then-following-eq0-clause-stanzas c =
+    rw (stanzas_none c.args.nodes.now.slots c.args.following c.if-following-eq0.true) (sym (append-nil (stanzas_at c.args.nodes.now.slots c.args.self.now)))
 
 pub returns-then-self-eq0-clause-stanzas : goal.returns-then-self-eq0-clause-stanzas
 returns-then-self-eq0-clause-stanzas c = rw (stanzas_none c.args.nodes.now.slots c.args.self.now c.if-self-eq0.true)
@@ -25,13 +25,13 @@ there c =
     last_held c.args.nodes.now.slots e.len e.first e.last c.if-self-eq0.false (record { held = h.held; once = h.once; ended = h.ended })
 
 joined : (c : After-self-2-1) → IsJoined c.args.nodes.now.slots c.link.new.nodes.slots (ends_as c.args.self.now.first c.args.self.now.last c.args.self.now.len)
-    (ends_as c.args.behind.first c.args.behind.last c.args.behind.len) (ends_as c.args.self.now.first c.args.behind.last (c.args.self.now.len + c.args.behind.len))
+    (ends_as c.args.following.first c.args.following.last c.args.following.len) (ends_as c.args.self.now.first c.args.following.last (c.args.self.now.len + c.args.following.len))
 joined c =
     let e = c.args.self.now in
-    let f = c.args.behind in
+    let f = c.args.following in
     let h = c.requires.linked in
-    let b = c.requires.behind in
-    joined_from c.args.nodes.now.slots c.link.new.nodes.slots e.len f.len e.first e.last f.first f.last c.if-self-eq0.false c.if-behind-eq0.false
+    let b = c.requires.following in
+    joined_from c.args.nodes.now.slots c.link.new.nodes.slots e.len f.len e.first e.last f.first f.last c.if-self-eq0.false c.if-following-eq0.false
     (record { held = h.held; once = h.once; ended = h.ended }) (record { held = b.held; once = b.once; ended = b.ended }) c.requires.apart
     (relinked_by c.args.nodes.now c.link.new.nodes e.last f.first (there c) c.link.ensures)
 
@@ -47,4 +47,4 @@ returns-clause-stanzas c = (joined c).stanzas
 pub returns-clause-others : goal.returns-clause-others
 returns-clause-others c =
     let e = c.args.self.now in
-    leaves_by c.args.nodes.now c.link.new.nodes e.len e.first e.last c.args.behind.first c.if-self-eq0.false c.requires.linked.ended (there c) c.link.ensures
+    leaves_by c.args.nodes.now c.link.new.nodes e.len e.first e.last c.args.following.first c.if-self-eq0.false c.requires.linked.ended (there c) c.link.ensures

@@ -17,17 +17,17 @@ returns-then-ends-skip-clause-ok c =
 pub bytes_len-len-requires : goal.bytes_len-len-requires
 bytes_len-len-requires c =
     let e = c.ends_of-ends.result in
-    walk_rest c.self.inside.nodes.slots e.len e.first c.args.skip c.place-first.result (c.self.invariant.linked c.args.queue e c.ends_of-ends.ensures).held c.place-first.ensures
+    walk_rest c.self.inside.nodes.slots e.len e.first c.args.skip c.position-first.result (c.self.invariant.linked c.args.queue e c.ends_of-ends.ensures).held c.position-first.ensures
 
 pub append_bytes-requires-clause-held : goal.append_bytes-requires-clause-held
 append_bytes-requires-clause-held c =
     let e = c.ends_of-ends.result in
-    walk_rest c.self.inside.nodes.slots e.len e.first c.args.skip c.place-first.result (c.self.invariant.linked c.args.queue e c.ends_of-ends.ensures).held c.place-first.ensures
+    walk_rest c.self.inside.nodes.slots e.len e.first c.args.skip c.position-first.result (c.self.invariant.linked c.args.queue e c.ends_of-ends.ensures).held c.position-first.ensures
 
 pub returns-clause-ok : goal.returns-clause-ok
 returns-clause-ok c =
     let inside = c.self.inside in
     let e = c.ends_of-ends.result in
     let is = list_is inside.nodes inside.ends inside.made c.args.queue e c.args.self.now c.self.view_is c.ends_of-ends.ensures in
-    let behind = ap (drop c.args.skip) is ∙ stanzas_drop inside.nodes.slots e c.args.skip c.place-first.result c.place-first.ensures in
-    c.append_bytes.ensures ∙ ap₂ (λ xs ys. xs ++ ys) c.in_ok-reserve.ensures.items (ap concat (sym behind))
+    let following = ap (drop c.args.skip) is ∙ stanzas_drop inside.nodes.slots e c.args.skip c.position-first.result c.position-first.ensures in
+    c.append_bytes.ensures ∙ ap₂ (λ xs ys. xs ++ ys) c.in_ok-reserve.ensures.items (ap concat (sym following))

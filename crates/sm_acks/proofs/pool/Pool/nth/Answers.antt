@@ -16,14 +16,14 @@ returns-then-ends-i-clause-none c =
 pub bytes_of-requires : goal.bytes_of-requires
 bytes_of-requires c =
     let e = c.ends_of-ends.result in
-    walk_held c.self.inside.nodes.slots e.len e.first c.args.i c.place-at.result (c.self.invariant.linked c.args.queue e c.ends_of-ends.ensures).held (omega (arith, c.if-ends-i.false)) c.place-at.ensures
+    walk_held c.self.inside.nodes.slots e.len e.first c.args.i c.position-at.result (c.self.invariant.linked c.args.queue e c.ends_of-ends.ensures).held (omega (arith, c.if-ends-i.false)) c.position-at.ensures
 
 pub returns-clause-stanza : goal.returns-clause-stanza
 returns-clause-stanza c =
     let inside = c.self.inside in
     let e = c.ends_of-ends.result in
     let is = list_is inside.nodes inside.ends inside.made c.args.queue e c.args.self.now c.self.view_is c.ends_of-ends.ensures in
-    ap (λ l. slice_get l c.args.i) is ∙ stanza_at inside.nodes.slots e c.args.i c.place-at.result (omega (arith, c.if-ends-i.false)) c.place-at.ensures ∙ ap Some (sym c.bytes_of.ensures)
+    ap (λ l. slice_get l c.args.i) is ∙ stanza_at inside.nodes.slots e c.args.i c.position-at.result (omega (arith, c.if-ends-i.false)) c.position-at.ensures ∙ ap Some (sym c.bytes_of.ensures)
 
 pub returns-clause-none : goal.returns-clause-none
 returns-clause-none c =

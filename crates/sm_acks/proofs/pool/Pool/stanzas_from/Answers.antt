@@ -17,12 +17,12 @@ returns-then-ends-skip c =
 pub copy_stanzas-requires : goal.copy_stanzas-requires
 copy_stanzas-requires c =
     let e = c.ends_of-ends.result in
-    walk_rest c.self.inside.nodes.slots e.len e.first c.args.skip c.place-first.result (c.self.invariant.linked c.args.queue e c.ends_of-ends.ensures).held c.place-first.ensures
+    walk_rest c.self.inside.nodes.slots e.len e.first c.args.skip c.position-first.result (c.self.invariant.linked c.args.queue e c.ends_of-ends.ensures).held c.position-first.ensures
 
 pub returns : goal.returns
 returns c =
     let inside = c.self.inside in
     let e = c.ends_of-ends.result in
     let is = list_is inside.nodes inside.ends inside.made c.args.queue e c.args.self.now c.self.view_is c.ends_of-ends.ensures in
-    let behind = ap (drop c.args.skip) is ∙ stanzas_drop inside.nodes.slots e c.args.skip c.place-first.result c.place-first.ensures in
-    c.in_ok-copy_stanzas.ensures ∙ ap₂ (λ xs ys. xs ++ ys) (ap stanzas_in (c.in_ok-reserve.ensures.items ∙ c.new-stanzas.ensures)) (sym behind)
+    let following = ap (drop c.args.skip) is ∙ stanzas_drop inside.nodes.slots e c.args.skip c.position-first.result c.position-first.ensures in
+    c.in_ok-copy_stanzas.ensures ∙ ap₂ (λ xs ys. xs ++ ys) (ap stanzas_in (c.in_ok-reserve.ensures.items ∙ c.new-stanzas.ensures)) (sym following)

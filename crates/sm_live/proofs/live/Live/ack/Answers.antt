@@ -1,6 +1,6 @@
 use Rattle.std.proofs.Common.{Some, ap, subst, ◌∙◌, ◌≡◌}
 use Rattle.std.specs.Option.{IfSome}
-use Rattle.sm_live.proofs.Seats.{free_tried, seat_stays}
+use Rattle.sm_live.proofs.Reservations.{free_tried, reservation_stays}
 use Rattle.sm_live.proofs.Seen.{Tried, if_session, row_there, tried_seen}
 use Rattle.sm_live.specs.Kept.{LiveView}
 use Rattle.sm_live.specs.Sessions.{ack_answer}
@@ -24,7 +24,7 @@ pub invariant_of-self : goal.invariant_of-self
 invariant_of-self c =
     let (x, found, answer, change) = counted c in (
       c.ack.ensures.housed,
-      seat_stays c.self.inside.seat c.self.inside.table c.ack.new.self c.self.inside.pool c.ack.new.pool c.ack.ensures.kept c.ack.ensures.seat c.ack.ensures.next
+      reservation_stays c.self.inside.reservation c.self.inside.table c.ack.new.self c.self.inside.pool c.ack.new.pool c.ack.ensures.kept c.ack.ensures.reservation c.ack.ensures.next
           (λ q free. free_tried c.ack.result q c.args.h c.args.number x c.self.inside.table.rows c.ack.new.self.rows c.self.inside.pool c.ack.new.pool found answer c.ack.ensures.ok c.ack.ensures.err change free)
           c.self.invariant.1,
       c.ack.ensures.made ∙ c.self.invariant.2,

@@ -17,5 +17,5 @@ returns-clause-ended c =
 pub returns-clause-sessions : goal.returns-clause-sessions
 returns-clause-sessions c =
     ap (all_seen c.bind.new.pool) c.bind.ensures.rows
-    ∙ bound_seen c.self.inside.table.next c.args.account c.args.conn c.in-Some.seat.queue c.args.resource c.self.inside.table.rows c.self.inside.pool c.bind.new.pool c.keeps_rule.ensures c.self.invariant.0 c.bind.ensures.pool c.bind.ensures.begins.0.queue
+    ∙ bound_seen c.self.inside.table.next c.args.account c.args.conn c.in-Some.reservation.queue c.args.resource c.self.inside.table.rows c.self.inside.pool c.bind.new.pool c.keeps_rule.ensures c.self.invariant.0 c.bind.ensures.pool c.bind.ensures.begins.0.queue
     ∙ ap (λ (l : LiveView). bound l.next c.args.account c.args.resource c.args.conn l.sessions) c.self.view_is

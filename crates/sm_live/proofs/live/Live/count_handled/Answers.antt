@@ -1,5 +1,5 @@
 use Rattle.std.proofs.Common.{ap, refl, ◌∙◌}
-use Rattle.sm_live.proofs.Seats.{written_kept}
+use Rattle.sm_live.proofs.Reservations.{written_kept}
 use Rattle.sm_live.proofs.Seen.{row_there, written_seen}
 use Rattle.sm_live.specs.Kept.{LiveView, all_seen}
 use Rattle.sm_live.specs.Sessions.{handles, with_session}
@@ -11,7 +11,7 @@ count_handled-requires c = row_there c.args.number c.self.inside.pool c.self.ins
 
 pub invariant_of-self : goal.invariant_of-self
 invariant_of-self c =
-    let kept = written_kept c.args.number (handling) c.self.inside.table c.count_handled.new.self c.self.inside.pool c.self.inside.seat (record { same = λ r. refl }) (record { same = λ r. refl }) c.count_handled.ensures.changes c.self.invariant.0 c.self.invariant.1 in
+    let kept = written_kept c.args.number (handling) c.self.inside.table c.count_handled.new.self c.self.inside.pool c.self.inside.reservation (record { same = λ r. refl }) (record { same = λ r. refl }) c.count_handled.ensures.changes c.self.invariant.0 c.self.invariant.1 in
     (kept.0, kept.1, c.self.invariant.2)
 
 pub returns-clause-sessions : goal.returns-clause-sessions

@@ -1,5 +1,5 @@
 use Rattle.std.proofs.Common.{◌≡◌, ◌↔◌, IsErr, ap, refl, true}
-use Rattle.sm_live.proofs.Seats.{tried_kept}
+use Rattle.sm_live.proofs.Reservations.{tried_kept}
 use Rattle.sm_live.proofs.Seen.{if_session, row_there, tried_written}
 use Rattle.sm_live.specs.Kept.{LiveView}
 use Rattle.sm_live.specs.Sessions.{enables}
@@ -11,7 +11,7 @@ enable-requires c = row_there c.args.number c.self.inside.pool c.self.inside.tab
 
 pub invariant_of-self : goal.invariant_of-self
 invariant_of-self c =
-    let kept = tried_kept c.enable.result c.args.number (enabled c.args.resume) c.self.inside.table c.enable.new.self c.self.inside.pool c.self.inside.seat (record { same = λ r. refl }) (record { same = λ r. refl }) c.enable.ensures.ok c.enable.ensures.err c.self.invariant.0 c.self.invariant.1 in
+    let kept = tried_kept c.enable.result c.args.number (enabled c.args.resume) c.self.inside.table c.enable.new.self c.self.inside.pool c.self.inside.reservation (record { same = λ r. refl }) (record { same = λ r. refl }) c.enable.ensures.ok c.enable.ensures.err c.self.invariant.0 c.self.invariant.1 in
     (kept.0, kept.1, c.self.invariant.2)
 
 pub returns-clause-already : goal.returns-clause-already

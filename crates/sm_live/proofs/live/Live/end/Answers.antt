@@ -1,6 +1,6 @@
 use Rattle.std.proofs.Common.{ap, refl, sym, subst, ◌∙◌}
 use Rattle.std.specs.Option.{option_map}
-use Rattle.sm_live.proofs.Seats.{free_without, seat_stays}
+use Rattle.sm_live.proofs.Reservations.{free_without, reservation_stays}
 use Rattle.sm_live.proofs.Seen.{ended_seen, mapped_seen}
 use Rattle.sm_live.specs.Kept.{LiveView, all_seen}
 use Rattle.sm_live.specs.Sessions.{ended_of, is_numbered, session_of, without}
@@ -12,7 +12,7 @@ use Rattle.sm_live.proofs.live.Live.end.Goals as goal
 pub invariant_of-self : goal.invariant_of-self
 invariant_of-self c = (
   c.end.ensures.housed,
-  seat_stays c.self.inside.seat c.self.inside.table c.end.new.self c.self.inside.pool c.end.new.pool c.end.ensures.kept c.end.ensures.seat c.end.ensures.next
+  reservation_stays c.self.inside.reservation c.self.inside.table c.end.new.self c.self.inside.pool c.end.new.pool c.end.ensures.kept c.end.ensures.reservation c.end.ensures.next
       (λ q free. subst (λ rows. IsFree q rows c.end.new.pool) (sym c.end.ensures.rows) (free_without q c.args.number (row_of c.args.number c.self.inside.table.rows) c.self.inside.table.rows c.self.inside.pool c.end.new.pool refl c.end.ensures.pool free))
       c.self.invariant.1,
   c.end.ensures.made ∙ c.self.invariant.2,

@@ -1,6 +1,6 @@
 use Rattle.std.proofs.Common.{ap, refl, sym, subst, ◌∙◌}
 use Rattle.std.specs.Option.{option_map}
-use Rattle.sm_live.proofs.Seats.{free_lost, seat_stays}
+use Rattle.sm_live.proofs.Reservations.{free_lost, reservation_stays}
 use Rattle.sm_live.proofs.Seen.{lost_seen, mapped_seen}
 use Rattle.sm_live.specs.Kept.{LiveView, all_seen}
 use Rattle.sm_live.specs.Sessions.{is_at, lost, lost_as, session_at}
@@ -12,7 +12,7 @@ use Rattle.sm_live.proofs.live.Live.park.Goals as goal
 pub invariant_of-self : goal.invariant_of-self
 invariant_of-self c = (
   c.park.ensures.housed,
-  seat_stays c.self.inside.seat c.self.inside.table c.park.new.self c.self.inside.pool c.park.new.pool c.park.ensures.kept c.park.ensures.seat c.park.ensures.next
+  reservation_stays c.self.inside.reservation c.self.inside.table c.park.new.self c.self.inside.pool c.park.new.pool c.park.ensures.kept c.park.ensures.reservation c.park.ensures.next
       (λ q free. subst (λ rows. IsFree q rows c.park.new.pool) (sym c.park.ensures.rows) (free_lost q c.args.now c.self.inside.table.next (is_at_row c.args.conn) c.self.inside.table.rows c.self.inside.pool c.park.new.pool c.keeps_rule.ensures c.park.ensures.pool free))
       c.self.invariant.1,
   c.park.ensures.made ∙ c.self.invariant.2,

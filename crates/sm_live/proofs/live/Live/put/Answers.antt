@@ -1,7 +1,7 @@
 use Rattle.std.proofs.Common.{Some, ap, sym, subst, ◌∙◌, ◌≡◌, ◌<◌, length}
 use Rattle.std.specs.Option.{IfSome}
 use Rattle.sm_acks.specs.declared.end.TheConstants.{MOST_UNACKNOWLEDGED}
-use Rattle.sm_live.proofs.Seats.{free_joined, seat_stays}
+use Rattle.sm_live.proofs.Reservations.{free_joined, reservation_stays}
 use Rattle.sm_live.proofs.Seen.{if_row, joined_seen, row_there}
 use Rattle.sm_live.specs.Kept.{LiveView, all_seen}
 use Rattle.sm_live.specs.Sessions.{waits, with_session}
@@ -29,7 +29,7 @@ pub invariant_of-self : goal.invariant_of-self
 invariant_of-self c =
     let (x, found, joins) = joined c in (
       c.put_reserved.ensures.housed,
-      seat_stays c.self.inside.seat c.self.inside.table c.put_reserved.new.self c.self.inside.pool c.put_reserved.new.pool c.put_reserved.ensures.kept c.put_reserved.ensures.seat c.put_reserved.ensures.next
+      reservation_stays c.self.inside.reservation c.self.inside.table c.put_reserved.new.self c.self.inside.pool c.put_reserved.new.pool c.put_reserved.ensures.kept c.put_reserved.ensures.reservation c.put_reserved.ensures.next
           (λ q free. subst (λ rows. IsFree q rows c.put_reserved.new.pool) (sym c.put_reserved.ensures.rows) (free_joined q c.args.number c.args.bytes.items x c.self.inside.table.rows c.self.inside.pool c.put_reserved.new.pool found joins free))
           c.self.invariant.1,
       c.put_reserved.ensures.made ∙ c.self.invariant.2,

@@ -1,5 +1,5 @@
 use Rattle.std.proofs.Common.{ap, refl, ◌∙◌}
-use Rattle.sm_live.proofs.Seats.{written_kept}
+use Rattle.sm_live.proofs.Reservations.{written_kept}
 use Rattle.sm_live.proofs.Seen.{row_there, written_seen}
 use Rattle.sm_live.specs.Kept.{LiveView, all_seen}
 use Rattle.sm_live.specs.Sessions.{copies, with_session}
@@ -11,7 +11,7 @@ set_carbons-requires c = row_there c.args.number c.self.inside.pool c.self.insid
 
 pub invariant_of-self : goal.invariant_of-self
 invariant_of-self c =
-    let kept = written_kept c.args.number (copying c.args.on) c.self.inside.table c.set_carbons.new.self c.self.inside.pool c.self.inside.seat (record { same = λ r. refl }) (record { same = λ r. refl }) c.set_carbons.ensures c.self.invariant.0 c.self.invariant.1 in
+    let kept = written_kept c.args.number (copying c.args.on) c.self.inside.table c.set_carbons.new.self c.self.inside.pool c.self.inside.reservation (record { same = λ r. refl }) (record { same = λ r. refl }) c.set_carbons.ensures c.self.invariant.0 c.self.invariant.1 in
     (kept.0, kept.1, c.self.invariant.2)
 
 pub returns-clause-sessions : goal.returns-clause-sessions

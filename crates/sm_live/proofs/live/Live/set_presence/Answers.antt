@@ -1,6 +1,6 @@
 use Rattle.std.proofs.Common.{ap, refl, subst, ◌∙◌}
 use Rattle.std.proofs.Math.Facts.{to_z-of_z}
-use Rattle.sm_live.proofs.Seats.{written_kept}
+use Rattle.sm_live.proofs.Reservations.{written_kept}
 use Rattle.sm_live.proofs.Seen.{row_there, written_seen}
 use Rattle.sm_live.specs.Kept.{LiveView, all_seen}
 use Rattle.sm_live.specs.Sessions.{presents, with_session}
@@ -18,7 +18,7 @@ written c = subst (λ p. ChangesRow c.args.number (present c.args.available p) c
 
 pub invariant_of-self : goal.invariant_of-self
 invariant_of-self c =
-    let kept = written_kept c.args.number (present c.args.available c.args.priority) c.self.inside.table c.set_presence.new.self c.self.inside.pool c.self.inside.seat (record { same = λ r. refl }) (record { same = λ r. refl }) (written c) c.self.invariant.0 c.self.invariant.1 in
+    let kept = written_kept c.args.number (present c.args.available c.args.priority) c.self.inside.table c.set_presence.new.self c.self.inside.pool c.self.inside.reservation (record { same = λ r. refl }) (record { same = λ r. refl }) (written c) c.self.invariant.0 c.self.invariant.1 in
     (kept.0, kept.1, c.self.invariant.2)
 
 pub returns-clause-sessions : goal.returns-clause-sessions

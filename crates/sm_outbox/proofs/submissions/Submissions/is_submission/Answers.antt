@@ -10,11 +10,11 @@ returns-in_default c =
 pub returns-then-self : goal.returns-then-self
 returns-then-self c =
     let items = c.self.inside.items in
-    found_all c.args.resource.now c.args.id.now c.in-Some.epoch c.in-Some.n c.place-at.result c.is_anywhere.result items.items c.as_slice-items.result.now c.self.inside.settled c.self.inside.epoch c.self.inside.n (vec_capacity items - vec_len items) c.args.self.now
-    c.self.view_is c.self.invariant.1 c.as_slice-items.ensures.value c.place-at.ensures.fits c.in-Some.ensures.some c.place-at.ensures.value c.is_anywhere.ensures
+    found_all c.args.resource.now c.args.id.now c.in-Some.epoch c.in-Some.n c.position-at.result c.is_anywhere.result items.items c.as_slice-items.result.now c.self.inside.settled c.self.inside.epoch c.self.inside.n (vec_capacity items - vec_len items) c.args.self.now
+    c.self.view_is c.self.invariant.1 c.as_slice-items.ensures.value c.position-at.ensures.fits c.in-Some.ensures.some c.position-at.ensures.value c.is_anywhere.ensures
 
 pub returns : goal.returns
 returns c =
     let items = c.self.inside.items in
-    found_all c.args.resource.now c.args.id.now c.in-Some.epoch c.in-Some.n c.place-at.result c.is_among.result items.items c.as_slice-items.result.now c.self.inside.settled c.self.inside.epoch c.self.inside.n (vec_capacity items - vec_len items) c.args.self.now
-    c.self.view_is c.self.invariant.1 c.as_slice-items.ensures.value c.place-at.ensures.fits c.in-Some.ensures.some c.place-at.ensures.value c.is_among.ensures
+    found_all c.args.resource.now c.args.id.now c.in-Some.epoch c.in-Some.n c.position-at.result c.is_among.result items.items c.as_slice-items.result.now c.self.inside.settled c.self.inside.epoch c.self.inside.n (vec_capacity items - vec_len items) c.args.self.now
+    c.self.view_is c.self.invariant.1 c.as_slice-items.ensures.value c.position-at.ensures.fits c.in-Some.ensures.some c.position-at.ensures.value c.is_among.ensures

@@ -18,7 +18,7 @@ loop-number-preserved c =
                 (λ q other. w.enter.ensures.conns q (λ same. other (w.in-Some-conn.is ∙ ap Some (sym same))))
                 (found_some _ w.in-Some-conn.conn w.in-Some.row.now.shown.parked_at w.enter.new.self w.in-Some.row.now.shown.conn w.in-Some-conn.is (w.enter.ensures.here whole))
                 (c.loop-number.invariant.0 (w.enter.ensures.whole whole)),
-            w.enter.ensures.seats ∙ c.loop-number.invariant.1,
+            w.enter.ensures.sessions_by_account ∙ c.loop-number.invariant.1,
             ordered_same c.loop-number.self w.enter.new.self w.enter.ensures.waits c.loop-number.invariant.2,
           )
       | in-Some+in-None w ↦
@@ -29,7 +29,7 @@ loop-number-preserved c =
                 (λ q other. ap (λ cs. conn_in (record c.loop-number.self { conns = cs }) q) w.wait.ensures.conns)
                 (found_none _ w.in-Some.row.now.shown.parked_at w.wait.new.self w.in-Some.row.now.shown.conn w.in-None.is (w.wait.ensures.here whole))
                 (c.loop-number.invariant.0 (w.wait.ensures.whole whole)),
-            w.wait.ensures.seats ∙ c.loop-number.invariant.1,
+            w.wait.ensures.sessions_by_account ∙ c.loop-number.invariant.1,
             w.wait.ensures.ordered,
           )
       | in_default w ↦

@@ -6,4 +6,4 @@ use Rattle.sm_resumption.proofs.index.Index.mend.Given as goal
 
 -- the sessions so far are found
 abbrev pub invariant-loop-number : goal.invariant-loop-number
-invariant-loop-number l = (l.self.whole ≡ true → HasFirst l.number-index l.self l.numbers (hash.get nat_eq l.rows)) × (l.self.seats ≡ l.fn.self.seats) × AreInOrder l.self
+invariant-loop-number l = (l.self.whole ≡ true → HasFirst l.number-index l.self l.numbers (hash.get nat_eq l.rows)) × (l.self.sessions_by_account ≡ l.fn.self.sessions_by_account) × AreInOrder l.self

@@ -11,7 +11,7 @@ invariant-first l = record {
   ordered : AreInOrder l.self;
   conns : l.self.conns ≡ l.fn.self.conns;
   whole : l.self.whole ≡ l.fn.self.whole;
-  seats : l.self.seats ≡ l.fn.self.seats;
+  sessions_by_account : l.self.sessions_by_account ≡ l.fn.self.sessions_by_account;
 }
 
 abbrev pub decreases-first : goal.decreases-first

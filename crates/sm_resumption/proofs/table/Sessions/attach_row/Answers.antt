@@ -23,7 +23,7 @@ invariant_of-self c =
     let seen = ap (λ (t : Table). t.rows) c.self.view_is in
     let table : IsTable c.args.self.now.rows c.self.inside.next = (opened (hash.get nat_eq c.self.inside.rows) c.self.inside.numbers.items c.self.inside.next c.args.self.now.rows seen c.self.invariant.0).table in
     let indexed : IsIndexed c.self.inside.index c.args.self.now.rows = indexed_as c.self.inside.index _ c.args.self.now.rows seen c.self.invariant.1 in
-    ((changed c).kept, rw (changed c).written (indexed_attached c.args.number c.self.inside.next c.args.conn c.args.queue c.in-Some.row.now c.self.inside.index c.forget.new.self c.enter.new.self c.args.self.now.rows table (changed c).found c.requires.conn c.forget.ensures.conns c.forget.ensures.waits c.forget.ensures.whole c.forget.ensures.seats c.enter.ensures.here c.enter.ensures.conns c.enter.ensures.waits c.enter.ensures.whole c.enter.ensures.seats indexed))
+    ((changed c).kept, rw (changed c).written (indexed_attached c.args.number c.self.inside.next c.args.conn c.args.queue c.in-Some.row.now c.self.inside.index c.forget.new.self c.enter.new.self c.args.self.now.rows table (changed c).found c.requires.conn c.forget.ensures.conns c.forget.ensures.waits c.forget.ensures.whole c.forget.ensures.sessions_by_account c.enter.ensures.here c.enter.ensures.conns c.enter.ensures.waits c.enter.ensures.whole c.enter.ensures.sessions_by_account indexed))
 
 pub returns-clause-rows : goal.returns-clause-rows
 returns-clause-rows c = (changed c).written

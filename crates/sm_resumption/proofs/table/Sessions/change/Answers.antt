@@ -31,7 +31,7 @@ returns c =
     record {
       rows = (written c).written;
       next = ap (λ (t : Table). t.next) c.self.view_is;
-      seat = ap (λ (t : Table). t.seat) c.self.view_is;
+      reservation = ap (λ (t : Table). t.reservation) c.self.view_is;
       spare = search rules;
       housed = λ pool housed. rw (written c).written (housed_with c.args.number (changed c.args.change) c.args.self.now.rows pool (keeps_changed c.args.change).number (record { same = (keeps_changed c.args.change).queue }) housed);
     }

@@ -10,7 +10,7 @@ ending-init c =
     record {
       so_far = expiring_begins c.args.now c.args.self.now.rows c.args.pool.now;
       next = refl;
-      seat = refl;
+      reservation = refl;
       kept = omega arith;
       made = refl;
       room = omega arith;
@@ -33,7 +33,7 @@ ending-preserved c =
           (expiring_more c.args.now c.in-Some.number c.ending.self.next row c.args.self.now.rows c.ending.self.rows c.args.pool.now c.ending.pool c.end.new.pool
           c.in-Some.ensures.table c.in-Some.ensures.number.1 c.in-Some.ensures.number.2 gone c.ending.invariant.so_far);
       next = c.end.ensures.next ∙ c.in-Some.ensures.next ∙ c.ending.invariant.next;
-      seat = c.end.ensures.seat ∙ c.in-Some.ensures.seat ∙ c.ending.invariant.seat;
+      reservation = c.end.ensures.reservation ∙ c.in-Some.ensures.reservation ∙ c.ending.invariant.reservation;
       kept = omega arith;
       made = c.end.ensures.made ∙ c.ending.invariant.made;
       room = omega arith;

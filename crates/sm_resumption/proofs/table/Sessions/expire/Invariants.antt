@@ -8,7 +8,7 @@ abbrev pub invariant-ending : goal.invariant-ending
 invariant-ending l = record {
   so_far : Expiring l.now l.initial.self.rows l.self.rows l.initial.pool l.pool;
   next : l.self.next ≡ l.initial.self.next;
-  seat : l.self.seat ≡ l.initial.self.seat;
+  reservation : l.self.reservation ≡ l.initial.self.reservation;
   kept : l.initial.self.spare ≤ l.self.spare;
   made : l.pool.made ≡ l.initial.pool.made;
   room : l.initial.pool.spare ≤ l.pool.spare;

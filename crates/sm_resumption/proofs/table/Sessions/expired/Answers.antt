@@ -12,7 +12,7 @@ pub invariant_of-self : goal.invariant_of-self
 invariant_of-self c = (
   c.self.invariant.0,
   indexed_swept c.self.inside.index c.overdue.new.self (hash.get nat_eq c.self.inside.rows) (collected (hash.get nat_eq c.self.inside.rows) c.self.inside.numbers.items) c.self.invariant.0.found
-      c.overdue.ensures.conns c.overdue.ensures.waits c.overdue.ensures.whole c.overdue.ensures.seats c.overdue.ensures.ordered c.self.invariant.1,
+      c.overdue.ensures.conns c.overdue.ensures.waits c.overdue.ensures.whole c.overdue.ensures.sessions_by_account c.overdue.ensures.ordered c.self.invariant.1,
 )
 
 pub returns-clause-number : goal.returns-clause-number

@@ -22,9 +22,9 @@ invariant_of-self c =
     let seen = ap (λ (t : Table). t.rows) c.self.view_is in
     let table : IsTable c.args.self.now.rows c.self.inside.next = (opened (hash.get nat_eq c.self.inside.rows) c.self.inside.numbers.items c.self.inside.next c.args.self.now.rows seen c.self.invariant.0).table in
     let stored = opened (hash.get nat_eq c.self.inside.rows) c.self.inside.numbers.items c.self.inside.next c.args.self.now.rows seen c.self.invariant.0 in
-    let indexed : IsIndexed c.sweep.new.self c.args.self.now.rows = indexed_swept c.self.inside.index c.sweep.new.self (hash.get nat_eq c.self.inside.rows) c.args.self.now.rows stored.found c.sweep.ensures.conns c.sweep.ensures.waits c.sweep.ensures.whole c.sweep.ensures.seats c.sweep.ensures.ordered
+    let indexed : IsIndexed c.sweep.new.self c.args.self.now.rows = indexed_swept c.self.inside.index c.sweep.new.self (hash.get nat_eq c.self.inside.rows) c.args.self.now.rows stored.found c.sweep.ensures.conns c.sweep.ensures.waits c.sweep.ensures.whole c.sweep.ensures.sessions_by_account c.sweep.ensures.ordered
     (indexed_as c.self.inside.index _ c.args.self.now.rows seen c.self.invariant.1) in
-    ((changed c).kept, rw (changed c).written (indexed_parked c.args.number c.self.inside.next c.args.now c.in-Some.row.now c.sweep.new.self c.forget.new.self c.wait.new.self c.args.self.now.rows table (changed c).found c.forget.ensures.conns c.forget.ensures.waits c.forget.ensures.whole c.forget.ensures.seats c.wait.ensures.conns c.wait.ensures.here c.wait.ensures.waits c.wait.ensures.whole c.wait.ensures.seats c.wait.ensures.ordered indexed))
+    ((changed c).kept, rw (changed c).written (indexed_parked c.args.number c.self.inside.next c.args.now c.in-Some.row.now c.sweep.new.self c.forget.new.self c.wait.new.self c.args.self.now.rows table (changed c).found c.forget.ensures.conns c.forget.ensures.waits c.forget.ensures.whole c.forget.ensures.sessions_by_account c.wait.ensures.conns c.wait.ensures.here c.wait.ensures.waits c.wait.ensures.whole c.wait.ensures.sessions_by_account c.wait.ensures.ordered indexed))
 
 pub returns-clause-rows : goal.returns-clause-rows
 returns-clause-rows c = (changed c).written

@@ -28,8 +28,8 @@ invariant_of-self c =
     let indexed : IsIndexed c.self.inside.index c.args.self.now.rows = indexed_as c.self.inside.index _ c.args.self.now.rows seen c.self.invariant.1 in (
       (pushed c).kept,
       rw (pushed c).shown
-          (indexed_pushed c.self.inside.next c.args.account c.args.conn c.args.queue c.args.resource c.self.inside.index c.enter.new.self c.seat.new.self c.args.self.now.rows table c.requires.conn
-          c.enter.ensures.here c.enter.ensures.conns c.enter.ensures.waits c.enter.ensures.whole c.enter.ensures.seats c.seat.ensures.here c.seat.ensures.others c.seat.ensures.conns c.seat.ensures.waits c.seat.ensures.whole indexed),
+          (indexed_pushed c.self.inside.next c.args.account c.args.conn c.args.queue c.args.resource c.self.inside.index c.enter.new.self c.reservation.new.self c.args.self.now.rows table c.requires.conn
+          c.enter.ensures.here c.enter.ensures.conns c.enter.ensures.waits c.enter.ensures.whole c.enter.ensures.sessions_by_account c.reservation.ensures.here c.reservation.ensures.others c.reservation.ensures.conns c.reservation.ensures.waits c.reservation.ensures.whole indexed),
     )
 
 pub returns-clause-rows : goal.returns-clause-rows

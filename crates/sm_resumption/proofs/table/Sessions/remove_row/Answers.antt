@@ -25,7 +25,7 @@ invariant_of-self-2 c =
       (removed c).kept,
       rw (removed c).shown
           (indexed_without c.args.number c.self.inside.next c.in_ok-row.row c.self.inside.index c.forget.new.self c.unseat.new.self c.args.self.now.rows stored.table found
-          c.forget.ensures.conns c.forget.ensures.waits c.forget.ensures.whole c.forget.ensures.seats c.unseat.ensures.conns c.unseat.ensures.waits c.unseat.ensures.whole
+          c.forget.ensures.conns c.forget.ensures.waits c.forget.ensures.whole c.forget.ensures.sessions_by_account c.unseat.ensures.conns c.unseat.ensures.waits c.unseat.ensures.whole
           c.unseat.ensures.here c.unseat.ensures.others indexed),
     )
 

@@ -1,4 +1,4 @@
-use Rattle.xml_framer.proofs.BytesSoFar.{due_behind, read_by}
+use Rattle.xml_framer.proofs.BytesSoFar.{due_after, read_by}
 use Rattle.xml_framer.proofs.ItemsBefore.{run_grows}
 use Rattle.xml_framer.specs.States.{turn}
 use Rattle.xml_framer.proofs.framer.Framer.feed.Goals as goal
@@ -12,4 +12,4 @@ returns-in-Ok-clause-read c limits bytes =
     c.outcome.ensures.ok c.outcome.ensures.fault c.in-Ok.ensures.ok
 
 pub returns-in-Err-clause-read : goal.returns-in-Err-clause-read
-returns-in-Err-clause-read c limits bytes = due_behind c.args.self.now c.args.items.now.items c.take_all.new.items.items limits bytes c.args.piece.now c.in-Err.ensures.due
+returns-in-Err-clause-read c limits bytes = due_after c.args.self.now c.args.items.now.items c.take_all.new.items.items limits bytes c.args.piece.now c.in-Err.ensures.due

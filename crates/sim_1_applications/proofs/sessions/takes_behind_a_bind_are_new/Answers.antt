@@ -1,5 +1,0 @@
-use Rattle.sim_1_applications.proofs.Binds.{behind_a_bind}
-use Rattle.sim_1_applications.proofs.sessions.takes_behind_a_bind_are_new.Goals as goal
-
-pub returns : goal.returns
-returns c = λ w next v i d all reached at is reaches. behind_a_bind w next v i d all reached at is reaches

@@ -1,5 +1,0 @@
-use Rattle.sim_5_moves.proofs.Quiet.{quiet_word_runs}
-use Rattle.sim_5_moves.proofs.down_moves.quiet_words_come_down.Goals as goal
-
-pub returns : goal.returns
-returns c = quiet_word_runs

@@ -1,5 +1,0 @@
-use Rattle.sim_5_moves.proofs.Acting.{act_reaches, act_spoken}
-use Rattle.sim_5_moves.proofs.one_device.acts_come_behind_drifts.Goals as goal
-
-pub returns : goal.returns
-returns c = record { reaches = act_reaches; spoken = act_spoken }

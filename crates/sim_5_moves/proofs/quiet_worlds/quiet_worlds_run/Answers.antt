@@ -1,5 +1,0 @@
-use Rattle.sim_5_moves.proofs.Engine.{quiet_runs}
-use Rattle.sim_5_moves.proofs.quiet_worlds.quiet_worlds_run.Goals as goal
-
-pub returns : goal.returns
-returns c = λ schedule b says w x after passed runs taken quiet. quiet_runs schedule b says w x runs taken after passed quiet

@@ -1,5 +1,0 @@
-use Rattle.sim_7_schedules.proofs.HandledBinds.{taken_behind_handled}
-use Rattle.sim_7_schedules.proofs.binds.nothing_older_is_taken_behind_a_handled_bind.Goals as goal
-
-pub returns : goal.returns
-returns c = taken_behind_handled

@@ -1,5 +1,0 @@
-use Rattle.sim_7_schedules.proofs.Shown.{world_shown}
-use Rattle.sim_7_schedules.proofs.reports_of_worlds.worlds_show.Goals as goal
-
-pub returns : goal.returns
-returns c = λ schedule b says w v x right kept image runs. world_shown schedule b says w v x right kept image runs
