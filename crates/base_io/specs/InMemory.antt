@@ -8,8 +8,9 @@ pub record FailingCallsView : Type 0 where
   pub fails : List ℕ
   pub faults : ℕ
 
--- a source with bytes left to give, at most `step` a call
+-- a source that gave bytes and has bytes left to give, at most `step` a call
 pub record MemorySourceView : Type 0 where
+  pub given : List ℕ
   pub left : List ℕ
   pub step : ℕ
   pub failing : FailingCallsView

@@ -1,4 +1,5 @@
 pub mod Counts
+pub mod Given
 pub mod InMemory
 pub mod Listed
 pub mod Names

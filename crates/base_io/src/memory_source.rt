@@ -1,7 +1,7 @@
 //! Sources over bytes in memory.
-ghost use Rattle.std.specs.Prelude.{◌≡◌, ◌≤◌, ◌↔◌, Some, IfOk, IsErr, OnOk, OnErr, Contains};
+ghost use Rattle.std.specs.Prelude.{◌≡◌, ◌≤◌, ◌↔◌, [], Some, IfOk, IsErr, OnOk, OnErr, Contains};
 ghost use Rattle.std.specs.Io.{ReadsAtMost};
-ghost use Rattle.std.specs.Io.KnownBytes.{ReadConsumes};
+ghost use Rattle.std.specs.Io.KnownBytes.{ReadConsumes, WriteAppends};
 ghost use Rattle.base_io.specs.Counts.{HasCause};
 ghost use Rattle.base_io.specs.InMemory.{not_called, called, failed};
 
@@ -11,6 +11,7 @@ use crate::fault::Failed;
 use crate::list::Numbers;
 use crate::source::Source;
 use crate::unread::Unread;
+use base_log::Log;
 use std::marker::Model;
 
 /// A source over bytes in memory, which tells them. It gives a bounded number of bytes a call, and chosen
@@ -20,6 +21,7 @@ pub struct MemorySource {
     unread: Unread,
     step: usize,
     failing: FailingCalls,
+    log: Log,
 }
 
 impl Model for MemorySource {
@@ -28,7 +30,7 @@ impl Model for MemorySource {
 
     ghost Value = { MemorySourceView };
 
-    ghost view = { λ s. record { left = s.unread; step = s.step; failing = s.failing } };
+    ghost view = { λ s. record { given = s.log.items; left = s.unread; step = s.step; failing = s.failing } };
 
     ghost invariant = { λ s. 1 ≤ s.step };
 }
@@ -38,23 +40,27 @@ impl MemorySource {
     /// in `fails` answer `Failed` and give nothing.
     pub fn new(bytes: Bytes, step: usize, fails: Numbers) -> MemorySource
         requires { 1 ≤ step }
-        ensures { result ≡ record { left = bytes.items; step = step; failing = not_called fails.items } }
+        ensures { result ≡ record { given = []; left = bytes.items; step = step; failing = not_called fails.items } }
     {
         MemorySource {
             unread: Unread::new(bytes),
             step,
             failing: FailingCalls::new(fails),
+            log: Log::new(),
         }
     }
 }
 
 impl Source for MemorySource {
+    ghost given = { λ s. s.given };
+
     ghost left = { λ s. Some s.left };
 
     ghost faults = { λ s. s.failing.faults };
 
     fn read(&mut self, buf: &mut [u8]) -> Result<usize, Failed>
         ensures bound { ReadsAtMost result buf.new }
+        ensures given { WriteAppends (Some self.old.given) (Some self.new.given) result buf.new }
         ensures bytes { ReadConsumes (Some self.old.left) (Some self.new.left) result buf.new }
         ensures cause { HasCause self.old.failing.faults self.new.failing.faults result }
         ensures most { IfOk result (λ n. n ≤ self.old.step) }
@@ -66,7 +72,9 @@ impl Source for MemorySource {
         if self.failing.next_fails() {
             return Err(Failed);
         }
-        Ok(self.unread.give(self.step, buf))
+        let n = self.unread.give(self.step, buf);
+        self.log.note(&buf[..n]);
+        Ok(n)
     }
 }
 
@@ -74,26 +82,33 @@ impl Source for MemorySource {
 #[derive(Drop)]
 pub struct SureSource {
     unread: Unread,
+    log: Log,
 }
 
 impl SureSource {
     /// A source that has `bytes` to give.
     pub fn new(bytes: Bytes) -> SureSource
+        ensures given { ⟦<SureSource as Source>⟧.given result ≡ [] }
         ensures left { ⟦<SureSource as Source>⟧.left result ≡ Some bytes.items }
         ensures faults { ⟦<SureSource as Source>⟧.faults result ≡ 0 }
     {
         SureSource {
             unread: Unread::new(bytes),
+            log: Log::new(),
         }
     }
 }
 
 impl Source for SureSource {
+    ghost given = { λ s. s.log.items };
+
     ghost left = { λ s. Some s.unread };
 
     ghost faults = { λ _. 0 };
 
     fn read(&mut self, buf: &mut [u8]) -> Result<usize, Failed> {
-        Ok(self.unread.give(usize::MAX, buf))
+        let n = self.unread.give(usize::MAX, buf);
+        self.log.note(&buf[..n]);
+        Ok(n)
     }
 }

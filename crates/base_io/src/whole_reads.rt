@@ -1,7 +1,8 @@
 //! A source read whole, to its end.
-ghost use Rattle.std.specs.Prelude.{◌≡◌, ◌<◌, ◌≤◌, length, IfOk, IfSome, OnOk, IsErrOf};
+ghost use Rattle.std.specs.Prelude.{◌≡◌, ◌<◌, ◌≤◌, ◌++◌, length, ⊤, IfOk, IfSome, OnOk, IsErrOf};
 ghost use Rattle.std.specs.Io.KnownBytes.{IsAtEnd};
 ghost use Rattle.base_io.specs.Counts.{Rose};
+ghost use Rattle.base_io.specs.Given.{Gave};
 
 use crate::bytes::Bytes;
 use crate::fault::NoMemory;
@@ -54,8 +55,11 @@ impl From<NoMemory> for ReadAllFault {
 /// that were read are gone.
 pub fn read_all<S: Source>(alloc: Global, source: &mut S) -> Result<Bytes, ReadAllFault>
     ensures all { IfOk result (λ bytes. IfSome (S.left source.old) (λ left. bytes.items ≡ left)) }
+    ensures given { IfOk result (λ bytes. S.given source.new ≡ S.given source.old ++ bytes.items) }
+    ensures gave { Gave (S.given source.old) (S.given source.new) (λ _. ⊤) }
     ensures end { OnOk result (IsAtEnd (S.left source.new)) }
     ensures short { IfOk result (λ bytes. length bytes.items ≤ MOST_BYTES_READ) }
+    ensures gave_more { IsErrOf result ReadAllFault.TooLong → Gave (S.given source.old) (S.given source.new) (λ given. MOST_BYTES_READ < length given) }
     ensures too_long { IsErrOf result ReadAllFault.TooLong → IfSome (S.left source.old) (λ left. MOST_BYTES_READ < length left) }
     ensures read_fault { IsErrOf result ReadAllFault.ReadFault → Rose (S.faults source.old) (S.faults source.new) }
     ensures later { S.faults source.old ≤ S.faults source.new }

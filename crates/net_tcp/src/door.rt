@@ -8,7 +8,7 @@ use crate::incoming::{Counts, TcpIncoming};
 use crate::letting_go::LetGo;
 use crate::outgoing::TcpOutgoing;
 use base_io::Failed;
-use net_log::Log;
+use base_log::Log;
 use net_traits::{Door, GivenBack, Halves, JoinedLink, Pair, put_back};
 use std::alloc::Global;
 use std::io::ErrorKind;

@@ -8,7 +8,7 @@ ghost use Rattle.net_tcp.specs.Fronts.{GivesFront};
 
 use crate::letting_go::{LetGo, let_go};
 use base_io::Failed;
-use net_log::Log;
+use base_log::Log;
 use net_traits::{GivenBack, Incoming};
 use std::io::{ErrorKind, Read};
 

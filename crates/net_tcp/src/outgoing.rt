@@ -4,7 +4,7 @@ ghost use Rattle.std.specs.Io.{WritesAtMost};
 
 use crate::letting_go::{LetGo, let_go};
 use base_io::Failed;
-use net_log::Log;
+use base_log::Log;
 use net_traits::Outgoing;
 use std::io::{ErrorKind, Write};
 use std::net::{OpenStream, Shutdown};

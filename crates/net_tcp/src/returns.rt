@@ -3,7 +3,7 @@ ghost use Rattle.std.specs.Prelude.{◌≡◌, [], ◌∷◌, ◌++◌};
 ghost use Rattle.net_traits.specs.Links.{counted_if, has_ended, has_failed};
 ghost use Rattle.net_tcp.specs.Returns.{returned, told_link};
 
-use net_log::Log;
+use base_log::Log;
 
 /// How many reads of a link failed, how many writes did, and how many reads found the end; and, for contracts alone, the bytes
 /// that its reads gave and that its writes took.

@@ -8,7 +8,7 @@ ghost use Rattle.net_tcp.specs.Returns.{told_link};
 
 use crate::returns::{Counts, Returns};
 use base_io::{Failed, NoMemory};
-use net_log::Log;
+use base_log::Log;
 use net_traits::Link;
 use std::alloc::Global;
 use std::io::{ErrorKind, Read, Write};

@@ -7,3 +7,4 @@ abbrev pub invariant-loop : goal.invariant-loop
 invariant-loop g l =
     Keeps (g.R.Read.remaining l.initial.self.inner) (g.R.Read.remaining l.self.inner)
     × (l.self.faults ≡ l.initial.self.faults)
+    × (l.self.log.items ≡ l.initial.self.log.items)

@@ -28,12 +28,12 @@ use denote.Triple.Entry.{on_entry}
 use denote.Triple.Spec.{Meets, triple_of}
 use denote.Triple.Table.{entered}
 use denote.Triple.Walked.{says, Stays, stay_ref, stay_none_slice, walk_of, AllGo, Goes-ref, Goes-none_slice, Walks, ends_at, walked, walk_Meets}
-use Rattle.net_log.specs.declared.log.Log.{Log}
-use Rattle.net_log.specs.contracts.log.Log as T
-use Rattle.net_log.specs.contracts.log.Log.note.Key.{name as #it}
-use Rattle.net_log.specs.contracts.log.Log.note as it
-use Rattle.net_log.proofs.log.Log.note.Statement as stated
-use Rattle.net_log.proofs.log.Log.note.Code as code
+use Rattle.base_log.specs.declared.log.Log.{Log}
+use Rattle.base_log.specs.contracts.log.Log as T
+use Rattle.base_log.specs.contracts.log.Log.note.Key.{name as #it}
+use Rattle.base_log.specs.contracts.log.Log.note as it
+use Rattle.base_log.proofs.log.Log.note.Statement as stated
+use Rattle.base_log.proofs.log.Log.note.Code as code
 
 abbrev Arg : Type 0
 Arg = MutBor Log × (Bor (List ℕ) × Unit {0})

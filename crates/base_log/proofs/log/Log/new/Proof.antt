@@ -20,11 +20,11 @@ use denote.Triple.Entry.{on_entry, alive}
 use denote.Triple.Spec.{Meets, triple_of}
 use denote.Triple.Table.{entered}
 use denote.Triple.Walked.{says, Stays, walk_of, Walks, ends_at, walked, walk_Meets}
-use Rattle.net_log.specs.contracts.log.Log.new.Key.{name as key}
-use Rattle.net_log.specs.contracts.log.Log.new as f
-use Rattle.net_log.proofs.log.Log.new.Statement as stated
-use Rattle.net_log.proofs.log.Log.new.Code as code
-use Rattle.net_log.specs.contracts.log.Log as made
+use Rattle.base_log.specs.contracts.log.Log.new.Key.{name as key}
+use Rattle.base_log.specs.contracts.log.Log.new as f
+use Rattle.base_log.proofs.log.Log.new.Statement as stated
+use Rattle.base_log.proofs.log.Log.new.Code as code
+use Rattle.base_log.specs.contracts.log.Log as made
 
 abbrev stayed : Stays (f.ended).signature.params (f.ended).kept
 stayed = tt

@@ -28,12 +28,12 @@ use denote.Triple.Entry.{on_entry}
 use denote.Triple.Spec.{Meets, triple_of}
 use denote.Triple.Table.{entered}
 use denote.Triple.Walked.{says, Stays, stay_ref, stay_dropped, walk_of, AllGo, Goes-ref, Goes-dropped, Walks, ends_at, walked, walk_Meets}
-use Rattle.net_log.specs.declared.log.Log.{Log}
-use Rattle.net_log.specs.contracts.log.Log as T
-use Rattle.net_log.specs.contracts.log.Log.note_number.Key.{name as #it}
-use Rattle.net_log.specs.contracts.log.Log.note_number as it
-use Rattle.net_log.proofs.log.Log.note_number.Statement as stated
-use Rattle.net_log.proofs.log.Log.note_number.Code as code
+use Rattle.base_log.specs.declared.log.Log.{Log}
+use Rattle.base_log.specs.contracts.log.Log as T
+use Rattle.base_log.specs.contracts.log.Log.note_number.Key.{name as #it}
+use Rattle.base_log.specs.contracts.log.Log.note_number as it
+use Rattle.base_log.proofs.log.Log.note_number.Statement as stated
+use Rattle.base_log.proofs.log.Log.note_number.Code as code
 
 abbrev Arg : Type 0
 Arg = MutBor Log × (ℕ × Unit {0})

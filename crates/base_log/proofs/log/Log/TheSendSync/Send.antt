@@ -1,7 +1,7 @@
 -- A log owns nothing, so it may go to another thread.
 use denote.RattleType.{RattleType}
 use denote.Param.Send.{IsSend, owning_send, sendable}
-use Rattle.net_log.specs.contracts.log.Log.{the_row, the_type}
+use Rattle.base_log.specs.contracts.log.Log.{the_row, the_type}
 
 pub send : IsSend the_row
 send = owning_send the_type tt (λ d. tt) (λ k x w. tt)
