@@ -1,10 +1,10 @@
 -- Moves of a device move each of its sessions by moves of acknowledged delivery.
-use Rattle.std.proofs.Common.{◌≡◌, ◌≢◌, ℕ, ◌≤◌, Bool, true, false, ◌&&◌, if◌then◌else◌, List, [], ◌∷◌, ◌++◌, length, take, drop, refl, sym, ap, ◌∙◌, subst, arith, Option, None, Some}
+use Rattle.std.proofs.Common.{◌≡◌, ◌≢◌, ℕ, ◌+◌, ◌≤◌, Bool, true, false, ◌&&◌, if◌then◌else◌, List, [], ◌∷◌, ◌++◌, length, take, drop, refl, sym, ap, ◌∙◌, subst, arith, None, Some}
 use Rattle.std.proofs.lemmas.List.{take_all}
 use Rattle.std.proofs.lemmas.Option.{none-some}
 use Rattle.std.specs.List.{Contains}
 use Rattle.sm_acks.specs.Delivery.{Acknowledge, beginning, Cut, Direction, Handle, Move, Moves, Put, Reaches, Resume, State}
-use Rattle.sim_2_links.proofs.CutLinks.{not_true, some_one}
+use Rattle.sim_2_links.proofs.CutLinks.{some_one}
 use Rattle.sim_2_links.proofs.Entries.{altered, at_other, is_has}
 use Rattle.sim_2_links.proofs.Heard.{IsIn, in_own, same_session}
 use Rattle.sim_2_links.proofs.Late.{late_if}
@@ -13,10 +13,10 @@ use Rattle.sim_2_links.proofs.ReadBound.{at_bound}
 use Rattle.sim_2_links.proofs.Resumption.{Asks, asks}
 use Rattle.sim_2_links.proofs.Served.{IsOn, on_row}
 use Rattle.sim_2_links.proofs.Tables.{left_down_whole, left_up_whole}
-use Rattle.sim_2_links.specs.Words.{Ack, Bound, Down, DownWord, ResumeAt, St, Up, UpWord, up_stanzas, down_stanzas}
+use Rattle.sim_2_links.specs.Words.{Bound, ResumeAt, up_stanzas, down_stanzas}
 use Rattle.sim_2_links.specs.Wires.{down_whole, is_flowing, left_down, left_up, up_whole}
-use Rattle.sim_2_links.specs.Stages.{AsksResume, Binds, Conn, Ending, foot_of}
-use Rattle.sim_2_links.specs.Views.{Row, Session, Table, View, alter, carries, cut_if, has, with_at}
+use Rattle.sim_2_links.specs.Stages.{AsksResume, Binds, Ending, foot_of}
+use Rattle.sim_2_links.specs.Views.{Session, Table, View, alter, carries, cut_if, has}
 use Rattle.sim_2_links.specs.LinkMoves.{IsCut, IsDownCount, IsDownRequest, IsDownStanza, IsUpCount, IsUpRequest, IsUpStanza, acked_if, handled_if, heard_if, read_if, stated_if, told_if, ways_cut}
 use Rattle.sim_2_links.specs.SessionMoves.{IsAskResume, IsBound, IsClientPut, IsDetached, IsEnabled, IsReadBound, IsReadEnabled, IsReadResumed, IsResumedHere, IsResumedLate, lost_if, put_if, resumed_if, unread}
 use Rattle.sim_2_links.specs.PutMoves.{IsClientQueued, IsServerPut, IsServerQueued}
@@ -33,7 +33,7 @@ one : {A : Type 0} (move : Move A) (d next : Direction A) → Moves move d next 
 one move d next made = record { moves = move ∷ []; reaches = (next, made, refl) }
 
 two : {A : Type 0} (first second : Move A) (d mid next : Direction A) → Moves first d mid → Moves second mid next → Delivers d next
-two first second d mid next made more = record { moves = first ∷ second ∷ []; reaches = (mid, made, next, more, refl) }
+two first second d mid next made more = record { moves = first ∷ second ∷ []; reaches = (mid, made, (next, more, refl)) }
 
 reaches_both : {A : Type 0} (first second : List (Move A)) (d mid last : Direction A) → Reaches first d mid → Reaches second mid last → Reaches (first ++ second) d last
 reaches_both [] second d mid last is more = subst (λ x. Reaches second x last) is more
@@ -334,8 +334,8 @@ move_goes {A = A} (Demands k) v next m kept = unchanged v next (λ p. ap (λ (w 
 pub tables_both : {A : Type 0} (a b c : Table (Session A)) → AreOnward a b → AreOnward b c → AreOnward a c
 tables_both a b c first second p s is =
     let (t, there, goes) = first p s is in
-    let (u, then, more) = second p t there in
-    (u, then, onward_both s t u goes more)
+    let (u, here, more) = second p t there in
+    (u, here, onward_both s t u goes more)
 
 along : {A : Type 0} (moves : List (LinkMove A)) (v last : View A) → LinkKept v → LinkReaches moves v last → AreOnward v.sessions last.sessions
 along {A = A} [] v last kept same = unchanged v last (λ p. ap (λ (w : View A). w.sessions p) same)

@@ -1,5 +1,5 @@
 -- A session, and what moves make of it.
-use Rattle.std.specs.Prelude.{◌≡◌, ℕ, List, Option, Some}
+use Rattle.std.specs.Prelude.{◌≡◌, ℕ, List, Some}
 use Rattle.sm_acks.specs.Delivery.{Direction, Move, Reaches}
 use Rattle.sim_2_links.specs.Views.{Session, Table}
 
