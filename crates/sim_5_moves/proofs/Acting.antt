@@ -20,9 +20,10 @@ use Rattle.sim_1_applications.specs.Devices.{AppWorld, Device, Sessions}
 use Rattle.sim_1_applications.specs.Events.{Act, At, May, Reaches, acted, around, own, taken_by}
 use Rattle.sim_1_applications.specs.Histories.{spoken_in}
 use Rattle.sim_1_applications.specs.Runs.{owned_of}
+use Rattle.sim_5_moves.proofs.OneOwner.{of_owner}
 use Rattle.sim_5_moves.proofs.ReplyEvents.{set_long}
 use Rattle.sim_5_moves.specs.Moves.{ActsAlone, IsOneDevice}
-use Rattle.sim_5_moves.specs.Running.{Bounds, DeviceSimulates, IsOwned, WorldSimulates, history_for, keep_in, names_of}
+use Rattle.sim_5_moves.specs.Running.{Bounds, DeviceSimulates, IsOwned, Leads, RunsOn, WorldSimulates, history_for, keep_in, names_of}
 
 -- ---- lists
 
@@ -71,8 +72,18 @@ module _ (schedule : WireView) (b : Bounds) (says : ℕ) (w : ItemWorld) (x : Ap
       same : r.represents.device ≡ s.device
       same = same_Some r.represents.device s.device (sym r.represents.there ∙ sym (alone.beside j other) ∙ s.there)
 
-  pub acted_on : WorldSimulates schedule b (says + length (spoken_in a.events)) next following
-  acted_on = record {
+  abbrev Comes : (j : ℕ) (p : Owned) → IsOwned schedule j p → Type 0
+  Comes j p is = (e : DeviceSimulates schedule next following j p) × Leads (runs.devices j p is).view e.view
+
+  each_comes : (j : ℕ) (p : Owned) (is : IsOwned schedule j p) → Comes j p is
+  unfolding other_runs
+  each_comes =
+      either (λ j. (p : Owned) (is : IsOwned schedule j p) → Comes j p is) i
+      (of_owner schedule i (Comes i) o a.owned (a.device, a.leads))
+      (λ j other p is. (other_runs j p is other, ([], refl)))
+
+  abbrev goes_on : WorldSimulates schedule b (says + length (spoken_in a.events)) next following
+  goes_on = record {
     led = record {
       events = runs.led.events ++ a.events;
       reaches = reaches_both runs.led.events a.events _ x following runs.led.reaches a.reaches;
@@ -84,10 +95,7 @@ module _ (schedule : WireView) (b : Bounds) (says : ℕ) (w : ItemWorld) (x : Ap
         (λ e at. subst (λ (y : Device). y.reading.asked ≤ b.pages + 1) (same_Some d e (sym (set_here x.devices i a.old d a.there) ∙ at)) a.asked)
         (λ j other e at. runs.asked j e (sym (set_elsewhere x.devices i j d other) ∙ at));
     dialled = subst (λ n. n ≤ b.dials) (sym alone.many) runs.dialled;
-    devices =
-        either (λ j. (p : Owned) → IsOwned schedule j p → DeviceSimulates schedule next following j p) i
-        (λ p is. subst (DeviceSimulates schedule next following i) (same_Some o p (sym a.owned ∙ is)) a.device)
-        (λ j other p is. other_runs j p is other);
+    devices = λ j p is. (each_comes j p is).0;
     many = alone.devices ∙ runs.many;
     many_there = set_long x.devices i d ∙ runs.many_there;
     wires = λ position wire at. let was = alone.wires position wire at in let of = runs.wires position was.0 was.1 in (of.0, subst (λ n. IsOwned schedule n of.0) (sym was.2) of.1);
@@ -99,6 +107,9 @@ module _ (schedule : WireView) (b : Bounds) (says : ℕ) (w : ItemWorld) (x : Ap
     stands = subst (λ n. ServerStateStands n next.server) (sym alone.many) (subst (ServerStateStands (length w.wires)) (sym alone.server) runs.stands);
     within = subst (λ n. IsWithin n next.server) (sym alone.many) (subst (IsWithin (length w.wires)) (sym alone.server) runs.within);
   }
+
+  pub acted_on : RunsOn schedule b says w x runs (says + length (spoken_in a.events)) next following
+  acted_on = record { runs = goes_on; links = λ j p is. (each_comes j p is).1 }
 
 -- ---- an act behind drifts
 

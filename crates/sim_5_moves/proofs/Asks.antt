@@ -122,7 +122,7 @@ module _ (schedule : WireView) (right : IsWireSchedule schedule) (b : Bounds) (s
       subst (WorldFollows who r.logins (moved m w) r.view) (asks_put (keep_in schedule) (history_for schedule x.takes o) c.client r.device most before)
       (ask_in who r.logins w r.view c r.represents (prompt_runs awaits r.view r.prompt) r.represents.there (within schedule right b small says w x runs i o owned) most (omega (arith, low)) taken)
 
-  abbrev g : DeviceGoes schedule (moved m w) i o (history_for schedule x.takes o) (Says z ∷ []) r.device.sessions
+  abbrev g : DeviceGoes schedule (moved m w) i o (history_for schedule x.takes o) (Says z ∷ []) r.device.sessions r.view
   g = spoken.g schedule b says w x runs i o owned m t z (Query asked) moved_is read built timely follows
 
   abbrev at : Sessions
@@ -169,7 +169,7 @@ module _ (schedule : WireView) (right : IsWireSchedule schedule) (b : Bounds) (s
   bounded : r.device.reading.asked + 1 ≤ b.pages + 1
   bounded = let few = more r.device r.there in omega (arith, few)
 
-  pub request_runs : MoveSimulates schedule b says m w x
+  pub request_runs : MoveSimulates schedule b says m w x runs
   request_runs =
       move_runs schedule b says m w x runs i o owned
       (spoken.one_device schedule b says w x runs i o owned m t z (Query asked) moved_is read built timely follows)
@@ -197,7 +197,7 @@ module _ (schedule : WireView) (right : IsWireSchedule schedule) (b : Bounds) (s
 
 -- of whichever device of the world
 pub requests_run : (schedule : WireView) (b : Bounds) (says : ℕ) (w : ItemWorld) (x : AppWorld) → IsWireSchedule schedule → AreSmall b → (runs : WorldSimulates schedule b says w x) → (i : ℕ) (o : Owned) → IsOwned schedule i o → (d : ItemDevice) → slice_get w.devices i ≡ Some d
-    → (most : ℕ) → MayItem (CatchUp i most) → IsInBounds b says (CatchUp i most) w x → catch_up_answer d.client ≡ Ok tt → MoveSimulates schedule b says (CatchUp i most) w x
+    → (most : ℕ) → MayItem (CatchUp i most) → IsInBounds b says (CatchUp i most) w x → catch_up_answer d.client ≡ Ok tt → MoveSimulates schedule b says (CatchUp i most) w x runs
 requests_run schedule b says w x right small runs i o owned d there most may more taken =
     let r = runs.devices i o owned in
     let same = same_Some d r.represents.device (sym there ∙ r.represents.there) in

@@ -67,7 +67,7 @@ use Rattle.sim_5_devices.specs.Logged.{puts_of}
 use Rattle.sim_4_links_follow.proofs.Changes.{under_position}
 use Rattle.sim_5_moves.proofs.BuiltAlong.{built_along}
 use Rattle.sim_5_moves.specs.Going.{ArePutBuilt, DeviceGoes}
-use Rattle.sim_5_moves.specs.Running.{AreSmall, Bounds, DeviceSimulates, IsInBounds, IsOwned, MoveSimulates, WorldSimulates, history_for, keep_in}
+use Rattle.sim_5_moves.specs.Running.{AreSmall, Bounds, DeviceSimulates, IsInBounds, IsOwned, MoveSimulates, RunsOn, WorldSimulates, history_for, keep_in}
 use Rattle.xml_writer.specs.Items.{ItemOut}
 
 -- ---- small facts
@@ -170,10 +170,11 @@ module _ (schedule : WireView) (b : Bounds) (small : AreSmall b) (says : ℕ) (w
   done : (end : Sessions) × DoesInterleaved stanzas_read (labels_of follows.moves) old.device.sessions end × IsDevice stanzas_read (seen follows.next) end
   done = moves_done stanzas_read follows.moves old.view follows.next old.device.sessions p.shown.reached follows.leads old.sessions
 
-  abbrev goes_so : DeviceGoes schedule after i o history (noted t.out.notes) old.device.sessions
+  abbrev goes_so : DeviceGoes schedule after i o history (noted t.out.notes) old.device.sessions old.view
   goes_so = record {
     logins = old.logins;
     view = follows.next;
+    leads = (follows.moves, follows.leads);
     reached = reached_along follows.moves old.view follows.next p.shown.reached follows.leads;
     in_time = paging_stays follows.moves old.view follows.next old.device.sessions old.in_time follows.leads follows.prompt old.sessions (subst (λ ds. AreInTime ds old.device.sessions.now) (sym follows.does) timely);
     prompt = prompt_stays follows.moves old.view follows.next old.prompt follows.leads follows.prompt;
@@ -255,15 +256,16 @@ module _ (schedule : WireView) (b : Bounds) (small : AreSmall b) (says : ℕ) (w
     said = subst (λ l. says + length l ≤ b.says) (sym silent) (let said = runs.said in omega (arith, said));
     asked = asked_still;
     device = device_runs;
+    leads = goes_so.leads;
     others = λ j q is other.
         subst (λ v. Represents (identity_at schedule j q) (runs.devices j q is).logins v (runs.devices j q is).view) (moved_so w position d wire z n)
         (down_leaves (identity_at schedule j q) (runs.devices j q is).logins w (runs.devices j q is).view (runs.devices j q is).represents position wire n.there (λ same. other (sym same)));
   }
 
-  world_runs : WorldSimulates schedule b (says + 0) (moved (Down position) w) next_world
+  world_runs : RunsOn schedule b says w x runs (says + 0) (moved (Down position) w) next_world
   world_runs =
-      subst (λ v. WorldSimulates schedule b (says + 0) v next_world) (sym (moved_so w position d wire z n))
-      (subst (λ l. WorldSimulates schedule b (says + length l) after next_world) silent (acted_on schedule b says w x runs i o after next acts))
+      subst (λ v. RunsOn schedule b says w x runs (says + 0) v next_world) (sym (moved_so w position d wire z n))
+      (subst (λ l. RunsOn schedule b says w x runs (says + length l) after next_world) silent (acted_on schedule b says w x runs i o after next acts))
 
   elsewhere : (j : ℕ) (e f : Device) → slice_get x.devices j ≡ Some e → slice_get next_world.devices j ≡ Some f → (u : ItemWire) → slice_get w.wires position ≡ Some u → u.device ≢ j
       → (f.reading.asked ≡ e.reading.asked) × (IsUnanswered e → IsUnanswered f)
@@ -272,12 +274,13 @@ module _ (schedule : WireView) (b : Bounds) (small : AreSmall b) (says : ℕ) (w
       let is : e ≡ f = same_Some e f (sym at ∙ sym (set_elsewhere x.devices i j next (λ same. mine (sym same))) ∙ after_at) in
       subst (λ y. (y.reading.asked ≡ e.reading.asked) × (IsUnanswered e → IsUnanswered y)) is (refl, λ u. u)
 
-  pub down_runs : MoveSimulates schedule b says (Down position) w x
+  pub down_runs : MoveSimulates schedule b says (Down position) w x runs
   down_runs = record {
     events = events;
     next = next_world;
     reaches = reaches;
     spoken = silent;
     asked = λ j e f at after_at. (let l = leads j e f at after_at in ((l.still, l.few), elsewhere j e f at after_at));
-    runs = world_runs;
+    runs = world_runs.runs;
+    links = world_runs.links;
   }

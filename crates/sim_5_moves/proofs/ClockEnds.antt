@@ -105,16 +105,16 @@ module _ (schedule : WireView) (b : Bounds) (says : ℕ) (w : ItemWorld) (x : Ap
       within = subst (λ n. IsWithin n gone) (sym many_wires) (gone_within (position + 1) (length w.wires) later later_within);
     }
 
-    due_runs : MoveSimulates schedule b says (UpEnd position) w x
+    due_runs : MoveSimulates schedule b says (UpEnd position) w x runs
     due_runs = quiet_move schedule b says w x runs (UpEnd position) 0 refl (λ i d e same. same) (subst (λ (a : ItemWorld). SilentWorld schedule b w x a 0) (sym is_after) quiet)
 
-  by_due : (wire : ItemWire) → slice_get w.wires position ≡ Some wire → (c : Bool) → is_end_due wire.up ≡ c → MoveSimulates schedule b says (UpEnd position) w x
+  by_due : (wire : ItemWire) → slice_get w.wires position ≡ Some wire → (c : Bool) → is_end_due wire.up ≡ c → MoveSimulates schedule b says (UpEnd position) w x runs
   by_due wire there false early = told_runs schedule b says w x runs position wire there early
   by_due wire there true due = due_runs wire there due
 
-  by_wire : (e : Option ItemWire) → slice_get w.wires position ≡ e → MoveSimulates schedule b says (UpEnd position) w x
+  by_wire : (e : Option ItemWire) → slice_get w.wires position ≡ e → MoveSimulates schedule b says (UpEnd position) w x runs
   by_wire None none = nobody_runs schedule b says w x runs (UpEnd position) none
   by_wire (Some wire) there = by_due wire there (is_end_due wire.up) refl
 
-  pub end_runs : MoveSimulates schedule b says (UpEnd position) w x
+  pub end_runs : MoveSimulates schedule b says (UpEnd position) w x runs
   end_runs = by_wire (slice_get w.wires position) refl

@@ -53,7 +53,7 @@ use Rattle.cmd_network.specs.Positions.{changed_where}
 use Rattle.cmd_world.specs.Worlds.{client_entropy, server_entropy}
 use Rattle.sim_4_links_follow.proofs.StandMoves.{move_stands, stands_dialled}
 use Rattle.sim_4_links_follow.specs.Standing.{ServerStands}
-use Rattle.sim_5_moves.specs.Running.{AreSmall, Bounds, DeviceSimulates, IsInBounds, IsOwned, MoveSimulates, WorldSimulates, keep_in, names_of}
+use Rattle.sim_5_moves.specs.Running.{AreSmall, Bounds, DeviceSimulates, IsInBounds, IsOwned, MoveSimulates, RunsOn, WorldSimulates, keep_in, names_of}
 use Rattle.xml_writer.specs.Items.{ItemOut}
 
 -- ---- a list of one more
@@ -199,26 +199,28 @@ module _ (schedule : WireView) (right : IsWireSchedule schedule) (b : Bounds) (s
     taken : Taken x
     taken = taken_along runs.led.events (begins schedule) x runs.led.reaches (taken_beginning (keep_of schedule.version) (accounts_of (steps_in schedule)) (map (λ (p : Owned). p.account) (owned_of schedule)))
 
-    dial_runs : MoveSimulates schedule b says (Dial i mine yours) w x
+    dial_runs : MoveSimulates schedule b says (Dial i mine yours) w x runs
     dial_runs =
-        let q : SilentSimulates schedule b says x after = quiet_runs schedule b says w x runs taken after 0 quiet in
+        let q : SilentSimulates schedule b says w x runs after = quiet_runs schedule b says w x runs taken after 0 quiet in
+        let on : RunsOn schedule b says w x runs (says + 0) (moved (Dial i mine yours) w) q.next =
+        subst (λ k. RunsOn schedule b says w x runs k (moved (Dial i mine yours) w) q.next) (let same : says ≡ says + 0 = omega arith in same)
+        (subst (λ v. RunsOn schedule b says w x runs says v q.next) (sym moved_so) q.on) in
         record {
           events = q.events;
           next = q.next;
           reaches = q.reaches;
           spoken = q.silent;
           asked = q.asked;
-          runs =
-              subst (λ k. WorldSimulates schedule b k (moved (Dial i mine yours) w) q.next) (let same : says ≡ says + 0 = omega arith in same)
-              (subst (λ v. WorldSimulates schedule b says v q.next) (sym moved_so) q.runs);
+          runs = on.runs;
+          links = on.links;
         }
 
   -- ---- of a device, or of nobody
 
-  pub each_dial : MoveSimulates schedule b says (Dial i mine yours) w x
+  pub each_dial : MoveSimulates schedule b says (Dial i mine yours) w x runs
   each_dial = go (slice_get w.devices i) refl
     where
-      go : (e : Option ItemDevice) → slice_get w.devices i ≡ e → MoveSimulates schedule b says (Dial i mine yours) w x
+      go : (e : Option ItemDevice) → slice_get w.devices i ≡ e → MoveSimulates schedule b says (Dial i mine yours) w x runs
       go None none = nobody_runs schedule b says w x runs (Dial i mine yours) none
       go (Some e) there =
           let within = slice_get_within w.devices i e there in

@@ -29,7 +29,7 @@ use Rattle.xml_writer.specs.Items.{ItemOut}
 
 module _ (schedule : WireView) (b : Bounds) (small : AreSmall b) (says : ℕ) (w : ItemWorld) (x : AppWorld) (runs : WorldSimulates schedule b says w x) (ground : IsGround schedule x) (position : ℕ) (bounds : IsInBounds b says (DownMove position) w x) where
   abbrev Runs : Type 0
-  Runs = MoveSimulates schedule b says (DownMove position) w x
+  Runs = MoveSimulates schedule b says (DownMove position) w x runs
 
   -- ---- on a connection of a device
 

@@ -62,7 +62,7 @@ module _ (schedule : WireView) (b : Bounds) (says : ℕ) (w : ItemWorld) (x : Ap
       wires = where_same (cut_at up down) (λ v. refl) (Some position) w.wires;
     }
 
-    cut_runs : (up down : ℕ) → MoveSimulates schedule b says (Cut position up down) w x
+    cut_runs : (up down : ℕ) → MoveSimulates schedule b says (Cut position up down) w x runs
     cut_runs up down =
         session_step_runs schedule b says (Cut position up down) w x runs i o owned (moved (Cut position up down) w)
         (record {
@@ -85,7 +85,7 @@ module _ (schedule : WireView) (b : Bounds) (says : ℕ) (w : ItemWorld) (x : Ap
     abbrev ended : ItemWorld
     ended = end_heard position i true d w
 
-    told_runs : moved (DownEnd position) w ≡ ended → MoveSimulates schedule b says (DownEnd position) w x
+    told_runs : moved (DownEnd position) w ≡ ended → MoveSimulates schedule b says (DownEnd position) w x runs
     told_runs is =
         session_step_runs schedule b says (DownEnd position) w x runs i o owned ended
         (record {
@@ -102,10 +102,10 @@ module _ (schedule : WireView) (b : Bounds) (says : ℕ) (w : ItemWorld) (x : Ap
         })
 
     -- it isn't the device's connection any more, or the end isn't due
-    nothing_runs : moved (DownEnd position) w ≡ w → MoveSimulates schedule b says (DownEnd position) w x
+    nothing_runs : moved (DownEnd position) w ≡ w → MoveSimulates schedule b says (DownEnd position) w x runs
     nothing_runs same = still_runs schedule b says w x runs (DownEnd position) same refl
 
-    end_runs : MoveSimulates schedule b says (DownEnd position) w x
+    end_runs : MoveSimulates schedule b says (DownEnd position) w x runs
     end_runs = by (has_wire position d.here) refl
       where
         ends : ItemWire → ItemDevice → ItemWorld → ItemWorld
@@ -114,26 +114,26 @@ module _ (schedule : WireView) (b : Bounds) (says : ℕ) (w : ItemWorld) (x : Ap
         at_it : moved (DownEnd position) w ≡ (if has_wire position d.here then ends wire d w else w)
         at_it = ap (λ n. at_wire position ends n w) there ∙ ap (λ n. at_device position ends wire n w) old.represents.there
 
-        due : (at : Bool) → is_end_due wire.down ≡ at → moved (DownEnd position) w ≡ ends wire d w → MoveSimulates schedule b says (DownEnd position) w x
+        due : (at : Bool) → is_end_due wire.down ≡ at → moved (DownEnd position) w ≡ ends wire d w → MoveSimulates schedule b says (DownEnd position) w x runs
         due true e is = told_runs (is ∙ ap (λ n. end_heard position i n d w) e)
         due false e is = nothing_runs (is ∙ ap (λ n. end_heard position i n d w) e)
 
-        by : (at : Bool) → has_wire position d.here ≡ at → MoveSimulates schedule b says (DownEnd position) w x
+        by : (at : Bool) → has_wire position d.here ≡ at → MoveSimulates schedule b says (DownEnd position) w x runs
         by true e = due (is_end_due wire.down) refl (at_it ∙ ap (λ n. if n then ends wire d w else w) e)
         by false e = nothing_runs (at_it ∙ ap (λ n. if n then ends wire d w else w) e)
 
   -- ---- on any
 
-  pub each_cut : (position up down : ℕ) → MoveSimulates schedule b says (Cut position up down) w x
+  pub each_cut : (position up down : ℕ) → MoveSimulates schedule b says (Cut position up down) w x runs
   each_cut position up down = go (slice_get w.wires position) refl
     where
-      go : (n : Option ItemWire) → slice_get w.wires position ≡ n → MoveSimulates schedule b says (Cut position up down) w x
+      go : (n : Option ItemWire) → slice_get w.wires position ≡ n → MoveSimulates schedule b says (Cut position up down) w x runs
       go None none = nobody_runs schedule b says w x runs (Cut position up down) none
       go (Some wire) there = let of = runs.wires position wire there in cut_runs position wire there of.0 of.1 up down
 
-  pub each_end : (position : ℕ) → MoveSimulates schedule b says (DownEnd position) w x
+  pub each_end : (position : ℕ) → MoveSimulates schedule b says (DownEnd position) w x runs
   each_end position = go (slice_get w.wires position) refl
     where
-      go : (n : Option ItemWire) → slice_get w.wires position ≡ n → MoveSimulates schedule b says (DownEnd position) w x
+      go : (n : Option ItemWire) → slice_get w.wires position ≡ n → MoveSimulates schedule b says (DownEnd position) w x runs
       go None none = nobody_runs schedule b says w x runs (DownEnd position) none
       go (Some wire) there = let of = runs.wires position wire there in end_runs position wire there of.0 of.1

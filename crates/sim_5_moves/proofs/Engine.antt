@@ -34,14 +34,16 @@ use Rattle.sim_1_applications.specs.Histories.{spoken_in}
 use Rattle.sim_1_applications.specs.Kept.{Taken}
 use Rattle.sim_1_applications.specs.Runs.{begins, owned_of}
 use Rattle.sim_5_moves.proofs.Going.{goes}
+use Rattle.sim_5_moves.proofs.OneOwner.{of_owner}
 use Rattle.sim_5_moves.specs.Going.{AllBuilt, DeviceGoes}
-use Rattle.sim_5_moves.specs.Running.{Bounds, DeviceSimulates, IsOwned, WorldSimulates, history_for, keep_in}
+use Rattle.sim_5_moves.specs.Running.{Bounds, DeviceSimulates, IsOwned, Leads, RunsOn, WorldSimulates, history_for, keep_in}
 use Rattle.xml_writer.specs.Items.{ItemOut}
 
 -- what a device is behind the move, but for its place in the world of the applications
-pub record Stands (schedule : WireView) (after : ItemWorld) (x : AppWorld) (i : ℕ) (d : Device) (last : Sessions) (o : Owned) : Type 0 where
+pub record Stands (schedule : WireView) (after : ItemWorld) (x : AppWorld) (i : ℕ) (d : Device) (last : Sessions) (o : Owned) (from : View ItemOut) : Type 0 where
   pub logins : ℕ → Login
   pub view : View ItemOut
+  pub leads : Leads from view
   pub in_time : PagingReached paging_here view
   pub prompt : PromptReached awaits view
   pub represents : Represents (identity_at schedule i o) logins after view
@@ -53,10 +55,14 @@ pub record Stands (schedule : WireView) (after : ItemWorld) (x : AppWorld) (i : 
   pub pages : represents.device.client.pages ≡ d.reading.asked
   pub flags : FlagsRepresent (identity_at schedule i o).account o.device after.server last
 
-abbrev IsSo : WireView → ItemWorld → AppWorld → ℕ → Device → Sessions → Type 0
-IsSo schedule after x i d last = (o : Owned) × IsOwned schedule i o × Stands schedule after x i d last o
+abbrev IsSo : (schedule : WireView) → ItemWorld → AppWorld → ((i : ℕ) (o : Owned) → IsOwned schedule i o → View ItemOut) → ℕ → Device → Sessions → Type 0
+IsSo schedule after x views i d last = (o : Owned) × (is : IsOwned schedule i o) × Stands schedule after x i d last o (views i o is)
 
 module _ (schedule : WireView) (b : Bounds) (says : ℕ) (w : ItemWorld) (x : AppWorld) (runs : WorldSimulates schedule b says w x) (taken : Taken x) (after : ItemWorld) (passed : ℕ) (quiet : SilentWorld schedule b w x after passed) where
+  -- its links before the move
+  abbrev views : (i : ℕ) (o : Owned) → IsOwned schedule i o → View ItemOut
+  views i o is = (runs.devices i o is).view
+
   module _ (i : ℕ) (o : Owned) (owned : IsOwned schedule i o) where
     abbrev old : DeviceSimulates schedule w x i o
     old = runs.devices i o owned
@@ -64,13 +70,13 @@ module _ (schedule : WireView) (b : Bounds) (says : ℕ) (w : ItemWorld) (x : Ap
     abbrev move : SilentDevice schedule w x i o old after
     move = quiet.devices i o owned old
 
-    gone : DeviceGoes schedule after i o (history_for schedule x.takes o) [] old.device.sessions
+    gone : DeviceGoes schedule after i o (history_for schedule x.takes o) [] old.device.sessions old.view
     gone = goes schedule w after x i o (history_for schedule x.takes o) [] old move.logins move.follows tt tt old.built
 
     bare : IsNamedBare old.device.sessions
     bare = λ stage. let s = (taken.devices i old.device old.there).sessions.now.is_session in (s.available stage, s.carbons stage)
 
-    old_stands : (y : HasSessionSteps old.device) × IsSo schedule after x i old.device y.last
+    old_stands : (y : HasSessionSteps old.device) × IsSo schedule after x views i old.device y.last
     old_stands =
         let user = move.user gone.represents.device gone.represents.there in
         let xs = gone.interleaved.0 in
@@ -82,6 +88,7 @@ module _ (schedule : WireView) (b : Bounds) (says : ℕ) (w : ItemWorld) (x : Ap
             record {
               logins = gone.logins;
               view = gone.view;
+              leads = gone.leads;
               in_time = gone.in_time;
               prompt = gone.prompt;
               represents = gone.represents;
@@ -96,42 +103,48 @@ module _ (schedule : WireView) (b : Bounds) (says : ℕ) (w : ItemWorld) (x : Ap
           ),
         )
 
-  device_stands : (i : ℕ) (d : Device) → slice_get x.devices i ≡ Some d → (y : HasSessionSteps d) × IsSo schedule after x i d y.last
+  device_stands : (i : ℕ) (d : Device) → slice_get x.devices i ≡ Some d → (y : HasSessionSteps d) × IsSo schedule after x views i d y.last
   device_stands i d there =
       let within = slice_get_within x.devices i d there in
       let many = runs.many_there in
       let owner = at_position i (owned_of schedule) (omega (arith, within, many)) in
       let device = (runs.devices i owner.0 owner.1).device in
       let same : device ≡ d = same_Some device d (sym (runs.devices i owner.0 owner.1).there ∙ there) in
-      subst (λ e. (y : HasSessionSteps e) × IsSo schedule after x i e y.last) same (old_stands i owner.0 owner.1)
+      subst (λ e. (y : HasSessionSteps e) × IsSo schedule after x views i e y.last) same (old_stands i owner.0 owner.1)
 
-  all : AllStep (IsSo schedule after x) (record x { clock = x.clock + passed })
-  all = all_session_step (IsSo schedule after x) (record x { clock = x.clock + passed }) device_stands
+  all : AllStep (IsSo schedule after x views) (record x { clock = x.clock + passed })
+  all = all_session_step (IsSo schedule after x views) (record x { clock = x.clock + passed }) device_stands
 
   abbrev next : AppWorld
   next = record x { clock = x.clock + passed; devices = all.devices }
 
-  device_runs : (i : ℕ) (o : Owned) → IsOwned schedule i o → DeviceSimulates schedule after next i o
-  device_runs i o owned =
+  abbrev Comes : (i : ℕ) (o : Owned) → IsOwned schedule i o → Type 0
+  Comes i o is = (e : DeviceSimulates schedule after next i o) × Leads (views i o is) e.view
+
+  device_comes : (i : ℕ) (o : Owned) (is : IsOwned schedule i o) → Comes i o is
+  device_comes i o owned =
       let before = runs.devices i o owned in
       let e = all.each i before.device before.there in
-      let st = subst (λ p. Stands schedule after x i before.device e.0 p) (same_Some e.1.0 o (sym e.1.1 ∙ owned)) e.1.2 in
-      record {
-        logins = st.logins;
-        view = st.view;
-        in_time = st.in_time;
-        prompt = st.prompt;
-        represents = st.represents;
-        device = record before.device { sessions = e.0 };
-        there = e.2;
-        account = st.account;
-        sessions = st.sessions;
-        built = st.built;
-        submissions = st.submissions;
-        log = st.log;
-        pages = st.pages;
-        flags = st.flags;
-      }
+      let st = e.1.2 in
+      of_owner schedule i (Comes i) e.1.0 e.1.1 (
+        record {
+          logins = st.logins;
+          view = st.view;
+          in_time = st.in_time;
+          prompt = st.prompt;
+          represents = st.represents;
+          device = record before.device { sessions = e.0 };
+          there = e.2;
+          account = st.account;
+          sessions = st.sessions;
+          built = st.built;
+          submissions = st.submissions;
+          log = st.log;
+          pages = st.pages;
+          flags = st.flags;
+        },
+        st.leads,
+      ) o owned
 
   asked_same : (i : ℕ) (d e : Device) → slice_get x.devices i ≡ Some d → slice_get all.devices i ≡ Some e → e.reading.asked ≡ d.reading.asked
   asked_same i d e there following = let y = all.each i d there in ap (λ (f : Device). f.reading.asked) (same_Some e (record d { sessions = y.0 }) (sym following ∙ y.2))
@@ -145,32 +158,35 @@ module _ (schedule : WireView) (b : Bounds) (says : ℕ) (w : ItemWorld) (x : Ap
       let few = runs.asked i d.0 d.1 in
       omega (arith, same, few)
 
-  pub quiet_runs : SilentSimulates schedule b says x after
+  abbrev goes_on : WorldSimulates schedule b says after next
+  goes_on = record {
+    led = record {
+      events = runs.led.events ++ (Tick passed ∷ all.events);
+      reaches = reaches_both runs.led.events (Tick passed ∷ all.events) (begins schedule) x next runs.led.reaches (record x { clock = x.clock + passed }, refl, all.reaches);
+      spoken = ap length (spoken_both runs.led.events (Tick passed ∷ all.events) ∙ ap (λ more. spoken_in runs.led.events ++ more) all.silent ∙ append-nil (spoken_in runs.led.events)) ∙ runs.led.spoken;
+    };
+    said = runs.said;
+    asked = asked_still;
+    dialled = quiet.dialled;
+    devices = λ i o is. (device_comes i o is).0;
+    many = quiet.many ∙ runs.many;
+    many_there = all.many ∙ runs.many_there;
+    wires = quiet.wires;
+    server = quiet.server;
+    takes = quiet.takes ∙ runs.takes;
+    clock = ap (λ c. c + passed) runs.clock ∙ sym quiet.moment;
+    now = quiet.now;
+    fits = quiet.fits;
+    stands = quiet.stands;
+    within = quiet.within;
+  }
+
+  pub quiet_runs : SilentSimulates schedule b says w x runs after
   quiet_runs = record {
     events = Tick passed ∷ all.events;
     next = next;
     reaches = (record x { clock = x.clock + passed }, refl, all.reaches);
     silent = all.silent;
     asked = asked_same;
-    runs = record {
-      led = record {
-        events = runs.led.events ++ (Tick passed ∷ all.events);
-        reaches = reaches_both runs.led.events (Tick passed ∷ all.events) (begins schedule) x next runs.led.reaches (record x { clock = x.clock + passed }, refl, all.reaches);
-        spoken = ap length (spoken_both runs.led.events (Tick passed ∷ all.events) ∙ ap (λ more. spoken_in runs.led.events ++ more) all.silent ∙ append-nil (spoken_in runs.led.events)) ∙ runs.led.spoken;
-      };
-      said = runs.said;
-      asked = asked_still;
-      dialled = quiet.dialled;
-      devices = device_runs;
-      many = quiet.many ∙ runs.many;
-      many_there = all.many ∙ runs.many_there;
-      wires = quiet.wires;
-      server = quiet.server;
-      takes = quiet.takes ∙ runs.takes;
-      clock = ap (λ c. c + passed) runs.clock ∙ sym quiet.moment;
-      now = quiet.now;
-      fits = quiet.fits;
-      stands = quiet.stands;
-      within = quiet.within;
-    };
+    on = record { runs = goes_on; links = λ i o is. (device_comes i o is).1 };
   }

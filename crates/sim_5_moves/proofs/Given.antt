@@ -76,7 +76,7 @@ module _ (schedule : WireView) (b : Bounds) (says : ℕ) (w : ItemWorld) (x : Ap
     done : (end : Sessions) × DoesInterleaved stanzas_read (labels_of follows.moves) r.device.sessions end × IsDevice stanzas_read (seen follows.next) end
     done = moves_done stanzas_read follows.moves r.view follows.next r.device.sessions reached follows.leads r.sessions
 
-    abbrev g : DeviceGoes schedule (moved m w) i o (history_for schedule x.takes o) (Drops ∷ []) r.device.sessions
+    abbrev g : DeviceGoes schedule (moved m w) i o (history_for schedule x.takes o) (Drops ∷ []) r.device.sessions r.view
     g = record {
       logins = r.logins;
       view = follows.next;
@@ -150,7 +150,7 @@ module _ (schedule : WireView) (b : Bounds) (says : ℕ) (w : ItemWorld) (x : Ap
   forgets_follows : WorldFollows who r.logins (moved (Forget i) w) r.view (Drops ∷ [])
   forgets_follows = forget_lifts who r.logins w r.view r.represents (prompt_runs awaits r.view r.prompt)
 
-  pub forget_runs : MoveSimulates schedule b says (Forget i) w x
+  pub forget_runs : MoveSimulates schedule b says (Forget i) w x runs
   forget_runs =
       move_runs schedule b says (Forget i) w x runs i o owned forgets_one forgets_fits
       (λ j p is other. forget_leaves (identity_at schedule j p) (runs.devices j p is).logins w (runs.devices j p is).view (runs.devices j p is).represents i other c r.represents.there (of_its_own who r.logins w r.view r.represents j other))
@@ -201,7 +201,7 @@ module _ (schedule : WireView) (b : Bounds) (says : ℕ) (w : ItemWorld) (x : Ap
   closes_follows : WorldFollows who r.logins (moved (Close i) w) r.view (Drops ∷ [])
   closes_follows = close_lifts who r.logins w r.view r.represents (prompt_runs awaits r.view r.prompt)
 
-  pub close_runs : MoveSimulates schedule b says (Close i) w x
+  pub close_runs : MoveSimulates schedule b says (Close i) w x runs
   close_runs =
       move_runs schedule b says (Close i) w x runs i o owned closes_one closes_fits
       (λ j p is other. close_leaves (identity_at schedule j p) (runs.devices j p is).logins w (runs.devices j p is).view (runs.devices j p is).represents i other c r.represents.there (of_its_own who r.logins w r.view r.represents j other))

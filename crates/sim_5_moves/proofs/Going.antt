@@ -24,13 +24,14 @@ use Rattle.sim_5_moves.specs.Running.{DeviceSimulates}
 use Rattle.xml_writer.specs.Items.{ItemOut}
 
 pub goes : (schedule : WireView) (w after : ItemWorld) (x : AppWorld) (i : ℕ) (o : Owned) (history : List EntryView) (done : List (Label ItemOut)) (old : DeviceSimulates schedule w x i o) (logins : ℕ → Login)
-    → WorldFollows (identity_at schedule i o) logins after old.view done → AreInTime done old.device.sessions.now → ArePutBuilt o history done → AllBuilt o history (seen old.view) → DeviceGoes schedule after i o history done old.device.sessions
+    → WorldFollows (identity_at schedule i o) logins after old.view done → AreInTime done old.device.sessions.now → ArePutBuilt o history done → AllBuilt o history (seen old.view) → DeviceGoes schedule after i o history done old.device.sessions old.view
 goes schedule w after x i o history done old logins f timely put built =
     let reached = prompt_runs awaits old.view old.prompt in
     let d = moves_done stanzas_read f.moves old.view f.next old.device.sessions reached f.leads old.sessions in
     record {
       logins = logins;
       view = f.next;
+      leads = (f.moves, f.leads);
       reached = reached_along f.moves old.view f.next reached f.leads;
       in_time = paging_stays f.moves old.view f.next old.device.sessions old.in_time f.leads f.prompt old.sessions (subst (λ ds. AreInTime ds old.device.sessions.now) (sym f.does) timely);
       prompt = prompt_stays f.moves old.view f.next old.prompt f.leads f.prompt;

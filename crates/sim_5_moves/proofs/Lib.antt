@@ -51,6 +51,7 @@ pub mod LabelEvents
 -- connections
 pub mod Still
 -- one device
+pub mod OneOwner
 pub mod Acting
 -- flags kept
 pub mod FlagsKeptFlags

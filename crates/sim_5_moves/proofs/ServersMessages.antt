@@ -164,7 +164,7 @@ module _ (c : Coming) (m : Submission) (reads : up_stanza c.z ≡ Message m) (ex
       hears_it : IsToldOf t (last_of all r.device.account) j r.device last
       hears_it = beside stanzas_read t (last_of all r.device.account) j r.device last g.given interleaved_so counted heard
 
-      other_stands : Stands c.schedule (after c) all j p (record r.device { sessions = last })
+      other_stands : Stands c.schedule (after c) all j p (record r.device { sessions = last }) r.view
       other_stands =
           let b = gives_after g.given r.device.sessions last interleaved_so in
           stands c.schedule c.w c.x j p r (after c) (gives_all g.given) g.follows all (gives_in_time r.device.sessions.now g.given (heard_ends (hears_of t j r.device) (last_of all r.device.account) (map down_stanza g.given) last heard))
@@ -207,7 +207,7 @@ module _ (c : Coming) (m : Submission) (reads : up_stanza c.z ≡ Message m) (ex
   ends_none : EndsFor c.z given
   ends_none = (let none = heard_ends (hears_of t (mine c) (old c).device) (last_of all (old c).device.account) (map down_stanza given) own_last own_heard in omega (arith, none))
 
-  own_stands : Stands c.schedule (after c) all (mine c) c.o (record (old c).device { sessions = own_last })
+  own_stands : Stands c.schedule (after c) all (mine c) c.o (record (old c).device { sessions = own_last }) (old c).view
   own_stands =
       let b = takes_after c.z given (old c).device.sessions own_last own_interleaved in
       let mine_history = history_for c.schedule all c.o in

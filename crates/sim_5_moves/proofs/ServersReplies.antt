@@ -152,7 +152,7 @@ module _ (c : Coming) (y : Up) (is : IsReply c y) where
     flags_kept : AreFlagsKept (identity_at c.schedule j p).account p.device (server_state c) (step c).server_state
     flags_kept = kept_flags (identity_at c.schedule j p).account p.device (server_state c) (step c).server_state (is.spares (identity_at c.schedule j p).account p.device (unnamed c j p at apart))
 
-    other_stands : Stands c.schedule (after c) takes j p (record r.device { sessions = last })
+    other_stands : Stands c.schedule (after c) takes j p (record r.device { sessions = last }) r.view
     other_stands =
         let b = gives_after g.given r.device.sessions last others_interleaved in
         stands c.schedule c.w c.x j p r (after c) (gives_all g.given) g.follows takes (gives_in_time r.device.sessions.now g.given (ap (λ zs. many is_end (map down_stanza zs)) nothing_given))
@@ -214,7 +214,7 @@ module _ (c : Coming) (y : Up) (is : IsReply c y) where
       (flagged y (own_last c)) (flagged_device y (seen (own_gives c).follows.next) (own_last c) (own_end c)) (flagged y d) represents back
       (λ s found. (represents (λ none. let bad : Present ≡ NoRow = sym (is_here c) ∙ none in let no_way : ⊥ = cc in no_way) s found).2)
 
-  own_stands : Stands c.schedule (after c) takes (mine c) c.o following
+  own_stands : Stands c.schedule (after c) takes (mine c) c.o following (old c).view
   own_stands =
       let b = takes_after c.z (given c) (old c).device.sessions (own_last c) (own_interleaved c) in
       let history = history_for c.schedule takes c.o in

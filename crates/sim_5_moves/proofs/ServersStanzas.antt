@@ -32,7 +32,7 @@ use Rattle.xml_writer.specs.Items.{ItemOut}
 
 module _ (c : Coming) where
   abbrev Runs : Type 0
-  Runs = MoveSimulates c.schedule c.b c.says (Up c.position) c.w c.x
+  Runs = MoveSimulates c.schedule c.b c.says (Up c.position) c.w c.x c.runs
 
   replied : (y : stanzas.Up) → IsReply c y → Runs
   replied y is = handled_runs c c.x.takes (reply_is_handled c y is)
@@ -91,6 +91,6 @@ module _ (schedule : WireView) (right : IsWireSchedule schedule) (b : Bounds) (s
     beside = λ whom others u is. subst (UpDoes who whom others w (moved (Up position) w) u takes_nothing) word (g.beside whom others u is) session;
   }
 
-  pub stanza_goes_up : MoveSimulates schedule b says (Up position) w x
+  pub stanza_goes_up : MoveSimulates schedule b says (Up position) w x runs
   unfolding coming
   stanza_goes_up = stanza_runs coming

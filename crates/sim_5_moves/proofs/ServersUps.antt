@@ -27,10 +27,10 @@ module _ (schedule : WireView) (b : Bounds) (right : IsWireSchedule schedule) (s
     g : ItemGoesUp (identity_at schedule wire.device o) old.logins w old.view position wire i
     g = goes_up schedule b small says w x runs position wire i items there pipe wire.device o old refl
 
-    silent : IsSilent g.has.word → MoveSimulates schedule b says (Up position) w x
+    silent : IsSilent g.has.word → MoveSimulates schedule b says (Up position) w x runs
     silent is = silent_runs schedule b says w x right small runs position wire i items there pipe o owned old.logins old.view g.has is
 
-    by_word : (word : UpWord ItemOut) → g.has.word ≡ word → MoveSimulates schedule b says (Up position) w x
+    by_word : (word : UpWord ItemOut) → g.has.word ≡ word → MoveSimulates schedule b says (Up position) w x runs
     by_word Hdr is = silent (subst IsSilent (sym is) tt)
     by_word Auth is = silent (subst IsSilent (sym is) tt)
     by_word Resp is = silent (subst IsSilent (sym is) tt)
@@ -42,16 +42,16 @@ module _ (schedule : WireView) (b : Bounds) (right : IsWireSchedule schedule) (s
     by_word (UpTraffic (Ack n)) is = silent (subst IsSilent (sym is) tt)
     by_word Foot is = silent (subst IsSilent (sym is) tt)
 
-    item_runs : MoveSimulates schedule b says (Up position) w x
+    item_runs : MoveSimulates schedule b says (Up position) w x runs
     item_runs = by_word g.has.word refl
 
-  by_items : (wire : ItemWire) → slice_get w.wires position ≡ Some wire → (items : List ItemOut) → wire.up.items ≡ items → MoveSimulates schedule b says (Up position) w x
+  by_items : (wire : ItemWire) → slice_get w.wires position ≡ Some wire → (items : List ItemOut) → wire.up.items ≡ items → MoveSimulates schedule b says (Up position) w x runs
   by_items wire there [] none = up_runs schedule b says w x runs position wire there none
   by_items wire there (i ∷ items) pipe = let owner = runs.wires position wire there in item_runs wire i items there pipe owner.0 owner.1
 
-  by_wire : (e : Option ItemWire) → slice_get w.wires position ≡ e → MoveSimulates schedule b says (Up position) w x
+  by_wire : (e : Option ItemWire) → slice_get w.wires position ≡ e → MoveSimulates schedule b says (Up position) w x runs
   by_wire None none = nobody_runs schedule b says w x runs (Up position) none
   by_wire (Some wire) there = by_items wire there wire.up.items refl
 
-  pub any_runs : MoveSimulates schedule b says (Up position) w x
+  pub any_runs : MoveSimulates schedule b says (Up position) w x runs
   any_runs = by_wire (slice_get w.wires position) refl

@@ -44,7 +44,7 @@ use Rattle.sim_1_applications.specs.Histories.{Spoken, spoken_in}
 use Rattle.sim_1_applications.specs.Stanzas.{answers}
 use Rattle.sim_5_moves.proofs.BuiltAlong.{built_along}
 use Rattle.sim_5_moves.specs.Going.{ArePutBuilt}
-use Rattle.sim_5_moves.specs.Running.{Bounds, DeviceSimulates, IsAskedBy, IsOwned, MoveSimulates, WorldSimulates, history_for, keep_in, spoken_by_move}
+use Rattle.sim_5_moves.specs.Running.{Bounds, DeviceSimulates, IsAskedBy, IsOwned, MoveSimulates, RunsOn, WorldSimulates, history_for, keep_in, spoken_by_move}
 
 -- nor asks, and nothing comes to the client
 abbrev pub IsStill : Device → Device → Type 0
@@ -150,6 +150,7 @@ module _ (schedule : WireView) (b : Bounds) (says : ℕ) (m : ItemMove) (w : Ite
       said = subst (λ (l : List Spoken). says + length l ≤ b.says) (sym silent) (let said = runs.said in omega (arith, said));
       asked = runs.asked i old.device old.there;
       device = device_runs;
+      leads = (f.moves, f.leads);
       others = c.others;
     }
 
@@ -168,14 +169,18 @@ module _ (schedule : WireView) (b : Bounds) (says : ℕ) (m : ItemMove) (w : Ite
             let apart : j ≢ i = (λ e. let same : (j == i) ≡ true = (Decides-eqb j i).1 e in absurd (let no_way : ⊥ = cc in no_way)) in
             subst (IsStill d) (same_Some d e (sym there ∙ sym (set_elsewhere x.devices i j new apart) ∙ following)) (refl, λ none. none)
 
-    pub session_step_runs : MoveSimulates schedule b says m w x
+    on : RunsOn schedule b says w x runs (says + length (spoken_by_move m w)) (moved m w) next
+    on =
+        subst (λ v. RunsOn schedule b says w x runs (says + length (spoken_by_move m w)) v next) (sym c.is)
+        (subst (λ (l : List Spoken). RunsOn schedule b says w x runs (says + length l) after next) (silent ∙ sym c.silent) (acted_on schedule b says w x runs i o after new acts))
+
+    pub session_step_runs : MoveSimulates schedule b says m w x runs
     session_step_runs = record {
       events = events;
       next = next;
       reaches = reaches;
       spoken = silent ∙ sym c.silent;
       asked = λ j d e there following. c.asked j d e (still j d e there following);
-      runs =
-          subst (λ v. WorldSimulates schedule b (says + length (spoken_by_move m w)) v next) (sym c.is)
-          (subst (λ (l : List Spoken). WorldSimulates schedule b (says + length l) after next) (silent ∙ sym c.silent) (acted_on schedule b says w x runs i o after new acts));
+      runs = on.runs;
+      links = on.links;
     }

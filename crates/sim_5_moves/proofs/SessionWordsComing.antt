@@ -53,7 +53,7 @@ use Rattle.sim_1_applications.specs.Histories.{spoken_in}
 use Rattle.sim_5_devices.proofs.Served.{same_told}
 use Rattle.sim_5_moves.proofs.BuiltAlong.{built_along}
 use Rattle.sim_5_moves.specs.Going.{ArePutBuilt}
-use Rattle.sim_5_moves.specs.Running.{Bounds, DeviceSimulates, IsInBounds, IsOwned, MoveSimulates, WorldSimulates, history_for, keep_in}
+use Rattle.sim_5_moves.specs.Running.{Bounds, DeviceSimulates, IsInBounds, IsOwned, MoveSimulates, RunsOn, WorldSimulates, history_for, keep_in}
 use Rattle.xml_writer.specs.Items.{ItemOut}
 
 -- ---- what comes
@@ -215,15 +215,16 @@ module _ (schedule : WireView) (b : Bounds) (says : ℕ) (w : ItemWorld) (x : Ap
       said = subst (λ l. says + length l ≤ b.says) (sym h.silent) (let said = c.runs.said in omega (arith, said));
       asked = asked_still;
       device = device_runs;
+      leads = (follows.moves, follows.leads);
       others = λ j q is other.
           subst (λ v. Represents (identity_at schedule j q) (c.runs.devices j q is).logins v (c.runs.devices j q is).view) (moved_so w c.position d c.wire c.z c.item)
           (down_leaves (identity_at schedule j q) (c.runs.devices j q is).logins w (c.runs.devices j q is).view (c.runs.devices j q is).represents c.position c.wire c.item.there (λ same. other (sym same)));
     }
 
-    world_runs : WorldSimulates schedule b (says + 0) (moved (Down c.position) w) next_world
+    world_runs : RunsOn schedule b says w x c.runs (says + 0) (moved (Down c.position) w) next_world
     world_runs =
-        subst (λ v. WorldSimulates schedule b (says + 0) v next_world) (sym (moved_so w c.position d c.wire c.z c.item))
-        (subst (λ l. WorldSimulates schedule b (says + length l) after next_world) h.silent (acted_on schedule b says w x c.runs i c.o after next acts))
+        subst (λ v. RunsOn schedule b says w x c.runs (says + 0) v next_world) (sym (moved_so w c.position d c.wire c.z c.item))
+        (subst (λ l. RunsOn schedule b says w x c.runs (says + length l) after next_world) h.silent (acted_on schedule b says w x c.runs i c.o after next acts))
 
     elsewhere : (j : ℕ) (e f : Device) → slice_get x.devices j ≡ Some e → slice_get next_world.devices j ≡ Some f → (u : ItemWire) → slice_get w.wires c.position ≡ Some u → u.device ≢ j
         → (f.reading.asked ≡ e.reading.asked) × (IsUnanswered e → IsUnanswered f)
@@ -232,12 +233,13 @@ module _ (schedule : WireView) (b : Bounds) (says : ℕ) (w : ItemWorld) (x : Ap
         let is : e ≡ f = same_Some e f (sym at ∙ sym (set_elsewhere x.devices i j next (λ same. mine (sym same))) ∙ after_at) in
         subst (λ y. (y.reading.asked ≡ e.reading.asked) × (IsUnanswered e → IsUnanswered y)) is (refl, λ u. u)
 
-    pub heard_runs : MoveSimulates schedule b says (Down c.position) w x
+    pub heard_runs : MoveSimulates schedule b says (Down c.position) w x c.runs
     heard_runs = record {
       events = h.events;
       next = next_world;
       reaches = h.reaches;
       spoken = h.silent;
       asked = λ j e f at after_at. (let l = leads j e f at after_at in ((l.still, l.few), elsewhere j e f at after_at));
-      runs = world_runs;
+      runs = world_runs.runs;
+      links = world_runs.links;
     }

@@ -80,17 +80,17 @@ module _ (schedule : WireView) (b : Bounds) (small : AreSmall b) (says : ℕ) (w
       bounds = bounds;
     }
 
-  failed_down : (p : IsNext Failed) → IsNextItem position wire.device w d wire (item_of Failed p) → IsInBounds b says (Down position) w x → MoveSimulates schedule b says (Down position) w x
+  failed_down : (p : IsNext Failed) → IsNextItem position wire.device w d wire (item_of Failed p) → IsInBounds b says (Down position) w x → MoveSimulates schedule b says (Down position) w x runs
   failed_down p n bounds =
       failed_runs schedule b says w x (coming Failed p n (session_read who old.logins d (by_number w.wires) old.view (position + 1) Failed p tt) bounds)
       (failed_client_step who old.logins d (by_number w.wires) old.view (position + 1) p)
 
-  bound_down : (m : ℕ) (p : IsNext (Bound m)) → IsNextItem position wire.device w d wire (item_of (Bound m) p) → IsInBounds b says (Down position) w x → MoveSimulates schedule b says (Down position) w x
+  bound_down : (m : ℕ) (p : IsNext (Bound m)) → IsNextItem position wire.device w d wire (item_of (Bound m) p) → IsInBounds b says (Down position) w x → MoveSimulates schedule b says (Down position) w x runs
   bound_down m p n bounds =
       named_runs schedule b says w x (coming (Bound m) p n (session_read who old.logins d (by_number w.wires) old.view (position + 1) (Bound m) p low) bounds)
       m (may_name who old.logins d (by_number w.wires) old.view (position + 1) m p) low (bound_client_step who old.logins d (by_number w.wires) old.view (position + 1) m p)
 
-  enabled_down : (m : ℕ) (p : IsNext (Enabled m)) → IsNextItem position wire.device w d wire (item_of (Enabled m) p) → IsInBounds b says (Down position) w x → MoveSimulates schedule b says (Down position) w x
+  enabled_down : (m : ℕ) (p : IsNext (Enabled m)) → IsNextItem position wire.device w d wire (item_of (Enabled m) p) → IsInBounds b says (Down position) w x → MoveSimulates schedule b says (Down position) w x runs
   enabled_down m p n bounds =
       entered_runs schedule b says w x (coming (Enabled m) p n (session_read who old.logins d (by_number w.wires) old.view (position + 1) (Enabled m) p tt) bounds)
       m (enabled_client_step who old.logins d (by_number w.wires) old.view (position + 1) m p)
@@ -99,7 +99,7 @@ module _ (schedule : WireView) (b : Bounds) (small : AreSmall b) (says : ℕ) (w
     abbrev whose : HasSession d old.view
     whose = resumed_session who old.logins d (by_number w.wires) old.view (position + 1) q h p
 
-    resumed_down : IsNextItem position wire.device w d wire (item_of (Resumed q h) p) → IsInBounds b says (Down position) w x → MoveSimulates schedule b says (Down position) w x
+    resumed_down : IsNextItem position wire.device w d wire (item_of (Resumed q h) p) → IsInBounds b says (Down position) w x → MoveSimulates schedule b says (Down position) w x runs
     resumed_down n bounds =
         learns_runs schedule b says w x (coming (Resumed q h) p n (session_read who old.logins d (by_number w.wires) old.view (position + 1) (Resumed q h) p tt) bounds)
         h whose (attaches in_items (acknowledges in_items (silent_client_step d.client) whose.session (told_count h))) (record {
@@ -115,7 +115,7 @@ module _ (schedule : WireView) (b : Bounds) (small : AreSmall b) (says : ℕ) (w
     abbrev its : HasSession d old.view
     its = counted_session who old.logins d (by_number w.wires) old.view (position + 1) h p
 
-    count_down : IsNextItem position wire.device w d wire (item_of (DownTraffic (Ack h)) p) → IsInBounds b says (Down position) w x → MoveSimulates schedule b says (Down position) w x
+    count_down : IsNextItem position wire.device w d wire (item_of (DownTraffic (Ack h)) p) → IsInBounds b says (Down position) w x → MoveSimulates schedule b says (Down position) w x runs
     count_down n bounds =
         learns_runs schedule b says w x (coming (DownTraffic (Ack h)) p n (counts_read who old.logins d (by_number w.wires) old.view (position + 1) (DownTraffic (Ack h)) p tt) bounds)
         h its (acknowledges in_items (silent_client_step d.client) its.session (told_count h)) (record {
@@ -127,7 +127,7 @@ module _ (schedule : WireView) (b : Bounds) (small : AreSmall b) (says : ℕ) (w
           pages = refl;
         })
 
-  pub session_word_runs : (word : DownWord ItemOut) → IsOfSessions word → (p : IsNext word) → IsNextItem position wire.device w d wire (item_of word p) → IsInBounds b says (Down position) w x → MoveSimulates schedule b says (Down position) w x
+  pub session_word_runs : (word : DownWord ItemOut) → IsOfSessions word → (p : IsNext word) → IsNextItem position wire.device w d wire (item_of word p) → IsInBounds b says (Down position) w x → MoveSimulates schedule b says (Down position) w x runs
   session_word_runs Failed is p n bounds = failed_down p n bounds
   session_word_runs (Bound m) is p n bounds = bound_down m p n bounds
   session_word_runs (Enabled m) is p n bounds = enabled_down m p n bounds

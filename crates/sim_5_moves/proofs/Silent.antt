@@ -46,7 +46,7 @@ module _ (schedule : WireView) (b : Bounds) (says : ℕ) (w : ItemWorld) (x : Ap
   d = old.represents.device
 
   -- an item on which it has none
-  calm_runs : (z : ItemOut) (n : IsNextItem position i w d wire z) → IsCalm d.client (client_step_on z d) → HearingFollows who old.logins d (by_number w.wires) old.view (position + 1) wire (client_step_on z d) → MoveSimulates schedule b says (Down position) w x
+  calm_runs : (z : ItemOut) (n : IsNextItem position i w d wire z) → IsCalm d.client (client_step_on z d) → HearingFollows who old.logins d (by_number w.wires) old.view (position + 1) wire (client_step_on z d) → MoveSimulates schedule b says (Down position) w x runs
   calm_runs z n calm read =
       let t : ClientStep ItemOut ItemOut = client_step_on z d in
       let after : ItemWorld = heard_so w position d wire z n in
@@ -68,7 +68,7 @@ module _ (schedule : WireView) (b : Bounds) (says : ℕ) (w : ItemWorld) (x : Ap
       })
 
   pub quiet_word_runs : (word : DownWord ItemOut) → IsSilentWord word → (p : IsNextDown who old.logins d (by_number w.wires) old.view (position + 1) word)
-      → IsNextItem position i w d wire (down_item who (old.logins (position + 1)) (position + 1) (is_after_login p.conn.client) word) → MoveSimulates schedule b says (Down position) w x
+      → IsNextItem position i w d wire (down_item who (old.logins (position + 1)) (position + 1) (is_after_login p.conn.client) word) → MoveSimulates schedule b says (Down position) w x runs
   quiet_word_runs word is p n =
       let z : ItemOut = down_item who (old.logins (position + 1)) (position + 1) (is_after_login p.conn.client) word in
       let same : p.wire ≡ wire = same_Some p.wire wire (sym p.there ∙ under_position position w.wires ∙ n.there) in

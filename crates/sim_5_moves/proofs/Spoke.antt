@@ -90,7 +90,7 @@ module _ (schedule : WireView) (b : Bounds) (says : ℕ) (w : ItemWorld) (x : Ap
     pub put_built : ArePutBuilt o (history_for schedule x.takes o) (Says z ∷ [])
     put_built = (subst (λ u. IsUpAs o u z) (sym read) built, tt)
 
-    abbrev pub g : DeviceGoes schedule (moved m w) i o (history_for schedule x.takes o) (Says z ∷ []) r.device.sessions
+    abbrev pub g : DeviceGoes schedule (moved m w) i o (history_for schedule x.takes o) (Says z ∷ []) r.device.sessions r.view
     g = record {
       logins = r.logins;
       view = follows.next;

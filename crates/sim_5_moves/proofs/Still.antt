@@ -14,7 +14,7 @@ use Rattle.sim_3_items.specs.ItemPipes.{ItemWire, is_end_due}
 use Rattle.sim_3_items.specs.ItemWorlds.{ItemDevice, ItemWorld, silent_client_step}
 use Rattle.cmd_schedule.specs.Schedules.{WireView}
 use Rattle.sim_1_applications.specs.Devices.{AppWorld, Device}
-use Rattle.sim_5_moves.specs.Running.{Bounds, IsAskedBy, MoveSimulates, WorldSimulates, said_at, spoken_by_move, spoken_where}
+use Rattle.sim_5_moves.specs.Running.{Bounds, IsAskedBy, MoveSimulates, RunsOn, WorldSimulates, said_at, spoken_by_move, spoken_where}
 
 more_or_none : (b : Bool) (n : ℕ) → n ≤ n + (if b then 1 else 0)
 more_or_none true n = omega arith
@@ -35,17 +35,21 @@ asked_same (DownEnd position) w i d = refl
 asked_same (Cut position up down) w i d = refl
 
 module _ (schedule : WireView) (b : Bounds) (says : ℕ) (w : ItemWorld) (x : AppWorld) (runs : WorldSimulates schedule b says w x) where
-  pub still_runs : (m : ItemMove) → moved m w ≡ w → spoken_by_move m w ≡ [] → MoveSimulates schedule b says m w x
+  pub still_runs : (m : ItemMove) → moved m w ≡ w → spoken_by_move m w ≡ [] → MoveSimulates schedule b says m w x runs
   still_runs m same silent = record {
     events = [];
     next = x;
     reaches = refl;
     spoken = sym silent;
     asked = λ i d e there here. subst (IsAskedBy m w i d) (same_Some d e (sym there ∙ here)) (asked_same m w i d);
-    runs =
-        subst (λ n. WorldSimulates schedule b n (moved m w) x) (let none = ap length silent in let e : says ≡ says + length (spoken_by_move m w) = omega arith in e)
-        (subst (λ v. WorldSimulates schedule b says v x) (sym same) runs);
+    runs = on.runs;
+    links = on.links;
   }
+    where
+      on : RunsOn schedule b says w x runs (says + length (spoken_by_move m w)) (moved m w) x
+      on =
+          subst (λ n. RunsOn schedule b says w x runs n (moved m w) x) (let none = ap length silent in let e : says ≡ says + length (spoken_by_move m w) = omega arith in e)
+          (subst (λ v. RunsOn schedule b says w x runs says v x) (sym same) (record { runs = runs; links = λ i o is. ([], refl) }))
 
   -- ---- of nobody
 
@@ -62,29 +66,29 @@ module _ (schedule : WireView) (b : Bounds) (says : ℕ) (w : ItemWorld) (x : Ap
   nobody_speaks (DownEnd position) none = refl
   nobody_speaks (Cut position up down) none = refl
 
-  pub nobody_runs : (m : ItemMove) → IsOfNobody m w → MoveSimulates schedule b says m w x
+  pub nobody_runs : (m : ItemMove) → IsOfNobody m w → MoveSimulates schedule b says m w x runs
   nobody_runs m none = still_runs m (of_nobody m w none) (nobody_speaks m none)
 
   -- ---- nothing to hand over
 
-  pub up_runs : (position : ℕ) (wire : ItemWire) → slice_get w.wires position ≡ Some wire → wire.up.items ≡ [] → MoveSimulates schedule b says (Up position) w x
+  pub up_runs : (position : ℕ) (wire : ItemWire) → slice_get w.wires position ≡ Some wire → wire.up.items ≡ [] → MoveSimulates schedule b says (Up position) w x runs
   up_runs position wire there none = still_runs (Up position) (nothing_up w position wire there none) refl
 
-  pub told_runs : (position : ℕ) (wire : ItemWire) → slice_get w.wires position ≡ Some wire → is_end_due wire.up ≡ false → MoveSimulates schedule b says (UpEnd position) w x
+  pub told_runs : (position : ℕ) (wire : ItemWire) → slice_get w.wires position ≡ Some wire → is_end_due wire.up ≡ false → MoveSimulates schedule b says (UpEnd position) w x runs
   told_runs position wire there due = still_runs (UpEnd position) (not_over w position wire there due) refl
 
-  pub down_runs : (position : ℕ) (wire : ItemWire) → slice_get w.wires position ≡ Some wire → IsOnNone position wire w → MoveSimulates schedule b says (Down position) w x
+  pub down_runs : (position : ℕ) (wire : ItemWire) → slice_get w.wires position ≡ Some wire → IsOnNone position wire w → MoveSimulates schedule b says (Down position) w x runs
   down_runs position wire there none = still_runs (Down position) (nothing_down w position wire there none) refl
 
   -- ---- refused
 
-  pub says_refused : (position : ℕ) (to text : List ℕ) (private : Bool) (d : ItemDevice) (fault : SayFault) → slice_get w.devices position ≡ Some d → say_answer d.client text ≡ Err fault → MoveSimulates schedule b says (Say position to text private) w x
+  pub says_refused : (position : ℕ) (to text : List ℕ) (private : Bool) (d : ItemDevice) (fault : SayFault) → slice_get w.devices position ≡ Some d → say_answer d.client text ≡ Err fault → MoveSimulates schedule b says (Say position to text private) w x runs
   says_refused position to text private d fault there answer =
       still_runs (Say position to text private)
       (ap (λ o. said_by position to text private o w) there ∙ ap (λ r. said_in r position d (says_client_step in_items (silent_client_step d.client) to text private) w) answer)
       (ap (said_at position to text private) there ∙ ap (λ r. spoken_where r (record { device = position; to = local_part_of to; text = text; private = private })) answer)
 
-  pub asks_refused : (position most : ℕ) (d : ItemDevice) (fault : CatchUpStart) → slice_get w.devices position ≡ Some d → catch_up_answer d.client ≡ Err fault → MoveSimulates schedule b says (CatchUp position most) w x
+  pub asks_refused : (position most : ℕ) (d : ItemDevice) (fault : CatchUpStart) → slice_get w.devices position ≡ Some d → catch_up_answer d.client ≡ Err fault → MoveSimulates schedule b says (CatchUp position most) w x runs
   asks_refused position most d fault there answer =
       still_runs (CatchUp position most)
       (ap (λ o. caught_up_by position most o w) there ∙ ap (λ r. said_in r position d (catches_up in_items (silent_client_step d.client) most) w) answer) refl

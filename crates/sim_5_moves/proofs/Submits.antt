@@ -113,7 +113,7 @@ module _ (schedule : WireView) (right : IsWireSchedule schedule) (b : Bounds) (s
       subst (WorldFollows who r.logins (moved m w) r.view) (says_put o c.client r.device.sessions name text private before)
       (say_in who r.logins w r.view c r.represents (prompt_runs awaits r.view r.prompt) r.represents.there (within schedule right b small says w x runs i o owned) (bare_address name) text private n (account_address name named) (text_within text plain) taken)
 
-  abbrev g : DeviceGoes schedule (moved m w) i o (history_for schedule x.takes o) (Says z ∷ []) r.device.sessions
+  abbrev g : DeviceGoes schedule (moved m w) i o (history_for schedule x.takes o) (Says z ∷ []) r.device.sessions r.view
   g = spoken.g schedule b says w x runs i o owned m t z (Message said) moved_is read built timely follows
 
   abbrev at : Sessions
@@ -160,7 +160,7 @@ module _ (schedule : WireView) (right : IsWireSchedule schedule) (b : Bounds) (s
       ∙ ap (λ answer. spoken_where answer (record { device = i; to = local_part_of (bare_address name); text = text; private = private })) taken
       ∙ ap (λ to. record { device = i; to = to; text = text; private = private } ∷ []) (name_again name domain named)
 
-  pub submission_runs : MoveSimulates schedule b says m w x
+  pub submission_runs : MoveSimulates schedule b says m w x runs
   submission_runs =
       move_runs schedule b says m w x runs i o owned
       (spoken.one_device schedule b says w x runs i o owned m t z (Message said) moved_is read built timely follows)
@@ -188,9 +188,9 @@ module _ (schedule : WireView) (right : IsWireSchedule schedule) (b : Bounds) (s
 
 -- whatever the address is
 pub submissions_run : (schedule : WireView) (b : Bounds) (says : ℕ) (w : ItemWorld) (x : AppWorld) → IsWireSchedule schedule → AreSmall b → (runs : WorldSimulates schedule b says w x) → (i : ℕ) (o : Owned) → IsOwned schedule i o → (d : ItemDevice) → slice_get w.devices i ≡ Some d
-    → (to text : List ℕ) (private : Bool) → MayItem (Say i to text private) → IsInBounds b says (Say i to text private) w x → (n : ℕ) → say_answer d.client text ≡ Ok n → MoveSimulates schedule b says (Say i to text private) w x
+    → (to text : List ℕ) (private : Bool) → MayItem (Say i to text private) → IsInBounds b says (Say i to text private) w x → (n : ℕ) → say_answer d.client text ≡ Ok n → MoveSimulates schedule b says (Say i to text private) w x runs
 submissions_run schedule b says w x right small runs i o owned d there to text private may more n taken =
     let r = runs.devices i o owned in
     let same = same_Some d r.represents.device (sym there ∙ r.represents.there) in
-    subst (λ a. MoveSimulates schedule b says (Say i a text private) w x) (sym may.1)
+    subst (λ a. MoveSimulates schedule b says (Say i a text private) w x runs) (sym may.1)
     (submission_runs schedule right b small says w x runs i o owned may.0 text private may.2 may.3 more n (subst (λ (e : ItemDevice). say_answer e.client text ≡ Ok n) same taken))

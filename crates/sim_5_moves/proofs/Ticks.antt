@@ -17,7 +17,7 @@ use Rattle.sim_4_links_follow.proofs.StandMoves.{move_stands}
 use Rattle.sim_4_links_follow.proofs.UpEnds.{tick_in}
 use Rattle.sim_5_moves.specs.Running.{Bounds, MoveSimulates, WorldSimulates, keep_in, names_of}
 
-pub tick_runs : (schedule : WireView) (b : Bounds) (says milliseconds : ℕ) (w : ItemWorld) (x : AppWorld) → WorldSimulates schedule b says w x → MoveSimulates schedule b says (Tick milliseconds) w x
+pub tick_runs : (schedule : WireView) (b : Bounds) (says milliseconds : ℕ) (w : ItemWorld) (x : AppWorld) (runs : WorldSimulates schedule b says w x) → MoveSimulates schedule b says (Tick milliseconds) w x runs
 tick_runs schedule b says milliseconds w x runs =
     let later = w.moment + milliseconds in
     let after : ItemWorld = moved (Tick milliseconds) w in

@@ -25,7 +25,7 @@ use Rattle.sim_1_applications.specs.Events.{Act, AppEvent, At, May, around, own,
 use Rattle.sim_1_applications.specs.Histories.{Spoken, spoken_in}
 use Rattle.xml_writer.specs.Items.{ItemOut}
 use Rattle.sim_5_moves.specs.Going.{DeviceGoes}
-use Rattle.sim_5_moves.specs.Running.{Bounds, DeviceSimulates, IsAskedBy, IsOwned, MoveSimulates, WorldSimulates, history_for, keep_in, spoken_by_move}
+use Rattle.sim_5_moves.specs.Running.{Bounds, DeviceSimulates, IsAskedBy, IsOwned, MoveSimulates, RunsOn, WorldSimulates, history_for, keep_in, spoken_by_move}
 
 module _ (schedule : WireView) (b : Bounds) (says : ℕ) (m : ItemMove) (w : ItemWorld) (x : AppWorld) (runs : WorldSimulates schedule b says w x) (i : ℕ) (o : Owned) (owned : IsOwned schedule i o) where
   abbrev pub device_at : DeviceSimulates schedule w x i o
@@ -42,7 +42,7 @@ module _ (schedule : WireView) (b : Bounds) (says : ℕ) (m : ItemMove) (w : Ite
   acted_by act s = own (around x old) act (stepped_to s)
 
   -- What a turn of the client has to be, for the act and the sessions before it.
-  pub record IsClientStep (done : List (Label ItemOut)) (g : DeviceGoes schedule (moved m w) i o (history_for schedule x.takes o) done old.sessions) (act : Act) (there : Sessions) : Type 0 where
+  pub record IsClientStep (done : List (Label ItemOut)) (g : DeviceGoes schedule (moved m w) i o (history_for schedule x.takes o) done old.sessions device_at.view) (act : Act) (there : Sessions) : Type 0 where
     pub may : May act (stepped_to there)
     pub alone : taken_by x.accounts x.clock i (stepped_to there) act ≡ []
     pub account : (acted_by act there).account ≡ old.account
@@ -58,7 +58,7 @@ module _ (schedule : WireView) (b : Bounds) (says : ℕ) (m : ItemMove) (w : Ite
     pub others_asked : (j : ℕ) (d : Device) → j ≢ i → IsAskedBy m w j d d
 
   module _ (alone : IsOneDevice i w (moved m w)) (fits : FitsHere (moved m w)) (others : (j : ℕ) (p : Owned) (is : IsOwned schedule j p) → j ≢ i → Represents (identity_at schedule j p) (runs.devices j p is).logins (moved m w) (runs.devices j p is).view)
-      (done : List (Label ItemOut)) (g : DeviceGoes schedule (moved m w) i o (history_for schedule x.takes o) done old.sessions) (xs : List SessionStep) (there : Sessions) (session_steps : SessionSteps xs old.sessions there) (act : Act) (t : IsClientStep done g act there) where
+      (done : List (Label ItemOut)) (g : DeviceGoes schedule (moved m w) i o (history_for schedule x.takes o) done old.sessions device_at.view) (xs : List SessionStep) (there : Sessions) (session_steps : SessionSteps xs old.sessions there) (act : Act) (t : IsClientStep done g act there) where
     abbrev new : Device
     new = acted_by act there
 
@@ -95,10 +95,14 @@ module _ (schedule : WireView) (b : Bounds) (says : ℕ) (m : ItemMove) (w : Ite
         pages = t.pages;
         flags = subst (λ h. FlagsRepresent (identity_at schedule i o).account o.device h new.sessions) (sym alone.server) t.flags;
       };
+      leads = g.leads;
       others = others;
     }
 
-    pub move_runs : MoveSimulates schedule b says m w x
+    on : RunsOn schedule b says w x runs (says + length (spoken_by_move m w)) (moved m w) (with_device i new x)
+    on = subst (λ (l : List Spoken). RunsOn schedule b says w x runs (says + length l) (moved m w) (with_device i new x)) all_spoken (acted_on schedule b says w x runs i o (moved m w) new acts)
+
+    pub move_runs : MoveSimulates schedule b says m w x runs
     move_runs = record {
       events = events;
       next = with_device i new x;
@@ -110,5 +114,6 @@ module _ (schedule : WireView) (b : Bounds) (says : ℕ) (m : ItemMove) (w : Ite
           subst (λ (y : Device). IsAskedBy m w i y e) (same_Some old d (sym device_at.there ∙ is))
           (subst (IsAskedBy m w i old) (same_Some new e (sym (get_set_same x.devices i old new device_at.there) ∙ at)) t.asked))
           (λ j other d e is at. subst (IsAskedBy m w j d) (same_Some d e (sym is ∙ sym (set_elsewhere x.devices i j new other) ∙ at)) (t.others_asked j d other));
-      runs = subst (λ (l : List Spoken). WorldSimulates schedule b (says + length l) (moved m w) (with_device i new x)) all_spoken (acted_on schedule b says w x runs i o (moved m w) new acts);
+      runs = on.runs;
+      links = on.links;
     }

@@ -21,6 +21,7 @@ use Rattle.sim_3_images.proofs.Within.{item_within}
 use Rattle.sim_3_images.specs.Unbound.{IsWithin}
 use Rattle.sim_5_moves.proofs.ServersComing.{Coming, after, is_after, mine, old, own, step}
 use Rattle.sim_5_moves.proofs.Links.{Stands, stands_run}
+use Rattle.sim_5_moves.proofs.OneOwner.{of_owner}
 use Rattle.sim_5_devices.proofs.AllSessionSteps.{reaches_both, spoken_both}
 use Rattle.sim_3_items.specs.Served.{ServerSimulates, take_reported}
 use Rattle.sim_1_applications.specs.Devices.{AppWorld, Device, Sessions, Take}
@@ -32,17 +33,17 @@ use Rattle.sim_5_moves.proofs.Wires.{at_same, emitted_same, same_twice}
 use Rattle.cmd_network.specs.Positions.{changed_at}
 use Rattle.sim_4_links_follow.proofs.Headers.{item_may_go_up}
 use Rattle.sim_4_links_follow.proofs.StandMoves.{move_stands}
-use Rattle.sim_5_moves.specs.Running.{DeviceSimulates, IsOwned, MoveSimulates, WorldSimulates, keep_in, names_of}
+use Rattle.sim_5_moves.specs.Running.{DeviceSimulates, IsOwned, Leads, MoveSimulates, RunsOn, WorldSimulates, keep_in, names_of}
 
 -- another device, with these sessions
 abbrev pub IsSo : Coming → List Take → ℕ → Device → Sessions → Type 0
-IsSo c takes j e last = (p : Owned) × IsOwned c.schedule j p × Stands c.schedule (after c) takes j p (record e { sessions = last })
+IsSo c takes j e last = (p : Owned) × (is : IsOwned c.schedule j p) × Stands c.schedule (after c) takes j p (record e { sessions = last }) (c.runs.devices j p is).view
 
 -- the device whose stanza it is, the others, and the server
 pub record IsHandled (c : Coming) (takes : List Take) : Type 0 where
   pub following : Device
   pub handled : AreHandled (IsSo c takes) c.x (mine c) following takes
-  pub stands : Stands c.schedule (after c) takes (mine c) c.o following
+  pub stands : Stands c.schedule (after c) takes (mine c) c.o following (old c).view
   pub asked : following.reading.asked ≡ (old c).device.reading.asked
   pub server : ServerSimulates (keep_in c.schedule) (owned_of c.schedule) (names_of c.schedule) takes (step c).server_state
   pub told : c.w.takes ++ takes_reported c.w.moment (step c).outs ≡ map (take_reported (owned_of c.schedule)) takes
@@ -67,15 +68,18 @@ module _ (c : Coming) (takes : List Take) (n : IsHandled c takes) where
 
   -- ---- devices
 
-  device_runs : (j : ℕ) (p : Owned) → IsOwned c.schedule j p → DeviceSimulates c.schedule (after c) next j p
-  device_runs j p is = elim (cases_eq (mine c) j) [
+  abbrev Comes : (j : ℕ) (p : Owned) → IsOwned c.schedule j p → Type 0
+  Comes j p is = (e : DeviceSimulates c.schedule (after c) next j p) × Leads (c.runs.devices j p is).view e.view
+
+  device_comes : (j : ℕ) (p : Owned) (is : IsOwned c.schedule j p) → Comes j p is
+  device_comes j p is = elim (cases_eq (mine c) j) [
     | inl same ↦
-        subst (λ k. (q : Owned) → IsOwned c.schedule k q → DeviceSimulates c.schedule (after c) next k q) same
-        (λ q at. subst (DeviceSimulates c.schedule (after c) next (mine c)) (same_Some c.o q (sym c.owned ∙ at)) (stands_run c.schedule (after c) next (mine c) c.o n.following n.stands n.handled.here)) p is
+        subst (λ k. (q : Owned) (at : IsOwned c.schedule k q) → Comes k q at) same
+        (of_owner c.schedule (mine c) (Comes (mine c)) c.o c.owned (stands_run c.schedule (after c) next (mine c) c.o n.following (old c).view n.stands n.handled.here, n.stands.leads)) p is
     | inr apart ↦
         let r = c.runs.devices j p is in
         let it = n.handled.each j r.device r.there (λ same. apart (sym same)) in
-        subst (DeviceSimulates c.schedule (after c) next j) (same_Some it.1.0 p (sym it.1.1 ∙ is)) (stands_run c.schedule (after c) next j it.1.0 (record r.device { sessions = it.0 }) it.1.2 it.2)
+        of_owner c.schedule j (Comes j) it.1.0 it.1.1 (stands_run c.schedule (after c) next j it.1.0 (record r.device { sessions = it.0 }) (c.runs.devices j it.1.0 it.1.1).view it.1.2 it.2, it.1.2.leads) p is
   ]
 
   after_it : (j : ℕ) (e : Device) → slice_get c.x.devices j ≡ Some e → (f : Device) × (slice_get next.devices j ≡ Some f) × (f.reading.asked ≡ e.reading.asked)
@@ -127,7 +131,7 @@ module _ (c : Coming) (takes : List Take) (n : IsHandled c takes) where
 
   -- ---- the worlds
 
-  world_runs : WorldSimulates c.schedule c.b c.says (after c) next
+  abbrev world_runs : WorldSimulates c.schedule c.b c.says (after c) next
   world_runs = record {
     led = record {
       events = c.runs.led.events ++ n.handled.events;
@@ -137,7 +141,7 @@ module _ (c : Coming) (takes : List Take) (n : IsHandled c takes) where
     said = c.runs.said;
     asked = asked_few;
     dialled = subst (λ k. k ≤ c.b.dials) (sym many_wires) c.runs.dialled;
-    devices = device_runs;
+    devices = λ j p is. (device_comes j p is).0;
     many = c.runs.many;
     many_there = n.handled.many ∙ c.runs.many_there;
     wires = wires_are;
@@ -150,14 +154,18 @@ module _ (c : Coming) (takes : List Take) (n : IsHandled c takes) where
     within = subst (λ k. IsWithin k (step c).server_state) (sym many_wires) step_within;
   }
 
-  pub handled_runs : MoveSimulates c.schedule c.b c.says (Up c.position) c.w c.x
+  on : RunsOn c.schedule c.b c.says c.w c.x c.runs (c.says + 0) (moved (Up c.position) c.w) next
+  on =
+      subst (λ k. RunsOn c.schedule c.b c.says c.w c.x c.runs k (moved (Up c.position) c.w) next) (let same : c.says ≡ c.says + 0 = omega arith in same)
+      (subst (λ (a : ItemWorld). RunsOn c.schedule c.b c.says c.w c.x c.runs c.says a next) (sym (is_after c)) (record { runs = world_runs; links = λ j p is. (device_comes j p is).1 }))
+
+  pub handled_runs : MoveSimulates c.schedule c.b c.says (Up c.position) c.w c.x c.runs
   handled_runs = record {
     events = n.handled.events;
     next = next;
     reaches = n.handled.reaches;
     spoken = n.handled.silent;
     asked = asked_same;
-    runs =
-        subst (λ k. WorldSimulates c.schedule c.b k (moved (Up c.position) c.w) next) (let same : c.says ≡ c.says + 0 = omega arith in same)
-        (subst (λ (a : ItemWorld). WorldSimulates c.schedule c.b c.says a next) (sym (is_after c)) world_runs);
+    runs = on.runs;
+    links = on.links;
   }

@@ -19,7 +19,7 @@ use Rattle.cmd_schedule.specs.Schedules.{WireView}
 use Rattle.sim_5_devices.specs.Labels.{DoesInterleaved}
 use Rattle.sim_3_items.specs.Built.{IsDown, IsUp}
 use Rattle.sim_1_applications.specs.Devices.{Sessions}
-use Rattle.sim_5_moves.specs.Running.{AreBuilt}
+use Rattle.sim_5_moves.specs.Running.{AreBuilt, Leads}
 use Rattle.xml_writer.specs.Items.{ItemOut}
 
 -- the stanzas that are put by these labels are built as they are read
@@ -33,10 +33,11 @@ ArePutBuilt o history (x ∷ ds) = ArePutBuilt o history ds
 abbrev pub AllBuilt : Owned → List EntryView → Seen ItemOut → Type 0
 AllBuilt o history s = (q : ℕ) (t : SeenSession ItemOut) → s.sessions q ≡ Some t → AreBuilt o history t
 
--- behind a move, by which the device had these labels and the sessions it had were these
-pub record DeviceGoes (schedule : WireView) (w : ItemWorld) (i : ℕ) (o : Owned) (history : List EntryView) (done : List (Label ItemOut)) (was : Sessions) : Type 0 where
+-- behind a move, by which the device had these labels; the sessions it had were these, and its links showed so
+pub record DeviceGoes (schedule : WireView) (w : ItemWorld) (i : ℕ) (o : Owned) (history : List EntryView) (done : List (Label ItemOut)) (was : Sessions) (from : View ItemOut) : Type 0 where
   pub logins : ℕ → Login
   pub view : View ItemOut
+  pub leads : Leads from view
   pub reached : LinkReached view
   pub in_time : PagingReached paging_here view
   pub prompt : PromptReached awaits view

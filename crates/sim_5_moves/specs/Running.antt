@@ -17,6 +17,7 @@ use Rattle.cl_core.specs.UserCalls.{say_answer}
 use Rattle.sim_1_applications.specs.Counts.{IsUnanswered}
 use Rattle.sim_2_links.specs.Covers.{PromptReached}
 use Rattle.sim_2_links.specs.Events.{SeenSession, seen}
+use Rattle.sim_2_links.specs.Machine.{LinkMove, LinkReaches}
 use Rattle.sim_2_links.specs.Paging.{PagingReached}
 use Rattle.sim_2_links.specs.Views.{View}
 use Rattle.sim_2_events.specs.Lists.{IsDevice}
@@ -120,6 +121,15 @@ pub record WorldSimulates (schedule : WireView) (b : Bounds) (says : ℕ) (w : I
   pub stands : ServerStateStands (length w.wires) w.server
   pub within : IsWithin (length w.wires) w.server
 
+-- Moves of the links lead from the one to the other.
+abbrev pub Leads : View ItemOut → View ItemOut → Type 0
+Leads v next = (moves : List (LinkMove ItemOut)) × LinkReaches moves v next
+
+-- A world that is beside one of the applications, to which another one came: for each device moves of its links led there.
+pub record RunsOn (schedule : WireView) (b : Bounds) (says : ℕ) (w : ItemWorld) (x : AppWorld) (before : WorldSimulates schedule b says w x) (more : ℕ) (after : ItemWorld) (next : AppWorld) : Type 0 where
+  pub runs : WorldSimulates schedule b more after next
+  pub links : (i : ℕ) (o : Owned) (is : IsOwned schedule i o) → Leads (before.devices i o is).view (runs.devices i o is).view
+
 -- ---- a move
 
 -- what users say by it: a message that the client takes
@@ -155,11 +165,12 @@ IsInBounds b says (Down position) w x =
 IsInBounds b says (Dial position mine yours) w x = length w.wires + 1 ≤ b.dials
 IsInBounds b says m w x = Unit {0}
 
--- Behind the move the worlds are related still, by these events.
-pub record MoveSimulates (schedule : WireView) (b : Bounds) (says : ℕ) (m : ItemMove) (w : ItemWorld) (x : AppWorld) : Type 0 where
+-- Behind the move the worlds are related still, by these events; and for each device moves of its links led there.
+pub record MoveSimulates (schedule : WireView) (b : Bounds) (says : ℕ) (m : ItemMove) (w : ItemWorld) (x : AppWorld) (before : WorldSimulates schedule b says w x) : Type 0 where
   pub events : List AppEvent
   pub next : AppWorld
   pub reaches : Reaches events x next
   pub spoken : spoken_in events ≡ spoken_by_move m w
   pub asked : (i : ℕ) (d e : Device) → slice_get x.devices i ≡ Some d → slice_get next.devices i ≡ Some e → IsAskedBy m w i d e
   pub runs : WorldSimulates schedule b (says + length (spoken_by_move m w)) (moved m w) next
+  pub links : (i : ℕ) (o : Owned) (is : IsOwned schedule i o) → Leads (before.devices i o is).view (runs.devices i o is).view

@@ -17,7 +17,7 @@ use Rattle.sim_3_items.specs.Served.{FlagsRepresent, ServerSimulates}
 use Rattle.sim_1_applications.specs.Devices.{AppWorld, Device, Sessions}
 use Rattle.sim_1_applications.specs.Events.{AppEvent, Reaches}
 use Rattle.sim_1_applications.specs.Histories.{spoken_in}
-use Rattle.sim_5_moves.specs.Running.{Bounds, DeviceSimulates, IsOwned, WorldSimulates, keep_in, names_of}
+use Rattle.sim_5_moves.specs.Running.{Bounds, DeviceSimulates, IsOwned, RunsOn, WorldSimulates, keep_in, names_of}
 use Rattle.sim_1_applications.specs.Runs.{owned_of}
 use Rattle.xml_writer.specs.Items.{ItemOut}
 
@@ -67,11 +67,11 @@ pub record SilentWorld (schedule : WireView) (b : Bounds) (w : ItemWorld) (x : A
   pub stands : ServerStateStands (length after.wires) after.server
   pub within : IsWithin (length after.wires) after.server
 
--- behind the move the worlds are related, by these events
-pub record SilentSimulates (schedule : WireView) (b : Bounds) (says : ℕ) (x : AppWorld) (after : ItemWorld) : Type 0 where
+-- behind the move the worlds are related, by these events and by moves of the links
+pub record SilentSimulates (schedule : WireView) (b : Bounds) (says : ℕ) (w : ItemWorld) (x : AppWorld) (before : WorldSimulates schedule b says w x) (after : ItemWorld) : Type 0 where
   pub events : List AppEvent
   pub next : AppWorld
   pub reaches : Reaches events x next
   pub silent : spoken_in events ≡ []
   pub asked : (i : ℕ) (d e : Device) → slice_get x.devices i ≡ Some d → slice_get next.devices i ≡ Some e → e.reading.asked ≡ d.reading.asked
-  pub runs : WorldSimulates schedule b says after next
+  pub on : RunsOn schedule b says w x before says after next

@@ -19,19 +19,19 @@ ghost use Rattle.xml_writer.specs.Items.{ItemOut};
 /// A law: as the clock moves on, the world of the applications comes along: time passes there, and where a session of a
 /// device was parked for too long, it ends.
 pub fn ticks_run()
-    ensures { (schedule : WireView) (b : Bounds) (says milliseconds : ℕ) (w : ItemWorld) (x : AppWorld) → WorldSimulates schedule b says w x → MoveSimulates schedule b says (Tick milliseconds) w x }
+    ensures { (schedule : WireView) (b : Bounds) (says milliseconds : ℕ) (w : ItemWorld) (x : AppWorld) → (runs : WorldSimulates schedule b says w x) → MoveSimulates schedule b says (Tick milliseconds) w x runs }
 {}
 
 /// A law: so it does where the end of a connection is to be told to the server, also where it isn't due, or no such
 /// connection is there.
 pub fn ends_run()
-    ensures { (schedule : WireView) (b : Bounds) (says position : ℕ) (w : ItemWorld) (x : AppWorld) → IsWireSchedule schedule → WorldSimulates schedule b says w x → MoveSimulates schedule b says (UpEnd position) w x }
+    ensures { (schedule : WireView) (b : Bounds) (says position : ℕ) (w : ItemWorld) (x : AppWorld) → IsWireSchedule schedule → (runs : WorldSimulates schedule b says w x) → MoveSimulates schedule b says (UpEnd position) w x runs }
 {}
 
 /// A law: so it does where an item goes up on a connection of a device that is that of a word but a stanza: of the login, of
 /// a binding or a resumption, on acknowledgement, or a footer.
 pub fn silent_words_go_up()
-    ensures { (schedule : WireView) (b : Bounds) → IsWireSchedule schedule → AreSmall b → (says position : ℕ) (w : ItemWorld) (x : AppWorld) → WorldSimulates schedule b says w x → (wire : ItemWire) (i : ItemOut) (items : List ItemOut)
+    ensures { (schedule : WireView) (b : Bounds) → IsWireSchedule schedule → AreSmall b → (says position : ℕ) (w : ItemWorld) (x : AppWorld) → (runs : WorldSimulates schedule b says w x) → (wire : ItemWire) (i : ItemOut) (items : List ItemOut)
         → slice_get w.wires position ≡ Some wire → wire.up.items ≡ i ∷ items → (o : Owned) → IsOwned schedule wire.device o → (logins : ℕ → Login) (v : View ItemOut)
-        → (has : HasFirst (identity_at schedule wire.device o) logins w.server (by_number w.wires) v (position + 1) wire i) → IsSilent has.word → MoveSimulates schedule b says (Up position) w x }
+        → (has : HasFirst (identity_at schedule wire.device o) logins w.server (by_number w.wires) v (position + 1) wire i) → IsSilent has.word → MoveSimulates schedule b says (Up position) w x runs }
 {}

@@ -23,18 +23,18 @@ ghost use Rattle.xml_writer.specs.Items.{ItemOut};
 /// its bytes make, and sessions that were parked for too long may end (XEP-0198, section 5). Where the device isn't there
 /// nothing happens.
 pub fn dials_run()
-    ensures { (schedule : WireView) → IsWireSchedule schedule → (b : Bounds) → AreSmall b → (says : ℕ) (w : ItemWorld) (x : AppWorld) → WorldSimulates schedule b says w x → (i : ℕ) (mine yours : List ℕ) → MayItem (Dial i mine yours)
-        → IsInBounds b says (Dial i mine yours) w x → MoveSimulates schedule b says (Dial i mine yours) w x }
+    ensures { (schedule : WireView) → IsWireSchedule schedule → (b : Bounds) → AreSmall b → (says : ℕ) (w : ItemWorld) (x : AppWorld) → (runs : WorldSimulates schedule b says w x) → (i : ℕ) (mine yours : List ℕ) → MayItem (Dial i mine yours)
+        → IsInBounds b says (Dial i mine yours) w x → MoveSimulates schedule b says (Dial i mine yours) w x runs }
 {}
 
 /// A law: likewise where the network cuts a connection: its device drifts.
 pub fn cuts_run()
-    ensures { (schedule : WireView) (b : Bounds) (says : ℕ) (w : ItemWorld) (x : AppWorld) → WorldSimulates schedule b says w x → (position up down : ℕ) → MoveSimulates schedule b says (Cut position up down) w x }
+    ensures { (schedule : WireView) (b : Bounds) (says : ℕ) (w : ItemWorld) (x : AppWorld) → (runs : WorldSimulates schedule b says w x) → (position up down : ℕ) → MoveSimulates schedule b says (Cut position up down) w x runs }
 {}
 
 /// A law: and where its end is told to a device, which then keeps its session.
 pub fn ends_are_told_run()
-    ensures { (schedule : WireView) (b : Bounds) (says : ℕ) (w : ItemWorld) (x : AppWorld) → WorldSimulates schedule b says w x → (position : ℕ) → MoveSimulates schedule b says (DownEnd position) w x }
+    ensures { (schedule : WireView) (b : Bounds) (says : ℕ) (w : ItemWorld) (x : AppWorld) → (runs : WorldSimulates schedule b says w x) → (position : ℕ) → MoveSimulates schedule b says (DownEnd position) w x runs }
 {}
 
 /// A law: the next item that comes to a device, on the connection that it has, is that of a word of a login or of what
@@ -44,11 +44,11 @@ pub fn silent_words_come_down()
     ensures { (schedule : WireView) (b : Bounds) (says : ℕ) (w : ItemWorld) (x : AppWorld) (runs : WorldSimulates schedule b says w x) (position : ℕ) (wire : ItemWire) (o : Owned) (owned : IsOwned schedule wire.device o) (word : DownWord ItemOut) → IsSilentWord word
         → (p : IsNextDown (identity_at schedule wire.device o) (runs.devices wire.device o owned).logins (runs.devices wire.device o owned).represents.device (by_number w.wires) (runs.devices wire.device o owned).view (position + 1) word)
         → IsNextItem position wire.device w (runs.devices wire.device o owned).represents.device wire (down_item (identity_at schedule wire.device o) ((runs.devices wire.device o owned).logins (position + 1)) (position + 1) (is_after_login p.conn.client) word)
-        → MoveSimulates schedule b says (Down position) w x }
+        → MoveSimulates schedule b says (Down position) w x runs }
 {}
 
 /// A law: behind each item that comes down on a connection the worlds are related still. Where there is no such
 /// connection, where nothing is on it, or where its device has another one, nothing happens.
 pub fn downs_run()
-    ensures { (schedule : WireView) (b : Bounds) → AreSmall b → (says : ℕ) (w : ItemWorld) (x : AppWorld) → WorldSimulates schedule b says w x → IsGround schedule x → (position : ℕ) → IsInBounds b says (Down position) w x → MoveSimulates schedule b says (Down position) w x }
+    ensures { (schedule : WireView) (b : Bounds) → AreSmall b → (says : ℕ) (w : ItemWorld) (x : AppWorld) → (runs : WorldSimulates schedule b says w x) → IsGround schedule x → (position : ℕ) → IsInBounds b says (Down position) w x → MoveSimulates schedule b says (Down position) w x runs }
 {}

@@ -8,13 +8,14 @@ ghost use Rattle.sim_5_devices.specs.Labels.{SessionStep, SessionSteps, session_
 ghost use Rattle.sim_1_applications.specs.Devices.{AppWorld, Device, Sessions};
 ghost use Rattle.sim_1_applications.specs.Events.{Act, At, May, Reaches, around, own, taken_by};
 ghost use Rattle.sim_1_applications.specs.Histories.{spoken_in};
-ghost use Rattle.sim_5_moves.specs.Running.{Bounds, WorldSimulates};
+ghost use Rattle.sim_5_moves.specs.Running.{Bounds, RunsOn, WorldSimulates};
 
 /// A law: one device of a world of items acts alone: the server, what it took and the moment stay, and the others are shown
-/// as they were. Where the device comes beside what events of it lead to, the worlds are related.
+/// as they were. Where the device comes beside what events of it lead to, and its links by their moves, the worlds are
+/// related.
 pub fn one_device_acts()
     ensures { (schedule : WireView) (b : Bounds) (says : ℕ) (w : ItemWorld) (x : AppWorld) (runs : WorldSimulates schedule b says w x) (i : ℕ) (o : Owned) (next : ItemWorld) (d : Device) (a : ActsAlone schedule b says w x runs i o next d)
-        → WorldSimulates schedule b (says + length (spoken_in a.events)) next (with_device i d x) }
+        → RunsOn schedule b says w x runs (says + length (spoken_in a.events)) next (with_device i d x) }
 {}
 
 /// A law: a device takes session steps, and then acts so that no message is taken: these are events of the world of the

@@ -35,10 +35,10 @@ pub fn stanzas_go_up()
     ensures { (schedule : WireView) → IsWireSchedule schedule → (b : Bounds) → AreSmall b → (says : ℕ) (w : ItemWorld) (x : AppWorld) (runs : WorldSimulates schedule b says w x) → IsGround schedule x → (position : ℕ) (wire : ItemWire) (i : ItemOut) (items : List ItemOut)
         → slice_get w.wires position ≡ Some wire → wire.up.items ≡ i ∷ items → (o : Owned) → (owned : IsOwned schedule wire.device o)
         → (g : ItemGoesUp (identity_at schedule wire.device o) (runs.devices wire.device o owned).logins w (runs.devices wire.device o owned).view position wire i) → (z : ItemOut) → g.has.word ≡ UpTraffic (St z)
-        → MoveSimulates schedule b says (Up position) w x }
+        → MoveSimulates schedule b says (Up position) w x runs }
 {}
 
 /// A law: so it is whatever goes up on a connection, also where nothing does, or no such connection is there.
 pub fn ups_run()
-    ensures { (schedule : WireView) (b : Bounds) → IsWireSchedule schedule → AreSmall b → (says position : ℕ) (w : ItemWorld) (x : AppWorld) → WorldSimulates schedule b says w x → IsGround schedule x → MoveSimulates schedule b says (Up position) w x }
+    ensures { (schedule : WireView) (b : Bounds) → IsWireSchedule schedule → AreSmall b → (says position : ℕ) (w : ItemWorld) (x : AppWorld) → (runs : WorldSimulates schedule b says w x) → IsGround schedule x → MoveSimulates schedule b says (Up position) w x runs }
 {}

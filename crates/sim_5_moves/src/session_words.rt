@@ -26,5 +26,5 @@ pub fn session_words_come_down()
         → (owned : IsOwned schedule wire.device o) → (word : DownWord ItemOut) → IsOfSessions word
         → (p : IsNextDown (identity_at schedule wire.device o) (runs.devices wire.device o owned).logins (runs.devices wire.device o owned).represents.device (by_number w.wires) (runs.devices wire.device o owned).view (position + 1) word)
         → IsNextItem position wire.device w (runs.devices wire.device o owned).represents.device wire (down_item (identity_at schedule wire.device o) ((runs.devices wire.device o owned).logins (position + 1)) (position + 1) (is_after_login p.conn.client) word)
-        → IsInBounds b says (Down position) w x → MoveSimulates schedule b says (Down position) w x }
+        → IsInBounds b says (Down position) w x → MoveSimulates schedule b says (Down position) w x runs }
 {}

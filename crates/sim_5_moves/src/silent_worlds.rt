@@ -10,6 +10,6 @@ ghost use Rattle.sim_5_moves.specs.Running.{Bounds, WorldSimulates};
 /// A law: behind a move by which no device does anything with stanzas, the worlds are related: time passes, and the
 /// devices take session steps. Nobody says anything, and nobody asks for a page.
 pub fn silent_worlds_run()
-    ensures { (schedule : WireView) (b : Bounds) (says : ℕ) (w : ItemWorld) (x : AppWorld) (after : ItemWorld) (passed : ℕ) → WorldSimulates schedule b says w x → Taken x → SilentWorld schedule b w x after passed
-        → SilentSimulates schedule b says x after }
+    ensures { (schedule : WireView) (b : Bounds) (says : ℕ) (w : ItemWorld) (x : AppWorld) (after : ItemWorld) (passed : ℕ) → (runs : WorldSimulates schedule b says w x) → Taken x → SilentWorld schedule b w x after passed
+        → SilentSimulates schedule b says w x runs after }
 {}

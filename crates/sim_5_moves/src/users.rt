@@ -13,6 +13,6 @@ ghost use Rattle.sim_5_moves.specs.Running.{Bounds, IsOwned, MoveSimulates, Worl
 /// A law: where a user gives the session of a device up, or closes the stream, the world of the applications comes along: the
 /// device's client drops its session.
 pub fn users_run()
-    ensures forgets { (schedule : WireView) (b : Bounds) (says : ℕ) (w : ItemWorld) (x : AppWorld) → WorldSimulates schedule b says w x → (i : ℕ) (o : Owned) → IsOwned schedule i o → MoveSimulates schedule b says (Forget i) w x }
-    ensures closes { (schedule : WireView) (b : Bounds) (says : ℕ) (w : ItemWorld) (x : AppWorld) → WorldSimulates schedule b says w x → (i : ℕ) (o : Owned) → IsOwned schedule i o → MoveSimulates schedule b says (Close i) w x }
+    ensures forgets { (schedule : WireView) (b : Bounds) (says : ℕ) (w : ItemWorld) (x : AppWorld) → (runs : WorldSimulates schedule b says w x) → (i : ℕ) (o : Owned) → IsOwned schedule i o → MoveSimulates schedule b says (Forget i) w x runs }
+    ensures closes { (schedule : WireView) (b : Bounds) (says : ℕ) (w : ItemWorld) (x : AppWorld) → (runs : WorldSimulates schedule b says w x) → (i : ℕ) (o : Owned) → IsOwned schedule i o → MoveSimulates schedule b says (Close i) w x runs }
 {}

@@ -35,7 +35,8 @@ use Rattle.cmd_world.specs.Moves.{Move, all_moved, moved}
 use Rattle.cmd_world.specs.Moves as bytes
 use Rattle.cmd_world.specs.Worlds as wires
 use Rattle.sim_5_moves.specs.Running.{WorldSimulates}
-use Rattle.sim_7_schedules.specs.Simulation.{EachMoveSimulates, IsEncoded, MovesSimulate, Simulates, bounds}
+use Rattle.sim_7_schedules.proofs.Leading.{at_once}
+use Rattle.sim_7_schedules.specs.Simulation.{AllLead, EachMoveSimulates, IsEncoded, MovesSimulate, SimulatesBy, Views, bounds, views_of}
 use Rattle.sim_7_schedules.proofs.Wires.{IsNoDial, downs_none, moves_many, served_none}
 use Rattle.sim_7_schedules.proofs.Rounds.{AtMost, Goes, IsInRound, down_line, most_after, round_of, up_line}
 
@@ -47,7 +48,7 @@ pub is_moved : (m : Move) (W : wires.ByteWorld) (w : ItemWorld) → MayMove m �
 is_moved m W w may encodes = move_is UpFits DownFits (StandingServers ServerFits) ClientFits cores m W w may encodes
 
 -- Moves lead to a world of bytes, and events to one of the applications; behind each the two are related.
-pub record LineGoes (schedule : WireView) (dials says : ℕ) (said : List Spoken) (ms : List Move) (W : wires.ByteWorld) (x : AppWorld) (Post : ItemWorld → AppWorld → Type 0) : Type 0 where
+pub record LineGoes (schedule : WireView) (from : Views schedule) (dials says : ℕ) (said : List Spoken) (ms : List Move) (W : wires.ByteWorld) (x : AppWorld) (Post : ItemWorld → AppWorld → Type 0) : Type 0 where
   pub moves : List (List AppEvent)
   pub items : ItemWorld
   pub next : AppWorld
@@ -57,15 +58,15 @@ pub record LineGoes (schedule : WireView) (dials says : ℕ) (said : List Spoken
   pub runs : WorldSimulates schedule bounds says items next
   pub post : Post items next
   pub wide : length items.wires ≤ length W.wires + dials
-  pub beside : MovesSimulate schedule ms moves W x
+  pub beside : MovesSimulate schedule ms moves from (views_of runs) W x
 
-pub no_moves : (schedule : WireView) (says : ℕ) (W : wires.ByteWorld) (w : ItemWorld) (x : AppWorld) (Post : ItemWorld → AppWorld → Type 0) → IsEncoded W w → WorldSimulates schedule bounds says w x → Post w x → LineGoes schedule 0 says [] [] W x Post
-no_moves schedule says W w x Post encodes runs post = record { moves = []; items = w; next = x; led = refl; spoken = refl; encodes = encodes; runs = runs; post = post; wide = (let same = encodes.as_many in omega arith); beside = tt }
+pub no_moves : (schedule : WireView) (says : ℕ) (W : wires.ByteWorld) (w : ItemWorld) (x : AppWorld) (Post : ItemWorld → AppWorld → Type 0) → IsEncoded W w → (runs : WorldSimulates schedule bounds says w x) → Post w x → LineGoes schedule (views_of runs) 0 says [] [] W x Post
+no_moves schedule says W w x Post encodes runs post = record { moves = []; items = w; next = x; led = refl; spoken = refl; encodes = encodes; runs = runs; post = post; wide = (let same = encodes.as_many in omega arith); beside = refl }
 
 -- one move
-pub one_move : (schedule : WireView) (dials says : ℕ) (said : List Spoken) (m : Move) (W : wires.ByteWorld) (x : AppWorld) (Post : ItemWorld → AppWorld → Type 0) (events : List AppEvent) (w2 : ItemWorld) (next : AppWorld) → Reaches events x next → spoken_in events ≡ said →
-    IsEncoded (moved m W) w2 → WorldSimulates schedule bounds says w2 next → Post w2 next → length w2.wires ≤ length W.wires + dials → LineGoes schedule dials says said (m ∷ []) W x Post
-one_move schedule dials says said m W x Post events w2 next led spoken encodes runs post wide = record {
+pub one_move : (schedule : WireView) (from : Views schedule) (dials says : ℕ) (said : List Spoken) (m : Move) (W : wires.ByteWorld) (x : AppWorld) (Post : ItemWorld → AppWorld → Type 0) (events : List AppEvent) (w2 : ItemWorld) (next : AppWorld) → Reaches events x next → spoken_in events ≡ said →
+    IsEncoded (moved m W) w2 → (runs : WorldSimulates schedule bounds says w2 next) → AllLead schedule from (views_of runs) → Post w2 next → length w2.wires ≤ length W.wires + dials → LineGoes schedule from dials says said (m ∷ []) W x Post
+one_move schedule from dials says said m W x Post events w2 next led spoken encodes runs leads post wide = record {
   moves = events ∷ [];
   items = w2;
   next = next;
@@ -75,7 +76,12 @@ one_move schedule dials says said m W x Post events w2 next led spoken encodes r
   runs = runs;
   post = post;
   wide = wide;
-  beside = (subst (Simulates schedule (moved m W)) (reaches_is events x next led) (record { says = says; items = w2; encodes = encodes; runs = runs }), tt);
+  beside = (
+    views_of runs,
+    subst (λ y. SimulatesBy schedule (moved m W) y (views_of runs)) (reaches_is events x next led) (record { beside = record { says = says; items = w2; encodes = encodes; runs = runs }; shown = λ i o is. refl }),
+    leads,
+    refl,
+  );
 }
 
 -- moves, and then others
@@ -84,22 +90,24 @@ pub state_joined : (x : AppWorld) (first second : List AppEvent) → state_after
 state_joined x [] second = refl
 state_joined x (e ∷ first) second = state_joined (after x e) first second
 
-beside_joined : (schedule : WireView) (first second : List Move) (es fs : List (List AppEvent)) (W : wires.ByteWorld) (x : AppWorld) → MovesSimulate schedule first es W x →
-    MovesSimulate schedule second fs (all_moved first W) (state_after x (flat_map (λ one. one) es)) → MovesSimulate schedule (first ++ second) (es ++ fs) W x
-beside_joined schedule [] second [] fs W x one two = two
-beside_joined schedule [] second (e ∷ es) fs W x one two = absurd one
-beside_joined schedule (m ∷ first) second [] fs W x one two = absurd one
-beside_joined schedule (m ∷ first) second (e ∷ es) fs W x one two = (
+beside_joined : (schedule : WireView) (first second : List Move) (es fs : List (List AppEvent)) (from mid last : Views schedule) (W : wires.ByteWorld) (x : AppWorld) → MovesSimulate schedule first es from mid W x →
+    MovesSimulate schedule second fs mid last (all_moved first W) (state_after x (flat_map (λ one. one) es)) → MovesSimulate schedule (first ++ second) (es ++ fs) from last W x
+beside_joined schedule [] second [] fs from mid last W x one two = subst (λ (v : Views schedule). MovesSimulate schedule second fs v last W x) one two
+beside_joined schedule [] second (e ∷ es) fs from mid last W x one two = absurd one
+beside_joined schedule (m ∷ first) second [] fs from mid last W x one two = absurd one
+beside_joined schedule (m ∷ first) second (e ∷ es) fs from mid last W x one two = (
   one.0,
-  beside_joined schedule first second es fs (moved m W) (state_after x e) one.1
-      (subst (MovesSimulate schedule second fs (all_moved first (moved m W))) (state_joined x e (flat_map (λ l. l) es)) two),
+  one.1,
+  one.2,
+  beside_joined schedule first second es fs one.0 mid last (moved m W) (state_after x e) one.3
+      (subst (MovesSimulate schedule second fs mid last (all_moved first (moved m W))) (state_joined x e (flat_map (λ l. l) es)) two),
 )
 
-pub and_then : (schedule : WireView) (mid says : ℕ) (said more : List Spoken) (first second : List Move) (W : wires.ByteWorld) (x : AppWorld) (Mid Post : ItemWorld → AppWorld → Type 0) →
-    LineGoes schedule 0 mid said first W x Mid →
-    ((w : ItemWorld) (y : AppWorld) → IsEncoded (all_moved first W) w → WorldSimulates schedule bounds mid w y → Mid w y → LineGoes schedule 0 says more second (all_moved first W) y Post) →
-    LineGoes schedule 0 says (said ++ more) (first ++ second) W x Post
-and_then schedule mid says said more first second W x Mid Post one rest =
+pub and_then : (schedule : WireView) (from : Views schedule) (mid says : ℕ) (said more : List Spoken) (first second : List Move) (W : wires.ByteWorld) (x : AppWorld) (Mid Post : ItemWorld → AppWorld → Type 0) →
+    LineGoes schedule from 0 mid said first W x Mid →
+    ((w : ItemWorld) (y : AppWorld) → IsEncoded (all_moved first W) w → (runs : WorldSimulates schedule bounds mid w y) → Mid w y → LineGoes schedule (views_of runs) 0 says more second (all_moved first W) y Post) →
+    LineGoes schedule from 0 says (said ++ more) (first ++ second) W x Post
+and_then schedule from mid says said more first second W x Mid Post one rest =
     let two = rest one.items one.next one.encodes one.runs one.post in
     record {
       moves = one.moves ++ two.moves;
@@ -112,8 +120,8 @@ and_then schedule mid says said more first second W x Mid Post one rest =
       runs = two.runs;
       post = two.post;
       wide = let shown = one.encodes.as_many in let first_wide = one.wide in let second_wide = two.wide in omega arith;
-      beside = beside_joined schedule first second one.moves two.moves W x one.beside
-          (subst (MovesSimulate schedule second two.moves (all_moved first W)) (reaches_is (flat_map (λ l. l) one.moves) x one.next one.led) two.beside);
+      beside = beside_joined schedule first second one.moves two.moves from (views_of one.runs) (views_of two.runs) W x one.beside
+          (subst (MovesSimulate schedule second two.moves (views_of one.runs) (views_of two.runs) (all_moved first W)) (reaches_is (flat_map (λ l. l) one.moves) x one.next one.led) two.beside);
     }
 
 -- ---- passes and rounds
@@ -162,57 +170,57 @@ round_timely position zero W timely = timely
 round_timely position (suc count) W timely = round_timely (position + 1) count (all_moved (pass_of position) W) (pass_timely position W timely)
 
 module _ (schedule : WireView) (each : EachMoveSimulates schedule) where
-  pub of_goes : (says : ℕ) (m : Move) (W : wires.ByteWorld) (w : ItemWorld) (x : AppWorld) (Post : ItemWorld → AppWorld → Type 0) → IsEncoded W w → (r : IsMoved UpFits DownFits (StandingServers ServerFits) ClientFits m W w) →
-      Goes schedule says (items.all_moved r.moves w) x (Post (items.all_moved r.moves w)) → AllByRecursion IsNoDial r.moves → LineGoes schedule 0 says [] (m ∷ []) W x Post
-  of_goes says m W w x Post encodes r g none =
-      one_move schedule 0 says [] m W x Post g.events (items.all_moved r.moves w) g.next g.led g.silent r.encodes g.runs g.post
+  pub of_goes : (from : Views schedule) (says : ℕ) (m : Move) (W : wires.ByteWorld) (w : ItemWorld) (x : AppWorld) (Post : ItemWorld → AppWorld → Type 0) → IsEncoded W w → (r : IsMoved UpFits DownFits (StandingServers ServerFits) ClientFits m W w) →
+      Goes schedule from says (items.all_moved r.moves w) x (Post (items.all_moved r.moves w)) → AllByRecursion IsNoDial r.moves → LineGoes schedule from 0 says [] (m ∷ []) W x Post
+  of_goes from says m W w x Post encodes r g none =
+      one_move schedule from 0 says [] m W x Post g.events (items.all_moved r.moves w) g.next g.led g.silent r.encodes g.runs.world g.runs.leads g.post
       (let same = moves_many r.moves w none in let shown = encodes.as_many in omega arith)
 
-  pub up_byte : (says position : ℕ) (count : Count) (W : wires.ByteWorld) (w : ItemWorld) (x : AppWorld) (n p : ℕ) → IsEncoded W w → WorldSimulates schedule bounds says w x → IsInRound n p w x →
-      LineGoes schedule 0 says [] (bytes.Up position count ∷ []) W x (IsInRound n p)
+  pub up_byte : (says position : ℕ) (count : Count) (W : wires.ByteWorld) (w : ItemWorld) (x : AppWorld) (n p : ℕ) → IsEncoded W w → (runs : WorldSimulates schedule bounds says w x) → IsInRound n p w x →
+      LineGoes schedule (views_of runs) 0 says [] (bytes.Up position count ∷ []) W x (IsInRound n p)
   up_byte says position count W w x n p encodes runs round =
       let r = is_moved (bytes.Up position count) W w tt encodes in
       let run = r.is_run in
-      of_goes says (bytes.Up position count) W w x (IsInRound n p) encodes r
-      (subst (λ ms. Goes schedule says (items.all_moved ms w) x (IsInRound n p (items.all_moved ms w))) (sym run.3) (up_line schedule each says position run.0 run.1 w x n p run.2 runs round))
+      of_goes (views_of runs) says (bytes.Up position count) W w x (IsInRound n p) encodes r
+      (subst (λ ms. Goes schedule (views_of runs) says (items.all_moved ms w) x (IsInRound n p (items.all_moved ms w))) (sym run.3) (up_line schedule each (views_of runs) says position run.0 run.1 w x n p run.2 (at_once schedule says w x runs) round))
       (subst (AllByRecursion IsNoDial) (sym run.3) (served_none position run.0 run.1 run.2))
 
-  pub down_byte : (says position : ℕ) (count : Count) (W : wires.ByteWorld) (w : ItemWorld) (x : AppWorld) (n : ℕ) → n ≤ 200000 → IsTimely W → IsEncoded W w → WorldSimulates schedule bounds says w x → IsInRound n position w x →
-      LineGoes schedule 0 says [] (bytes.Down position count ∷ []) W x (IsInRound n (position + 1))
+  pub down_byte : (says position : ℕ) (count : Count) (W : wires.ByteWorld) (w : ItemWorld) (x : AppWorld) (n : ℕ) → n ≤ 200000 → IsTimely W → IsEncoded W w → (runs : WorldSimulates schedule bounds says w x) → IsInRound n position w x →
+      LineGoes schedule (views_of runs) 0 says [] (bytes.Down position count ∷ []) W x (IsInRound n (position + 1))
   down_byte says position count W w x n few timely encodes runs round =
       let r = is_moved (bytes.Down position count) W w tt encodes in
       let run = r.is_run in
-      of_goes says (bytes.Down position count) W w x (IsInRound n (position + 1)) encodes r
-      (subst (λ ms. Goes schedule says (items.all_moved ms w) x (IsInRound n (position + 1) (items.all_moved ms w))) (sym run.2) (down_line schedule each says position run.0 run.1 w x n few (subst (λ k. k ≤ last_moment) encodes.moment timely) runs round))
+      of_goes (views_of runs) says (bytes.Down position count) W w x (IsInRound n (position + 1)) encodes r
+      (subst (λ ms. Goes schedule (views_of runs) says (items.all_moved ms w) x (IsInRound n (position + 1) (items.all_moved ms w))) (sym run.2) (down_line schedule each (views_of runs) says position run.0 run.1 w x n few (subst (λ k. k ≤ last_moment) encodes.moment timely) (at_once schedule says w x runs) round))
       (subst (AllByRecursion IsNoDial) (sym run.2) (downs_none position run.0 run.1))
 
-  pub pass_goes : (says position : ℕ) (W : wires.ByteWorld) (w : ItemWorld) (x : AppWorld) (n : ℕ) → n ≤ 200000 → IsTimely W → IsEncoded W w → WorldSimulates schedule bounds says w x → IsInRound n position w x →
-      LineGoes schedule 0 says [] (pass_of position) W x (IsInRound n (position + 1))
+  pub pass_goes : (says position : ℕ) (W : wires.ByteWorld) (w : ItemWorld) (x : AppWorld) (n : ℕ) → n ≤ 200000 → IsTimely W → IsEncoded W w → (runs : WorldSimulates schedule bounds says w x) → IsInRound n position w x →
+      LineGoes schedule (views_of runs) 0 says [] (pass_of position) W x (IsInRound n (position + 1))
   pass_goes says position W w x n few timely encodes runs round =
-      and_then schedule says says [] [] (bytes.Up position All ∷ []) (bytes.Down position All ∷ []) W x (IsInRound n position) (IsInRound n (position + 1)) (up_byte says position All W w x n position encodes runs round)
+      and_then schedule (views_of runs) says says [] [] (bytes.Up position All ∷ []) (bytes.Down position All ∷ []) W x (IsInRound n position) (IsInRound n (position + 1)) (up_byte says position All W w x n position encodes runs round)
       (λ v y shown here mid. down_byte says position All (moved (bytes.Up position All) W) v y n few (subst (λ k. k ≤ last_moment) (sym (up_moment position All W)) timely) shown here mid)
 
-  pub round_goes : (says position count : ℕ) (W : wires.ByteWorld) (w : ItemWorld) (x : AppWorld) (n : ℕ) → n ≤ 200000 → IsTimely W → IsEncoded W w → WorldSimulates schedule bounds says w x → IsInRound n position w x →
-      LineGoes schedule 0 says [] (round_from position count) W x (λ v y. (p : ℕ) × IsInRound n p v y)
+  pub round_goes : (says position count : ℕ) (W : wires.ByteWorld) (w : ItemWorld) (x : AppWorld) (n : ℕ) → n ≤ 200000 → IsTimely W → IsEncoded W w → (runs : WorldSimulates schedule bounds says w x) → IsInRound n position w x →
+      LineGoes schedule (views_of runs) 0 says [] (round_from position count) W x (λ v y. (p : ℕ) × IsInRound n p v y)
   round_goes says position zero W w x n few timely encodes runs round = no_moves schedule says W w x (λ v y. (p : ℕ) × IsInRound n p v y) encodes runs (position, round)
   round_goes says position (suc count) W w x n few timely encodes runs round =
-      and_then schedule says says [] [] (pass_of position) (round_from (position + 1) count) W x (IsInRound n (position + 1)) (λ v y. (p : ℕ) × IsInRound n p v y) (pass_goes says position W w x n few timely encodes runs round)
+      and_then schedule (views_of runs) says says [] [] (pass_of position) (round_from (position + 1) count) W x (IsInRound n (position + 1)) (λ v y. (p : ℕ) × IsInRound n p v y) (pass_goes says position W w x n few timely encodes runs round)
       (λ v y shown here mid. round_goes says (position + 1) count (all_moved (pass_of position) W) v y n few (pass_timely position W timely) shown here mid)
 
-  pub rounds_go : (says times count : ℕ) (W : wires.ByteWorld) (w : ItemWorld) (x : AppWorld) (n : ℕ) → n + times ≤ 200000 → IsTimely W → IsEncoded W w → WorldSimulates schedule bounds says w x → AtMost n x →
-      LineGoes schedule 0 says [] (rounds_of times count) W x (λ v y. AtMost (n + times) y)
+  pub rounds_go : (says times count : ℕ) (W : wires.ByteWorld) (w : ItemWorld) (x : AppWorld) (n : ℕ) → n + times ≤ 200000 → IsTimely W → IsEncoded W w → (runs : WorldSimulates schedule bounds says w x) → AtMost n x →
+      LineGoes schedule (views_of runs) 0 says [] (rounds_of times count) W x (λ v y. AtMost (n + times) y)
   rounds_go says zero count W w x n few timely encodes runs most = no_moves schedule says W w x (λ v y. AtMost (n + 0) y) encodes runs (subst (λ k. AtMost k x) (let same : n ≡ n + 0 = omega arith in same) most)
   rounds_go says (suc times) count W w x n few timely encodes runs most =
-      and_then schedule says says [] [] (round_from 0 count) (rounds_of times count) W x (λ v y. (p : ℕ) × IsInRound n p v y) (λ v y. AtMost (n + suc times) y)
+      and_then schedule (views_of runs) says says [] [] (round_from 0 count) (rounds_of times count) W x (λ v y. (p : ℕ) × IsInRound n p v y) (λ v y. AtMost (n + suc times) y)
       (round_goes says 0 count W w x n (omega arith) timely encodes runs (round_of n 0 w x most))
-      (λ v y shown here mid. subst (λ k. LineGoes schedule 0 says [] (rounds_of times count) (all_moved (round_from 0 count) W) y (λ u z. AtMost k z)) (let same : n + 1 + times ≡ n + suc times = omega arith in same)
+      (λ v y shown here mid. subst (λ k. LineGoes schedule (views_of here) 0 says [] (rounds_of times count) (all_moved (round_from 0 count) W) y (λ u z. AtMost k z)) (let same : n + 1 + times ≡ n + suc times = omega arith in same)
       (rounds_go says times count (all_moved (round_from 0 count) W) v y (n + 1) (omega arith) (round_timely 0 count W timely) shown here (most_after n mid.0 v y mid.1)))
 
-  pub passes_go : (says times position : ℕ) (W : wires.ByteWorld) (w : ItemWorld) (x : AppWorld) (n : ℕ) → n + times ≤ 200000 → IsTimely W → IsEncoded W w → WorldSimulates schedule bounds says w x → AtMost n x →
-      LineGoes schedule 0 says [] (passes_of times position) W x (λ v y. AtMost (n + times) y)
+  pub passes_go : (says times position : ℕ) (W : wires.ByteWorld) (w : ItemWorld) (x : AppWorld) (n : ℕ) → n + times ≤ 200000 → IsTimely W → IsEncoded W w → (runs : WorldSimulates schedule bounds says w x) → AtMost n x →
+      LineGoes schedule (views_of runs) 0 says [] (passes_of times position) W x (λ v y. AtMost (n + times) y)
   passes_go says zero position W w x n few timely encodes runs most = no_moves schedule says W w x (λ v y. AtMost (n + 0) y) encodes runs (subst (λ k. AtMost k x) (let same : n ≡ n + 0 = omega arith in same) most)
   passes_go says (suc times) position W w x n few timely encodes runs most =
-      and_then schedule says says [] [] (pass_of position) (passes_of times position) W x (IsInRound n (position + 1)) (λ v y. AtMost (n + suc times) y)
+      and_then schedule (views_of runs) says says [] [] (pass_of position) (passes_of times position) W x (IsInRound n (position + 1)) (λ v y. AtMost (n + suc times) y)
       (pass_goes says position W w x n (omega arith) timely encodes runs (round_of n position w x most))
-      (λ v y shown here mid. subst (λ k. LineGoes schedule 0 says [] (passes_of times position) (all_moved (pass_of position) W) y (λ u z. AtMost k z)) (let same : n + 1 + times ≡ n + suc times = omega arith in same)
+      (λ v y shown here mid. subst (λ k. LineGoes schedule (views_of here) 0 says [] (passes_of times position) (all_moved (pass_of position) W) y (λ u z. AtMost k z)) (let same : n + 1 + times ≡ n + suc times = omega arith in same)
       (passes_go says times position (all_moved (pass_of position) W) v y (n + 1) (omega arith) (pass_timely position W timely) shown here (most_after n (position + 1) v y mid)))

@@ -15,7 +15,7 @@ use Rattle.sim_1_applications.specs.Runs.{LineRun, begins}
 use Rattle.sim_1_applications.specs.Runs as lines
 use Rattle.sim_7_schedules.proofs.ByteMoves.{state_joined}
 use Rattle.sim_7_schedules.proofs.WholeRuns.{whole_run}
-use Rattle.sim_7_schedules.specs.Simulation.{LinesSimulate, MovesSimulate, Simulates}
+use Rattle.sim_7_schedules.specs.Simulation.{AllLead, LinesSimulate, MovesSimulate, Simulates, SimulatesBy, Views, views_of}
 use Rattle.cmd_world.specs.Histories.{history_of, world_at_start, worlds_along, worlds_by}
 use Rattle.cmd_world.specs.Lines.{moves_of, stepped}
 use Rattle.cmd_world.specs.Moves.{Move, moved}
@@ -38,42 +38,54 @@ cut_at xs ys x last r =
     let is = reaches_is xs x b.mid b.first in
     (subst (λ u. Reaches xs x u) is b.first, subst (λ u. Reaches ys u last) is b.second)
 
--- ---- worlds, one after another
+-- ---- worlds, one after another, and the links of each
 
-abbrev pub Chain : WireView → sessions.AppWorld → List ByteWorld → Type 0
-Chain s x [] = Unit {0}
-Chain s x (W ∷ Ws) = (y : sessions.AppWorld) × (es : List AppEvent) × Reaches es x y × Simulates s W y × Chain s y Ws
+abbrev pub Chain : (s : WireView) → sessions.AppWorld → Views s → List ByteWorld → Type 0
+Chain s x views [] = Unit {0}
+Chain s x views (W ∷ Ws) = (y : sessions.AppWorld) × (es : List AppEvent) × Reaches es x y × (next : Views s) × SimulatesBy s W y next × AllLead s views next × Chain s y next Ws
 
 abbrev joined : List (List AppEvent) → List AppEvent
 joined moves = flat_map (λ one. one) moves
 
-chain_moves : (s : WireView) (ms : List Move) (ess : List (List AppEvent)) (W : ByteWorld) (x : sessions.AppWorld) (more : List AppEvent) (last : sessions.AppWorld) (Ws : List ByteWorld) → MovesSimulate s ms ess W x → Reaches (joined ess ++ more) x last →
-    (Reaches more (state_after x (joined ess)) last → Chain s (state_after x (joined ess)) Ws) → Chain s x (worlds_by ms W ++ Ws)
-chain_moves s [] [] W x more last Ws go reaches following = following reaches
-chain_moves s [] (es ∷ ess) W x more last Ws go reaches following = absurd go
-chain_moves s (m ∷ ms) [] W x more last Ws go reaches following = absurd go
-chain_moves s (m ∷ ms) (es ∷ ess) W x more last Ws go reaches following =
+chain_moves : (s : WireView) (ms : List Move) (ess : List (List AppEvent)) (views end : Views s) (W : ByteWorld) (x : sessions.AppWorld) (more : List AppEvent) (last : sessions.AppWorld) (Ws : List ByteWorld) → MovesSimulate s ms ess views end W x →
+    Reaches (joined ess ++ more) x last → (Reaches more (state_after x (joined ess)) last → Chain s (state_after x (joined ess)) end Ws) → Chain s x views (worlds_by ms W ++ Ws)
+chain_moves s [] [] views end W x more last Ws go reaches following = subst (λ (v : Views s). Chain s x v Ws) go (following reaches)
+chain_moves s [] (es ∷ ess) views end W x more last Ws go reaches following = absurd go
+chain_moves s (m ∷ ms) [] views end W x more last Ws go reaches following = absurd go
+chain_moves s (m ∷ ms) (es ∷ ess) views end W x more last Ws go reaches following =
     let parts = cut_at es (joined ess ++ more) x last (subst (λ l. Reaches l x last) (append_assoc es (joined ess) more) reaches) in (
       state_after x es,
       es,
       parts.0,
       go.0,
-      chain_moves s ms ess (moved m W) (state_after x es) more last Ws go.1 parts.1 (subst (λ u. Reaches more u last → Chain s u Ws) (state_joined x es (joined ess)) following),
+      go.1,
+      go.2,
+      chain_moves s ms ess go.0 end (moved m W) (state_after x es) more last Ws go.3 parts.1 (subst (λ u. Reaches more u last → Chain s u end Ws) (state_joined x es (joined ess)) following),
     )
 
-chain_lines : (s : WireView) (rest : List WireLine) (runs : List LineRun) (W : ByteWorld) (x last : sessions.AppWorld) → LinesSimulate s rest runs W x → Reaches (joined (lines.moves_of runs)) x last → Chain s x (worlds_along rest W)
-chain_lines s [] [] W x last go reaches = tt
-chain_lines s [] (run ∷ runs) W x last go reaches = absurd go
-chain_lines s (line ∷ rest) [] W x last go reaches = absurd go
-chain_lines s (line ∷ rest) (run ∷ runs) W x last go reaches =
-    chain_moves s (moves_of line W) run.moves W x (joined (lines.moves_of runs)) last (worlds_along rest (stepped line W)) go.1
+chain_lines : (s : WireView) (rest : List WireLine) (runs : List LineRun) (views : Views s) (W : ByteWorld) (x last : sessions.AppWorld) → LinesSimulate s rest runs views W x → Reaches (joined (lines.moves_of runs)) x last → Chain s x views (worlds_along rest W)
+chain_lines s [] [] views W x last go reaches = tt
+chain_lines s [] (run ∷ runs) views W x last go reaches = absurd go
+chain_lines s (line ∷ rest) [] views W x last go reaches = absurd go
+chain_lines s (line ∷ rest) (run ∷ runs) views W x last go reaches =
+    chain_moves s (moves_of line W) run.moves views go.1 W x (joined (lines.moves_of runs)) last (worlds_along rest (stepped line W)) go.2
     (subst (λ es. Reaches es x last) (flat_map-append (λ l. l) run.moves (lines.moves_of runs)) reaches)
-    (λ onward. chain_lines s rest runs (stepped line W) (state_after x (joined run.moves)) last go.2 onward)
+    (λ onward. chain_lines s rest runs go.1 (stepped line W) (state_after x (joined run.moves)) last go.3 onward)
 
-pub chain_of : (s : WireView) → IsWireSchedule s → Chain s (begins s) (history_of s)
+abbrev pub first_views : (s : WireView) → IsWireSchedule s → Views s
+first_views s right = views_of (whole_run s right).first.runs
+
+pub chain_of : (s : WireView) (right : IsWireSchedule s) → Chain s (begins s) (first_views s right) (history_of s)
 chain_of s right =
-    let runs = whole_run s right in
-    (begins s, [], refl, runs.first, chain_lines s s.lines runs.runs (world_at_start s) (begins s) runs.last runs.go runs.reaches)
+    let runs = whole_run s right in (
+      begins s,
+      [],
+      refl,
+      first_views s right,
+      record { beside = runs.first; shown = λ i o is. refl },
+      (λ i o is. ([], refl)),
+      chain_lines s s.lines runs.runs (first_views s right) (world_at_start s) (begins s) runs.last runs.go runs.reaches,
+    )
 
 -- ---- one of them, and those behind it
 
@@ -83,31 +95,34 @@ pub record Picked (s : WireView) (x : sessions.AppWorld) (Ws : List ByteWorld) (
   pub reaches : Reaches events x world
   pub beside : Simulates s W world
   pub rest : List ByteWorld
-  pub chain : Chain s world (W ∷ rest)
+  pub views : Views s
+  pub chain : Chain s world views (W ∷ rest)
   pub at : (d n : ℕ) → n ≡ j + d → slice_get (W ∷ rest) d ≡ slice_get Ws n
 
-pub pick : (s : WireView) (Ws : List ByteWorld) (x : sessions.AppWorld) (j : ℕ) (W : ByteWorld) → Chain s x Ws → slice_get Ws j ≡ Some W → Picked s x Ws j W
-pick s [] x j W chain at = absurd (none-some W at)
-pick s (V ∷ Ws) x zero W chain at =
+pub pick : (s : WireView) (Ws : List ByteWorld) (x : sessions.AppWorld) (views : Views s) (j : ℕ) (W : ByteWorld) → Chain s x views Ws → slice_get Ws j ≡ Some W → Picked s x Ws j W
+pick s [] x views j W chain at = absurd (none-some W at)
+pick s (V ∷ Ws) x views zero W chain at =
     let same = same_Some V W at in
-    let beside : Simulates s W chain.0 = subst (λ u. Simulates s u chain.0) same chain.3 in
+    let by : SimulatesBy s W chain.0 chain.3 = subst (λ u. SimulatesBy s u chain.0 chain.3) same chain.4 in
     record {
       world = chain.0;
       events = chain.1;
       reaches = chain.2;
-      beside = beside;
+      beside = by.beside;
       rest = Ws;
-      chain = (chain.0, [], refl, beside, chain.4);
+      views = chain.3;
+      chain = (chain.0, [], refl, chain.3, by, (λ i o is. ([], refl)), chain.6);
       at = λ d n is. ap (λ u. slice_get (u ∷ Ws) d) (sym same) ∙ ap (λ k. slice_get (V ∷ Ws) k) (let equal : d ≡ n = omega (arith, is) in equal);
     }
-pick s (V ∷ Ws) x (suc j) W chain at =
-    let p = pick s Ws chain.0 j W chain.4 at in
+pick s (V ∷ Ws) x views (suc j) W chain at =
+    let p = pick s Ws chain.0 chain.3 j W chain.6 at in
     record {
       world = p.world;
       events = chain.1 ++ p.events;
       reaches = reaches_both chain.1 p.events x chain.0 p.world chain.2 p.reaches;
       beside = p.beside;
       rest = p.rest;
+      views = p.views;
       chain = p.chain;
       at = deeper p.rest p.at;
     }

@@ -17,7 +17,7 @@ use Rattle.sim_7_schedules.specs.ShownWorlds.{shown_of}
 use Rattle.cmd_schedule.specs.Schedules.{WireView, seen_of}
 use Rattle.cmd_schedule.specs.WireGrammar.{IsWireSchedule}
 use Rattle.cmd_schedule.specs.declared.schedule.WireLine.{WireLine}
-use Rattle.sim_7_schedules.specs.Simulation.{LinesSimulate, MovesSimulate, ScheduleSimulates, Simulates, bounds}
+use Rattle.sim_7_schedules.specs.Simulation.{LinesSimulate, MovesSimulate, ScheduleSimulates, Simulates, Views, bounds, views_of}
 use Rattle.sim_1_applications.proofs.Said.{takes_few}
 use Rattle.sim_1_applications.proofs.Taken.{of_all}
 use Rattle.sim_1_applications.specs.Counts.{IsNumberedWithin}
@@ -54,50 +54,50 @@ module _ (s : WireView) (right : IsWireSchedule s) where
   represents W x kept beside = world_shown s bounds beside.says W beside.items x right kept beside.encodes beside.runs
 
   -- along moves what is kept and what is beside stays
-  along : (ms : List Move) (ess : List (List AppEvent)) (W : ByteWorld) (x : sessions.AppWorld) → IsWorldKept s W → Simulates s W x → MovesSimulate s ms ess W x → IsWorldKept s (all_moved ms W) × Simulates s (all_moved ms W) (state_after x (joined ess))
-  along [] [] W x kept beside go = (kept, beside)
-  along [] (es ∷ ess) W x kept beside go = absurd go
-  along (m ∷ ms) [] W x kept beside go = absurd go
-  along (m ∷ ms) (es ∷ ess) W x kept beside go =
-      let rest = along ms ess (moved m W) (state_after x es) (kept_after s m W kept) go.0 go.1 in
+  along : (ms : List Move) (ess : List (List AppEvent)) (views last : Views s) (W : ByteWorld) (x : sessions.AppWorld) → IsWorldKept s W → Simulates s W x → MovesSimulate s ms ess views last W x → IsWorldKept s (all_moved ms W) × Simulates s (all_moved ms W) (state_after x (joined ess))
+  along [] [] views last W x kept beside go = (kept, beside)
+  along [] (es ∷ ess) views last W x kept beside go = absurd go
+  along (m ∷ ms) [] views last W x kept beside go = absurd go
+  along (m ∷ ms) (es ∷ ess) views last W x kept beside go =
+      let rest = along ms ess go.0 last (moved m W) (state_after x es) (kept_after s m W kept) go.1.beside go.3 in
       (rest.0, subst (Simulates s (all_moved ms (moved m W))) (sym (state_joined x es (joined ess))) rest.1)
 
-  along_lines : (rest : List WireLine) (runs : List LineRun) (W : ByteWorld) (x : sessions.AppWorld) → IsWorldKept s W → Simulates s W x → LinesSimulate s rest runs W x → IsWorldKept s (all_stepped rest W) × Simulates s (all_stepped rest W) (state_after x (joined (moves_of runs)))
-  along_lines [] [] W x kept beside go = (kept, beside)
-  along_lines [] (run ∷ runs) W x kept beside go = absurd go
-  along_lines (line ∷ rest) [] W x kept beside go = absurd go
-  along_lines (line ∷ rest) (run ∷ runs) W x kept beside go =
-      let mid = along (lines.moves_of line W) run.moves W x kept beside go.1 in
-      let end = along_lines rest runs (stepped line W) (state_after x (joined run.moves)) mid.0 mid.1 go.2 in
+  along_lines : (rest : List WireLine) (runs : List LineRun) (views : Views s) (W : ByteWorld) (x : sessions.AppWorld) → IsWorldKept s W → Simulates s W x → LinesSimulate s rest runs views W x → IsWorldKept s (all_stepped rest W) × Simulates s (all_stepped rest W) (state_after x (joined (moves_of runs)))
+  along_lines [] [] views W x kept beside go = (kept, beside)
+  along_lines [] (run ∷ runs) views W x kept beside go = absurd go
+  along_lines (line ∷ rest) [] views W x kept beside go = absurd go
+  along_lines (line ∷ rest) (run ∷ runs) views W x kept beside go =
+      let mid = along (lines.moves_of line W) run.moves views go.1 W x kept beside go.2 in
+      let end = along_lines rest runs go.1 (stepped line W) (state_after x (joined run.moves)) mid.0 mid.1 go.3 in
       (end.0, subst (Simulates s (all_stepped rest (stepped line W))) (sym (after_moves x run.moves (moves_of runs))) end.1)
 
   -- what each world shows, along moves and what comes behind them
-  represent_moves : (ms : List Move) (ess : List (List AppEvent)) (W : ByteWorld) (x : sessions.AppWorld) (more : List (List AppEvent)) (others : List ByteWorld) → IsWorldKept s W → Simulates s W x → MovesSimulate s ms ess W x →
+  represent_moves : (ms : List Move) (ess : List (List AppEvent)) (views last : Views s) (W : ByteWorld) (x : sessions.AppWorld) (more : List (List AppEvent)) (others : List ByteWorld) → IsWorldKept s W → Simulates s W x → MovesSimulate s ms ess views last W x →
       AreRepresented (owned_of s) (states_of (state_after x (joined ess)) more) (map shown_of (all_moved ms W ∷ others)) → AreRepresented (owned_of s) (states_of x (ess ++ more)) (map shown_of (W ∷ worlds_by ms W ++ others))
-  represent_moves [] [] W x more others kept beside go following = following
-  represent_moves [] (es ∷ ess) W x more others kept beside go following = absurd go
-  represent_moves (m ∷ ms) [] W x more others kept beside go following = absurd go
-  represent_moves (m ∷ ms) (es ∷ ess) W x more others kept beside go following = (
+  represent_moves [] [] views last W x more others kept beside go following = following
+  represent_moves [] (es ∷ ess) views last W x more others kept beside go following = absurd go
+  represent_moves (m ∷ ms) [] views last W x more others kept beside go following = absurd go
+  represent_moves (m ∷ ms) (es ∷ ess) views last W x more others kept beside go following = (
     represents W x kept beside,
-    represent_moves ms ess (moved m W) (state_after x es) more others (kept_after s m W kept) go.0 go.1
+    represent_moves ms ess go.0 last (moved m W) (state_after x es) more others (kept_after s m W kept) go.1.beside go.3
         (subst (λ w. AreRepresented (owned_of s) (states_of w more) (map shown_of (all_moved ms (moved m W) ∷ others))) (state_joined x es (joined ess)) following),
   )
 
-  represent_lines : (rest : List WireLine) (runs : List LineRun) (W : ByteWorld) (x : sessions.AppWorld) → IsWorldKept s W → Simulates s W x → LinesSimulate s rest runs W x →
+  represent_lines : (rest : List WireLine) (runs : List LineRun) (views : Views s) (W : ByteWorld) (x : sessions.AppWorld) → IsWorldKept s W → Simulates s W x → LinesSimulate s rest runs views W x →
       AreRepresented (owned_of s) (states_of x (moves_of runs)) (map shown_of (W ∷ worlds_along rest W))
-  represent_lines [] [] W x kept beside go = (represents W x kept beside, tt)
-  represent_lines [] (run ∷ runs) W x kept beside go = absurd go
-  represent_lines (line ∷ rest) [] W x kept beside go = absurd go
-  represent_lines (line ∷ rest) (run ∷ runs) W x kept beside go =
-      let mid = along (lines.moves_of line W) run.moves W x kept beside go.1 in
-      represent_moves (lines.moves_of line W) run.moves W x (moves_of runs) (worlds_along rest (stepped line W)) kept beside go.1
-      (represent_lines rest runs (stepped line W) (state_after x (joined run.moves)) mid.0 mid.1 go.2)
+  represent_lines [] [] views W x kept beside go = (represents W x kept beside, tt)
+  represent_lines [] (run ∷ runs) views W x kept beside go = absurd go
+  represent_lines (line ∷ rest) [] views W x kept beside go = absurd go
+  represent_lines (line ∷ rest) (run ∷ runs) views W x kept beside go =
+      let mid = along (lines.moves_of line W) run.moves views go.1 W x kept beside go.2 in
+      represent_moves (lines.moves_of line W) run.moves views go.1 W x (moves_of runs) (worlds_along rest (stepped line W)) kept beside go.2
+      (represent_lines rest runs go.1 (stepped line W) (state_after x (joined run.moves)) mid.0 mid.1 go.3)
 
-  of_lines : (rest : List WireLine) (runs : List LineRun) (W : ByteWorld) (x : sessions.AppWorld) → LinesSimulate s rest runs W x → map (λ (r : LineRun). r.line) runs ≡ rest
-  of_lines [] [] W x go = refl
-  of_lines [] (run ∷ runs) W x go = absurd go
-  of_lines (line ∷ rest) [] W x go = absurd go
-  of_lines (line ∷ rest) (run ∷ runs) W x go = ap (λ l. l ∷ map (λ (r : LineRun). r.line) runs) go.0 ∙ ap (λ ls. line ∷ ls) (of_lines rest runs (stepped line W) (state_after x (joined run.moves)) go.2)
+  of_lines : (rest : List WireLine) (runs : List LineRun) (views : Views s) (W : ByteWorld) (x : sessions.AppWorld) → LinesSimulate s rest runs views W x → map (λ (r : LineRun). r.line) runs ≡ rest
+  of_lines [] [] views W x go = refl
+  of_lines [] (run ∷ runs) views W x go = absurd go
+  of_lines (line ∷ rest) [] views W x go = absurd go
+  of_lines (line ∷ rest) (run ∷ runs) views W x go = ap (λ l. l ∷ map (λ (r : LineRun). r.line) runs) go.0 ∙ ap (λ ls. line ∷ ls) (of_lines rest runs go.1 (stepped line W) (state_after x (joined run.moves)) go.3)
 
   few_of : (W : ByteWorld) (x : sessions.AppWorld) → Simulates s W x → length x.takes ≤ GREATEST_NUMBER
   few_of W x beside =
@@ -135,7 +135,7 @@ module _ (s : WireView) (right : IsWireSchedule s) where
   pub last_beside : (runs : ScheduleSimulates s) → IsWorldKept s (world_of s) × Simulates s (world_of s) runs.last
   unfolding world_of
   last_beside sr =
-      let end = along_lines s.lines sr.runs (world_at_start s) (begins s) (kept_first s) sr.first sr.go in
+      let end = along_lines s.lines sr.runs (views_of sr.first.runs) (world_at_start s) (begins s) (kept_first s) sr.first sr.go in
       let is = reaches_is (joined (moves_of sr.runs)) (begins s) sr.last sr.reaches in
       (end.0, subst (Simulates s (world_of s)) (sym is) end.1)
 
@@ -147,12 +147,12 @@ module _ (s : WireView) (right : IsWireSchedule s) where
       record {
         right = right;
         runs = sr.runs;
-        of_lines = of_lines s.lines sr.runs (world_at_start s) (begins s) sr.go;
+        of_lines = of_lines s.lines sr.runs (views_of sr.first.runs) (world_at_start s) (begins s) sr.go;
         done = sr.done;
         last = sr.last;
         reaches = sr.reaches;
         few = few_of (world_of s) sr.last last;
-        shown = represent_lines s.lines sr.runs (world_at_start s) (begins s) (kept_first s) sr.first sr.go;
+        shown = represent_lines s.lines sr.runs (views_of sr.first.runs) (world_at_start s) (begins s) (kept_first s) sr.first sr.go;
         reported = record { version = told.version; wire = told.wire; takes = told.takes; accounts = told.accounts; devices = told.devices; refused = sr.refused };
       }
 

@@ -89,7 +89,7 @@ module _ (s : WireView) (right : IsWireSchedule s) (W : ByteWorld) (x : sessions
   abbrev ticked : ItemWorld
   ticked = items.moved (Tick 0) v
 
-  tick : MoveSimulates s bounds here.says (Tick 0) v x
+  tick : MoveSimulates s bounds here.says (Tick 0) v x here.runs
   tick = each_runs s right (Tick 0) here.says v x tt here.runs tt
 
   moments : max v.server.moment (v.moment + 0) ≡ max m m

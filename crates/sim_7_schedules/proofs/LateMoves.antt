@@ -172,7 +172,7 @@ module _ (schedule : WireView) (right : IsWireSchedule schedule) (d : ℕ) (o : 
     pub ups_late : (n : ℕ) (w : ItemWorld) → Goes w → Goes (all_moved (ups position n) w)
     ups_late zero w goes = goes
     ups_late (suc n) w goes =
-        let move : MoveSimulates schedule bounds goes.says (Up position) w goes.beside = each_runs schedule right (Up position) goes.says w goes.beside tt goes.runs tt in
+        let move : MoveSimulates schedule bounds goes.says (Up position) w goes.beside goes.runs = each_runs schedule right (Up position) goes.says w goes.beside tt goes.runs tt in
         ups_late n (moved (Up position) w) (record { says = _; beside = move.next; runs = move.runs; late = up_late goes.says w goes.beside goes.runs goes.late })
 
     -- ---- what the server has as time passes

@@ -5,6 +5,7 @@ pub mod FirstDevices
 pub mod FirstWorldsBeginning
 -- schedules run
 pub mod Positions
+pub mod Leading
 pub mod Rounds
 pub mod Wires
 pub mod ByteMoves
@@ -72,7 +73,6 @@ pub mod BoundSessions
 pub mod TakenAfter
 pub mod HandledBinds
 -- the sessions of a device along a history
-pub mod FurtherSessions
 pub mod SessionCourses
 -- which faults there are
 pub mod Reasons

@@ -16,7 +16,7 @@ use Rattle.cmd_schedule.specs.declared.schedule.WireLine.{WireLine}
 use Rattle.sim_7_schedules.proofs.ByteMoves.{IsTimely}
 use Rattle.sim_7_schedules.proofs.LineUnits.{dials_of, units_of}
 use Rattle.sim_7_schedules.proofs.Rounds.{AtMost}
-use Rattle.sim_7_schedules.specs.Simulation.{EachMoveSimulates, IsEncoded, LinesSimulate, bounds}
+use Rattle.sim_7_schedules.specs.Simulation.{EachMoveSimulates, IsEncoded, LinesSimulate, Views, bounds, views_of}
 use Rattle.sim_1_applications.specs.Devices.{AppWorld}
 use Rattle.sim_1_applications.specs.Events.{Reaches}
 use Rattle.sim_1_applications.specs.Histories.{spoken_in}
@@ -56,10 +56,10 @@ AreSpoken [] [] W = Unit {0}
 AreSpoken (line ∷ rest) (r ∷ rs) W = (r.line ≡ line) × (spoken_in (events_in r) ≡ said_by_step W line.step) × AreSpoken rest rs (stepped line W)
 AreSpoken _ _ W = ⊥
 
-pub record LinesGo (schedule : WireView) (rest : List WireLine) (W : worlds.ByteWorld) (x : AppWorld) : Type 0 where
+pub record LinesGo (schedule : WireView) (from : Views schedule) (rest : List WireLine) (W : worlds.ByteWorld) (x : AppWorld) : Type 0 where
   pub runs : List LineRun
   pub last : AppWorld
-  pub go : LinesSimulate schedule rest runs W x
+  pub go : LinesSimulate schedule rest runs from W x
   pub reaches : Reaches (flat_map (λ move. move) (moves_of runs)) x last
   pub refused : AreLinesRefused rest runs W
   pub spoken : AreSpoken rest runs W
@@ -67,7 +67,7 @@ pub record LinesGo (schedule : WireView) (rest : List WireLine) (W : worlds.Byte
 module _ (schedule : WireView) (each : EachMoveSimulates schedule) where
   -- what is asked of a line holds, by the bounds
   one_line : (above : WireAbove) (number : ℕ) (line : WireLine) (W : worlds.ByteWorld) (x : AppWorld) → number ≤ 100000 → IsTrue (may_run above line.step) → IsTrue (are_few above line.step) → (before : IsBefore schedule above number W x) →
-      LineDoes schedule before.says before.pages (dials_of line.step) (units_of line.step) (said_by_step W line.step) (lines.moves_of line W) W x
+      LineDoes schedule (views_of before.runs) before.says before.pages (dials_of line.step) (units_of line.step) (said_by_step W line.step) (lines.moves_of line W) W x
   one_line above number line W x low may few before =
       let c = counted above before.dials before.times line.step few in
       let said = before.said in
@@ -80,8 +80,8 @@ module _ (schedule : WireView) (each : EachMoveSimulates schedule) where
       line_does schedule each line.step line.number before.says before.pages W before.items x (may_say above line.step may) (omega (arith, said, low)) (omega (arith, pages, units, times, low)) (omega (arith, many, same, dials)) (timely number W before.moment low)
       before.encodes before.runs before.most
 
-  next_line : (above : WireAbove) (number : ℕ) (line : WireLine) (W : worlds.ByteWorld) (x : AppWorld) → IsTrue (may_run above line.step) → IsTrue (are_few above line.step) → (before : IsBefore schedule above number W x) →
-      (d : LineDoes schedule before.says before.pages (dials_of line.step) (units_of line.step) (said_by_step W line.step) (lines.moves_of line W) W x) → IsBefore schedule (above_by line.step above) (number + 1) (stepped line W) d.goes.next
+  abbrev next_line : (above : WireAbove) (number : ℕ) (line : WireLine) (W : worlds.ByteWorld) (x : AppWorld) → IsTrue (may_run above line.step) → IsTrue (are_few above line.step) → (before : IsBefore schedule above number W x) →
+      (d : LineDoes schedule (views_of before.runs) before.says before.pages (dials_of line.step) (units_of line.step) (said_by_step W line.step) (lines.moves_of line W) W x) → IsBefore schedule (above_by line.step above) (number + 1) (stepped line W) d.goes.next
   next_line above number line W x may few before d =
       let c = counted above before.dials before.times line.step few in
       record {
@@ -99,7 +99,7 @@ module _ (schedule : WireView) (each : EachMoveSimulates schedule) where
         moment = (let was = before.moment in let more = line_moment W.names (length W.wires) line.number W above line.step may in omega (arith, was, more));
       }
 
-  pub lines_go : (rest : List WireLine) (above : WireAbove) (number : ℕ) (W : worlds.ByteWorld) (x : AppWorld) → AreWireLines above number rest → IsBefore schedule above number W x → LinesGo schedule rest W x
+  pub lines_go : (rest : List WireLine) (above : WireAbove) (number : ℕ) (W : worlds.ByteWorld) (x : AppWorld) → AreWireLines above number rest → (before : IsBefore schedule above number W x) → LinesGo schedule (views_of before.runs) rest W x
   lines_go [] above number W x are before = record { runs = []; last = x; go = tt; reaches = refl; refused = tt; spoken = tt }
   lines_go (line ∷ rest) above number W x are before =
       let d = one_line above number line W x are.1 are.2 are.3 before in
@@ -107,7 +107,7 @@ module _ (schedule : WireView) (each : EachMoveSimulates schedule) where
       record {
         runs = record { line = line; moves = d.goes.moves; refused = all_refusals (lines.moves_of line W) W } ∷ more.runs;
         last = more.last;
-        go = (refl, d.goes.beside, subst (LinesSimulate schedule rest more.runs (stepped line W)) (reaches_is (flat_map (λ one. one) d.goes.moves) x d.goes.next d.goes.led) more.go);
+        go = (refl, views_of d.goes.runs, d.goes.beside, subst (LinesSimulate schedule rest more.runs (views_of d.goes.runs) (stepped line W)) (reaches_is (flat_map (λ one. one) d.goes.moves) x d.goes.next d.goes.led) more.go);
         reaches = subst (λ es. Reaches es x more.last) (sym (flat_map-append (λ one. one) d.goes.moves (moves_of more.runs)))
             (reaches_both (flat_map (λ one. one) d.goes.moves) (flat_map (λ one. one) (moves_of more.runs)) x d.goes.next more.last d.goes.led more.reaches);
         refused = (refl, refl, more.refused);

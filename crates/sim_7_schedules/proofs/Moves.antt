@@ -24,15 +24,15 @@ pub small : AreSmall bounds
 small = record { stanzas = omega arith; dials = omega arith }
 
 module _ (schedule : WireView) (right : IsWireSchedule schedule) (says : ℕ) (w : ItemWorld) (x : AppWorld) (runs : WorldSimulates schedule bounds says w x) where
-  forgotten : (i : ℕ) (e : Option ItemDevice) → slice_get w.devices i ≡ e → MoveSimulates schedule bounds says (Forget i) w x
+  forgotten : (i : ℕ) (e : Option ItemDevice) → slice_get w.devices i ≡ e → MoveSimulates schedule bounds says (Forget i) w x runs
   forgotten i None none = nobody_runs schedule bounds says w x runs (Forget i) none
   forgotten i (Some d) there = let o = owned_there schedule bounds says w x runs i d there in forget_runs schedule bounds says w x runs i o.0 o.1
 
-  closed : (i : ℕ) (e : Option ItemDevice) → slice_get w.devices i ≡ e → MoveSimulates schedule bounds says (Close i) w x
+  closed : (i : ℕ) (e : Option ItemDevice) → slice_get w.devices i ≡ e → MoveSimulates schedule bounds says (Close i) w x runs
   closed i None none = nobody_runs schedule bounds says w x runs (Close i) none
   closed i (Some d) there = let o = owned_there schedule bounds says w x runs i d there in close_runs schedule bounds says w x runs i o.0 o.1
 
-  one_runs : (m : ItemMove) → MayItem m → IsInBounds bounds says m w x → MoveSimulates schedule bounds says m w x
+  one_runs : (m : ItemMove) → MayItem m → IsInBounds bounds says m w x → MoveSimulates schedule bounds says m w x runs
   one_runs (Dial i mine yours) may within = each_dial schedule right bounds small says w x runs i mine yours may within
   one_runs (Forget i) may within = forgotten i (slice_get w.devices i) refl
   one_runs (Close i) may within = closed i (slice_get w.devices i) refl

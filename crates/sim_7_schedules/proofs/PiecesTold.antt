@@ -140,7 +140,7 @@ module _ (s : WireView) (right : IsWireSchedule s) (position : ℕ) where
     within : IsInBounds wide says (Down position) w x
     within = (λ wire2 e at there2. c.few e (subst (λ (y : ItemWire). slice_get x.devices y.device ≡ Some e) (same_Some wire2 wire (sym at ∙ c.there)) there2), c.timely)
 
-    r : MoveSimulates s wide says (Down position) w x
+    r : MoveSimulates s wide says (Down position) w x c.runs
     r = each_down s wide small says w x c.runs (ground s right wide small says w x c.runs) position within
 
     few_then : (e : Device) → slice_get r.next.devices wire.device ≡ Some e → IsFew e

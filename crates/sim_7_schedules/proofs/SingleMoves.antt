@@ -18,7 +18,7 @@ use Rattle.cmd_world.specs.Moves as bytes
 use Rattle.cmd_world.specs.Worlds as wires
 use Rattle.cmd_world.specs.Worlds.{client_entropy, server_entropy}
 use Rattle.sim_5_moves.specs.Running.{IsAskedBy, IsInBounds, WorldSimulates, spoken_by_move}
-use Rattle.sim_7_schedules.specs.Simulation.{EachMoveSimulates, IsEncoded, bounds}
+use Rattle.sim_7_schedules.specs.Simulation.{EachMoveSimulates, IsEncoded, bounds, views_of}
 use Rattle.sim_7_schedules.proofs.ByteMoves.{LineGoes, is_moved, one_move}
 use Rattle.sim_7_schedules.proofs.Rounds.{AtMost}
 use Rattle.sim_7_schedules.proofs.Wires.{dial_many, move_many}
@@ -32,39 +32,39 @@ abbrev AsksFor : ℕ → ItemMove → ItemWorld → Type 0
 AsksFor units m w = (i : ℕ) (d e : Device) → IsAskedBy m w i d e → e.reading.asked ≤ d.reading.asked + units
 
 module _ (schedule : WireView) (each : EachMoveSimulates schedule) where
-  single : (says units dials : ℕ) (m : Move) (im : ItemMove) (W : wires.ByteWorld) (w : ItemWorld) (x : AppWorld) (n : ℕ) → IsEncoded W w → WorldSimulates schedule bounds says w x →
+  single : (says units dials : ℕ) (m : Move) (im : ItemMove) (W : wires.ByteWorld) (w : ItemWorld) (x : AppWorld) (n : ℕ) → IsEncoded W w → (runs : WorldSimulates schedule bounds says w x) →
       (r : IsMoved UpFits DownFits (StandingServers ServerFits) ClientFits m W w) → r.moves ≡ im ∷ [] → MayItem im → IsInBounds bounds says im w x → AsksFor units im w → length (items.moved im w).wires ≤ length w.wires + dials → AtMost n x →
-      LineGoes schedule dials (says + length (spoken_by_move im w)) (spoken_by_move im w) (m ∷ []) W x (λ v y. AtMost (n + units) y)
+      LineGoes schedule (views_of runs) dials (says + length (spoken_by_move im w)) (spoken_by_move im w) (m ∷ []) W x (λ v y. AtMost (n + units) y)
   single says units dials m im W w x n encodes runs r is may within asks wide most =
       let g = each im says w x may runs within in
-      one_move schedule dials (says + length (spoken_by_move im w)) (spoken_by_move im w) m W x (λ v y. AtMost (n + units) y) g.events (items.moved im w) g.next g.reaches g.spoken
-      (subst (λ ms. IsEncoded (bytes.moved m W) (items.all_moved ms w)) is r.encodes) g.runs
+      one_move schedule (views_of runs) dials (says + length (spoken_by_move im w)) (spoken_by_move im w) m W x (λ v y. AtMost (n + units) y) g.events (items.moved im w) g.next g.reaches g.spoken
+      (subst (λ ms. IsEncoded (bytes.moved m W) (items.all_moved ms w)) is r.encodes) g.runs g.links
       (λ i e at. let d = was_there g.events x g.next i e g.reaches at in let low = most i d.0 d.1 in let more = asks i d.0 e (g.asked i d.0 e d.1 at) in omega arith)
       (let same = encodes.as_many in omega arith)
 
-  pub forget_byte : (says device : ℕ) (W : wires.ByteWorld) (w : ItemWorld) (x : AppWorld) (n : ℕ) → IsEncoded W w → WorldSimulates schedule bounds says w x → AtMost n x →
-      LineGoes schedule 0 (says + 0) [] (bytes.Forget device ∷ []) W x (λ v y. AtMost (n + 0) y)
+  pub forget_byte : (says device : ℕ) (W : wires.ByteWorld) (w : ItemWorld) (x : AppWorld) (n : ℕ) → IsEncoded W w → (runs : WorldSimulates schedule bounds says w x) → AtMost n x →
+      LineGoes schedule (views_of runs) 0 (says + 0) [] (bytes.Forget device ∷ []) W x (λ v y. AtMost (n + 0) y)
   forget_byte says device W w x n encodes runs most =
       let r = is_moved (bytes.Forget device) W w tt encodes in
       let same = move_many (items.Forget device) w tt in
       single says 0 0 (bytes.Forget device) (items.Forget device) W w x n encodes runs r r.is_run tt tt (λ i d e is. omega (arith, is)) (omega arith) most
 
-  pub close_byte : (says device : ℕ) (W : wires.ByteWorld) (w : ItemWorld) (x : AppWorld) (n : ℕ) → IsEncoded W w → WorldSimulates schedule bounds says w x → AtMost n x →
-      LineGoes schedule 0 (says + 0) [] (bytes.Close device ∷ []) W x (λ v y. AtMost (n + 0) y)
+  pub close_byte : (says device : ℕ) (W : wires.ByteWorld) (w : ItemWorld) (x : AppWorld) (n : ℕ) → IsEncoded W w → (runs : WorldSimulates schedule bounds says w x) → AtMost n x →
+      LineGoes schedule (views_of runs) 0 (says + 0) [] (bytes.Close device ∷ []) W x (λ v y. AtMost (n + 0) y)
   close_byte says device W w x n encodes runs most =
       let r = is_moved (bytes.Close device) W w tt encodes in
       let same = move_many (items.Close device) w tt in
       single says 0 0 (bytes.Close device) (items.Close device) W w x n encodes runs r r.is_run tt tt (λ i d e is. omega (arith, is)) (omega arith) most
 
-  pub tick_byte : (says ms : ℕ) (W : wires.ByteWorld) (w : ItemWorld) (x : AppWorld) (n : ℕ) → IsEncoded W w → WorldSimulates schedule bounds says w x → AtMost n x →
-      LineGoes schedule 0 (says + 0) [] (bytes.Tick ms ∷ []) W x (λ v y. AtMost (n + 0) y)
+  pub tick_byte : (says ms : ℕ) (W : wires.ByteWorld) (w : ItemWorld) (x : AppWorld) (n : ℕ) → IsEncoded W w → (runs : WorldSimulates schedule bounds says w x) → AtMost n x →
+      LineGoes schedule (views_of runs) 0 (says + 0) [] (bytes.Tick ms ∷ []) W x (λ v y. AtMost (n + 0) y)
   tick_byte says ms W w x n encodes runs most =
       let r = is_moved (bytes.Tick ms) W w tt encodes in
       let same = move_many (items.Tick ms) w tt in
       single says 0 0 (bytes.Tick ms) (items.Tick ms) W w x n encodes runs r r.is_run tt tt (λ i d e is. omega (arith, is)) (omega arith) most
 
-  pub cut_byte : (says position up down : ℕ) (W : wires.ByteWorld) (w : ItemWorld) (x : AppWorld) (n : ℕ) → IsEncoded W w → WorldSimulates schedule bounds says w x → AtMost n x →
-      LineGoes schedule 0 (says + 0) [] (bytes.Cut position up down ∷ []) W x (λ v y. AtMost (n + 0) y)
+  pub cut_byte : (says position up down : ℕ) (W : wires.ByteWorld) (w : ItemWorld) (x : AppWorld) (n : ℕ) → IsEncoded W w → (runs : WorldSimulates schedule bounds says w x) → AtMost n x →
+      LineGoes schedule (views_of runs) 0 (says + 0) [] (bytes.Cut position up down ∷ []) W x (λ v y. AtMost (n + 0) y)
   cut_byte says position up down W w x n encodes runs most =
       let r = is_moved (bytes.Cut position up down) W w tt encodes in
       let run = r.is_run in
@@ -72,8 +72,8 @@ module _ (schedule : WireView) (each : EachMoveSimulates schedule) where
       single says 0 0 (bytes.Cut position up down) (items.Cut position run.0 run.1) W w x n encodes runs r run.2 tt tt (λ i d e is. omega (arith, is)) (omega arith) most
 
   -- one connection more
-  pub dial_byte : (says device : ℕ) (W : wires.ByteWorld) (w : ItemWorld) (x : AppWorld) (n : ℕ) → length W.wires + 1 ≤ 10000 → IsEncoded W w → WorldSimulates schedule bounds says w x → AtMost n x →
-      LineGoes schedule 1 (says + 0) [] (bytes.Dial device ∷ []) W x (λ v y. AtMost (n + 0) y)
+  pub dial_byte : (says device : ℕ) (W : wires.ByteWorld) (w : ItemWorld) (x : AppWorld) (n : ℕ) → length W.wires + 1 ≤ 10000 → IsEncoded W w → (runs : WorldSimulates schedule bounds says w x) → AtMost n x →
+      LineGoes schedule (views_of runs) 1 (says + 0) [] (bytes.Dial device ∷ []) W x (λ v y. AtMost (n + 0) y)
   dial_byte says device W w x n few encodes runs most =
       let r = is_moved (bytes.Dial device) W w tt encodes in
       let run = r.is_run in
@@ -82,8 +82,8 @@ module _ (schedule : WireView) (each : EachMoveSimulates schedule) where
       (dial_many device (client_entropy run.0) (server_entropy run.0) w) most
 
   -- one page more
-  pub catch_up_byte : (says device line pages : ℕ) (W : wires.ByteWorld) (w : ItemWorld) (x : AppWorld) (n : ℕ) → 1 ≤ pages → pages ≤ 100 → n ≤ 200000 → IsEncoded W w → WorldSimulates schedule bounds says w x → AtMost n x →
-      LineGoes schedule 0 (says + 0) [] (bytes.CatchUp device line pages ∷ []) W x (λ v y. AtMost (n + 1) y)
+  pub catch_up_byte : (says device line pages : ℕ) (W : wires.ByteWorld) (w : ItemWorld) (x : AppWorld) (n : ℕ) → 1 ≤ pages → pages ≤ 100 → n ≤ 200000 → IsEncoded W w → (runs : WorldSimulates schedule bounds says w x) → AtMost n x →
+      LineGoes schedule (views_of runs) 0 (says + 0) [] (bytes.CatchUp device line pages ∷ []) W x (λ v y. AtMost (n + 1) y)
   catch_up_byte says device line pages W w x n some few low encodes runs most =
       let r = is_moved (bytes.CatchUp device line pages) W w (some, few) encodes in
       let same = move_many (items.CatchUp device pages) w tt in
@@ -91,8 +91,8 @@ module _ (schedule : WireView) (each : EachMoveSimulates schedule) where
       (λ i d e is. let one = one_or_none (i == device) in omega (arith, is, one)) (omega arith) most
 
   -- what the client takes is said
-  pub say_byte : (says device line : ℕ) (to text : List ℕ) (private : Bool) (W : wires.ByteWorld) (w : ItemWorld) (x : AppWorld) (n : ℕ) → IsTrue (is_name to) → IsTrue (is_text text) → says + 1 ≤ 100000 → IsEncoded W w → WorldSimulates schedule bounds says w x → AtMost n x →
-      LineGoes schedule 0 (says + length (spoken_by_move (items.Say device (bare_address to) text private) w)) (spoken_by_move (items.Say device (bare_address to) text private) w) (bytes.Say device line to text private ∷ []) W x (λ v y. AtMost (n + 0) y)
+  pub say_byte : (says device line : ℕ) (to text : List ℕ) (private : Bool) (W : wires.ByteWorld) (w : ItemWorld) (x : AppWorld) (n : ℕ) → IsTrue (is_name to) → IsTrue (is_text text) → says + 1 ≤ 100000 → IsEncoded W w → (runs : WorldSimulates schedule bounds says w x) → AtMost n x →
+      LineGoes schedule (views_of runs) 0 (says + length (spoken_by_move (items.Say device (bare_address to) text private) w)) (spoken_by_move (items.Say device (bare_address to) text private) w) (bytes.Say device line to text private ∷ []) W x (λ v y. AtMost (n + 0) y)
   say_byte says device line to text private W w x n named good few encodes runs most =
       let r = is_moved (bytes.Say device line to text private) W w (named, good) encodes in
       let same = move_many (items.Say device (bare_address to) text private) w tt in

@@ -67,11 +67,12 @@ module _ (s : WireView) where
 
 pub schedule_runs : (s : WireView) → IsWireSchedule s → EachMoveSimulates s → ScheduleSimulates s
 schedule_runs s right each =
-    let all = lines_go s each s.lines nothing_above 2 (world_at_start s) (begins s) right.lines (before_first s right) in
+    let b = before_first s right in
+    let all = lines_go s each s.lines nothing_above 2 (world_at_start s) (begins s) right.lines b in
     record {
       runs = all.runs;
       done = lines_done (owned_of s) s.lines all.runs (world_at_start s) all.spoken (schedule_answered s all.runs right all.refused);
-      first = first s right;
+      first = record { says = b.says; items = b.items; encodes = b.encodes; runs = b.runs };
       go = all.go;
       last = all.last;
       reaches = all.reaches;

@@ -9,7 +9,7 @@ use Rattle.cmd_schedule.proofs.Lists.{all_append}
 use Rattle.cmd_schedule.specs.Schedules.{WireView}
 use Rattle.cmd_schedule.specs.WireGrammar.{IsWireSchedule}
 use Rattle.cmd_schedule.specs.declared.schedule.WireLine.{WireLine}
-use Rattle.sim_7_schedules.specs.Simulation.{LinesSimulate, MovesSimulate, Simulates}
+use Rattle.sim_7_schedules.specs.Simulation.{LinesSimulate, MovesSimulate, Simulates, Views, views_of}
 use Rattle.sim_1_applications.specs.Devices as sessions
 use Rattle.sim_1_applications.specs.Events.{AppEvent}
 use Rattle.sim_1_applications.specs.Histories.{state_after}
@@ -25,24 +25,24 @@ use Rattle.sim_3_images.specs.Kept.{IsWorldKept}
 abbrev pub HasBeside : WireView → ByteWorld → Type 0
 HasBeside s W = (x : sessions.AppWorld) × Simulates s W x
 
-moves_beside : (s : WireView) (ms : List Move) (ess : List (List AppEvent)) (W : ByteWorld) (x : sessions.AppWorld) → MovesSimulate s ms ess W x → AllByRecursion (HasBeside s) (worlds_by ms W)
-moves_beside s [] [] W x go = tt
-moves_beside s [] (es ∷ ess) W x go = absurd go
-moves_beside s (m ∷ ms) [] W x go = absurd go
-moves_beside s (m ∷ ms) (es ∷ ess) W x go = ((state_after x es, go.0), moves_beside s ms ess (moved m W) (state_after x es) go.1)
+moves_beside : (s : WireView) (ms : List Move) (ess : List (List AppEvent)) (views last : Views s) (W : ByteWorld) (x : sessions.AppWorld) → MovesSimulate s ms ess views last W x → AllByRecursion (HasBeside s) (worlds_by ms W)
+moves_beside s [] [] views last W x go = tt
+moves_beside s [] (es ∷ ess) views last W x go = absurd go
+moves_beside s (m ∷ ms) [] views last W x go = absurd go
+moves_beside s (m ∷ ms) (es ∷ ess) views last W x go = ((state_after x es, go.1.beside), moves_beside s ms ess go.0 last (moved m W) (state_after x es) go.3)
 
-lines_beside : (s : WireView) (lines : List WireLine) (runs : List LineRun) (W : ByteWorld) (x : sessions.AppWorld) → LinesSimulate s lines runs W x → AllByRecursion (HasBeside s) (worlds_along lines W)
-lines_beside s [] [] W x go = tt
-lines_beside s [] (run ∷ runs) W x go = absurd go
-lines_beside s (line ∷ lines) [] W x go = absurd go
-lines_beside s (line ∷ lines) (run ∷ runs) W x go =
-    all_append (HasBeside s) (worlds_by (moves_of line W) W) (worlds_along lines (stepped line W)) (moves_beside s (moves_of line W) run.moves W x go.1)
-    (lines_beside s lines runs (stepped line W) (state_after x (flat_map (λ one. one) run.moves)) go.2)
+lines_beside : (s : WireView) (lines : List WireLine) (runs : List LineRun) (views : Views s) (W : ByteWorld) (x : sessions.AppWorld) → LinesSimulate s lines runs views W x → AllByRecursion (HasBeside s) (worlds_along lines W)
+lines_beside s [] [] views W x go = tt
+lines_beside s [] (run ∷ runs) views W x go = absurd go
+lines_beside s (line ∷ lines) [] views W x go = absurd go
+lines_beside s (line ∷ lines) (run ∷ runs) views W x go =
+    all_append (HasBeside s) (worlds_by (moves_of line W) W) (worlds_along lines (stepped line W)) (moves_beside s (moves_of line W) run.moves views go.1 W x go.2)
+    (lines_beside s lines runs go.1 (stepped line W) (state_after x (flat_map (λ one. one) run.moves)) go.3)
 
 pub beside_at : (s : WireView) → IsWireSchedule s → (j : ℕ) (W : ByteWorld) → slice_get (history_of s) j ≡ Some W → HasBeside s W
 beside_at s right j W at =
     let runs = schedule_runs s right (each_runs s right) in
-    let all : AllByRecursion (HasBeside s) (history_of s) = ((begins s, runs.first), lines_beside s s.lines runs.runs (world_at_start s) (begins s) runs.go) in
+    let all : AllByRecursion (HasBeside s) (history_of s) = ((begins s, runs.first), lines_beside s s.lines runs.runs (views_of runs.first.runs) (world_at_start s) (begins s) runs.go) in
     subst (λ o. IfSome o (HasBeside s)) at (all_at (HasBeside s) (history_of s) j all)
 
 pub kept_at : (s : WireView) (j : ℕ) (W : ByteWorld) → slice_get (history_of s) j ≡ Some W → IsWorldKept s W

@@ -5,8 +5,10 @@ use Rattle.sim_3_images.specs.Relayable.{ClientFits, DownFits, ServerFits, UpFit
 use Rattle.sim_3_images.specs.Stands.{StandingServers}
 use Rattle.sim_3_images.specs.WorldEncodings.{WorldEncodes}
 use Rattle.sim_3_images.specs.Fitting.{MayItem}
+use Rattle.sim_2_links.specs.Views.{View}
 use Rattle.sim_3_items.specs.ItemMoves.{ItemMove}
 use Rattle.sim_3_items.specs.ItemWorlds.{ItemWorld}
+use Rattle.cmd_schedule.specs.Contents.{Owned}
 use Rattle.cmd_schedule.specs.Schedules.{WireView}
 use Rattle.sim_1_applications.specs.Devices.{AppWorld}
 use Rattle.sim_1_applications.specs.Events.{AppEvent, Reaches}
@@ -20,7 +22,8 @@ use Rattle.cmd_world.specs.Lines.{moves_of, stepped}
 use Rattle.cmd_world.specs.Moves.{Move, moved}
 use Rattle.cmd_world.specs.WorldReports.{report_of}
 use Rattle.cmd_world.specs.Worlds as bytes
-use Rattle.sim_5_moves.specs.Running.{Bounds, IsInBounds, MoveSimulates, WorldSimulates}
+use Rattle.sim_5_moves.specs.Running.{Bounds, IsInBounds, IsOwned, Leads, MoveSimulates, WorldSimulates}
+use Rattle.xml_writer.specs.Items.{ItemOut}
 
 -- how much the lines of a schedule can come to: each is one message at most, one page or one connection; and a pass or a
 -- run is as many pages at most as it has times
@@ -29,7 +32,7 @@ bounds = record { says = 100000; pages = 200000; dials = 10000 }
 
 -- each move of a world of items is events of the applications
 abbrev pub EachMoveSimulates : WireView → Type 0
-EachMoveSimulates schedule = (m : ItemMove) (says : ℕ) (w : ItemWorld) (x : AppWorld) → MayItem m → WorldSimulates schedule bounds says w x → IsInBounds bounds says m w x → MoveSimulates schedule bounds says m w x
+EachMoveSimulates schedule = (m : ItemMove) (says : ℕ) (w : ItemWorld) (x : AppWorld) → MayItem m → (runs : WorldSimulates schedule bounds says w x) → IsInBounds bounds says m w x → MoveSimulates schedule bounds says m w x runs
 
 -- the world of bytes encodes one of items
 abbrev pub IsEncoded : bytes.ByteWorld → ItemWorld → Type 0
@@ -42,25 +45,44 @@ pub record Simulates (schedule : WireView) (W : bytes.ByteWorld) (x : AppWorld) 
   pub encodes : IsEncoded W items
   pub runs : WorldSimulates schedule bounds says items x
 
--- moves of bytes, and the events that each led to: behind each the worlds are related
-abbrev pub MovesSimulate : WireView → List Move → List (List AppEvent) → bytes.ByteWorld → AppWorld → Type 0
-MovesSimulate schedule [] [] W x = Unit {0}
-MovesSimulate schedule (m ∷ ms) (es ∷ ess) W x = Simulates schedule (moved m W) (state_after x es) × MovesSimulate schedule ms ess (moved m W) (state_after x es)
-MovesSimulate schedule _ _ W x = ⊥
+-- the links of each device of a schedule
+abbrev pub Views : WireView → Type 0
+Views schedule = (i : ℕ) (o : Owned) → IsOwned schedule i o → View ItemOut
+
+-- as a world of items is shown by them
+abbrev pub views_of : {schedule : WireView} {b : Bounds} {says : ℕ} {w : ItemWorld} {x : AppWorld} → WorldSimulates schedule b says w x → Views schedule
+views_of runs i o is = (runs.devices i o is).view
+
+-- moves of the links lead from the ones to the others
+abbrev pub AllLead : (schedule : WireView) → Views schedule → Views schedule → Type 0
+AllLead schedule views next = (i : ℕ) (o : Owned) (is : IsOwned schedule i o) → Leads (views i o is) (next i o is)
+
+-- a world of bytes and one of the applications, with these links between them
+pub record SimulatesBy (schedule : WireView) (W : bytes.ByteWorld) (x : AppWorld) (views : Views schedule) : Type 0 where
+  pub beside : Simulates schedule W x
+  pub shown : (i : ℕ) (o : Owned) (is : IsOwned schedule i o) → (beside.runs.devices i o is).view ≡ views i o is
+
+-- Moves of bytes, and the events that each led to: behind each the worlds are related, and moves of the links led from those
+-- before it to those behind it.
+abbrev pub MovesSimulate : (schedule : WireView) → List Move → List (List AppEvent) → Views schedule → Views schedule → bytes.ByteWorld → AppWorld → Type 0
+MovesSimulate schedule [] [] views last W x = last ≡ views
+MovesSimulate schedule (m ∷ ms) (es ∷ ess) views last W x =
+    (next : Views schedule) × SimulatesBy schedule (moved m W) (state_after x es) next × AllLead schedule views next × MovesSimulate schedule ms ess next last (moved m W) (state_after x es)
+MovesSimulate schedule _ _ views last W x = ⊥
 
 -- the same of lines, one after another
-abbrev pub LinesSimulate : (schedule : WireView) → List WireLine → List LineRun → bytes.ByteWorld → AppWorld → Type 0
-LinesSimulate schedule [] [] W x = Unit {0}
-LinesSimulate schedule (line ∷ lines) (r ∷ rs) W x =
-    (r.line ≡ line) × MovesSimulate schedule (moves_of line W) r.moves W x × LinesSimulate schedule lines rs (stepped line W) (state_after x (flat_map (λ one. one) r.moves))
-LinesSimulate schedule _ _ W x = ⊥
+abbrev pub LinesSimulate : (schedule : WireView) → List WireLine → List LineRun → Views schedule → bytes.ByteWorld → AppWorld → Type 0
+LinesSimulate schedule [] [] views W x = Unit {0}
+LinesSimulate schedule (line ∷ lines) (r ∷ rs) views W x =
+    (r.line ≡ line) × (next : Views schedule) × MovesSimulate schedule (moves_of line W) r.moves views next W x × LinesSimulate schedule lines rs next (stepped line W) (state_after x (flat_map (λ one. one) r.moves))
+LinesSimulate schedule _ _ views W x = ⊥
 
 -- A schedule's history beside a run of the applications: what each line led to, and what was refused.
 pub record ScheduleSimulates (schedule : WireView) : Type 0 where
   pub runs : List LineRun
   pub done : AllByRecursion (IsLineDone (owned_of schedule)) runs
   pub first : Simulates schedule (world_at_start schedule) (begins schedule)
-  pub go : LinesSimulate schedule schedule.lines runs (world_at_start schedule) (begins schedule)
+  pub go : LinesSimulate schedule schedule.lines runs (views_of first.runs) (world_at_start schedule) (begins schedule)
   pub last : AppWorld
   pub reaches : Reaches (flat_map (λ move. move) (lines.moves_of runs)) (begins schedule) last
   pub refused : AllByRecursion (λ (d : DeviceView). d.refused ≡ refused_by d.name runs) (report_of (world_of schedule)).devices
