@@ -74,6 +74,7 @@ pub mod TakenAfter
 pub mod HandledBinds
 -- the sessions of a device along a history
 pub mod SessionCourses
+pub mod Further
 -- which faults there are
 pub mod Reasons
 pub mod EventRows

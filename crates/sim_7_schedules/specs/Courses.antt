@@ -1,5 +1,6 @@
 -- The sessions of a device along a history: those of each world are those of the world before, further on.
 use Rattle.std.specs.Prelude.{◌≡◌, ◌⊎◌, ℕ, suc, ◌+◌, ◌≤◌, Option, None, Some, slice_get}
+use Rattle.sm_acks.specs.Delivery.{Direction, IsPrefix}
 use Rattle.sim_2_links.specs.Onward.{Delivers}
 use Rattle.cmd_network.specs.Devices.{DeviceState}
 use Rattle.cmd_schedule.specs.Contents.{Owned}
@@ -8,6 +9,7 @@ use Rattle.sim_7_schedules.specs.Messages.{AreTold}
 use Rattle.sim_7_schedules.specs.Pairs.{HasPairs, IsUnused, Pair}
 use Rattle.cmd_world.specs.Histories.{history_of}
 use Rattle.cmd_world.specs.Worlds.{ByteWorld}
+use Rattle.xml_writer.specs.Items.{ItemOut}
 
 -- A session, and what it is in the next world: moves of acknowledged delivery (XEP-0198, sections 4 and 5) lead each of its
 -- directions there, and the epoch that it has stays.
@@ -15,6 +17,12 @@ pub record GoesOn (p q : Pair) : Type 0 where
   pub up : Delivers p.up q.up
   pub down : Delivers p.down q.down
   pub epoch : (e : ℕ) → p.epoch ≡ Some e → q.epoch ≡ Some e
+
+-- So what was put stays, stanza for stanza, and so does what was handled; more may come behind. No less is acknowledged.
+pub record IsFurther (d next : Direction ItemOut) : Type 0 where
+  pub put : IsPrefix d.put next.put
+  pub got : IsPrefix d.got next.got
+  pub acked : d.acked ≤ next.acked
 
 -- each goes on under its number
 abbrev pub GoOn : (ℕ → Option Pair) → (ℕ → Option Pair) → Type 0

@@ -6,7 +6,7 @@ ghost use Rattle.cmd_schedule.specs.Schedules.{WireView};
 ghost use Rattle.cmd_schedule.specs.WireGrammar.{IsWireSchedule};
 ghost use Rattle.cmd_schedule.specs.declared.schedule.Count.{Count};
 ghost use Rattle.sim_1_applications.specs.Runs.{owned_of};
-ghost use Rattle.sim_7_schedules.specs.Courses.{HasCourse};
+ghost use Rattle.sim_7_schedules.specs.Courses.{GoesOn, HasCourse, IsFurther};
 ghost use Rattle.sim_7_schedules.specs.Pairs.{IsPair, Pair};
 ghost use Rattle.sim_7_schedules.specs.Untouched.{IsShutAt, IsUntouched};
 ghost use Rattle.cmd_world.specs.Histories.{history_of};
@@ -19,13 +19,15 @@ ghost use Rattle.cmd_world.specs.Worlds.{ByteWorld};
 /// its present epoch, and so is the server's, or it has none while the client hasn't read that it was bound. Of an end the
 /// counts are told, modulo 2^32, and its own stanzas that wait. In the pair of an epoch the messages that went up are told
 /// by the report: the client put those of the device's `said` lines of that epoch, and of them the server handled those of
-/// its `take` lines; and each such line is of an epoch that has a pair. In the next world the pair of an epoch goes on:
-/// what either end put and handled stays, in its order, and more may come behind. What goes up are then the same stanzas;
-/// what comes down are stanzas that a client reads as the same (`down_stanza`), a message by its number in the archive
-/// (`pairs`). What an end handled is the front of what the other end put, and no more is acknowledged than was handled
+/// its `take` lines; and each such line is of an epoch that has a pair. All worlds have one assignment of pairs to the
+/// numbers that the server gave: in the next world each pair is there under its number, each of its directions comes there
+/// by moves of acknowledged delivery, and an epoch stays. A pair that is new is unused, or its client read of it in that
+/// step (`pairs`). So what either end put and handled stays, stanza for stanza and in its order, and more may come behind
+/// (`further`). What an end handled is the front of what the other end put, and no more is acknowledged than was handled
 /// (`delivered`).
 pub fn sessions_are_pairs()
     ensures pairs { (s : WireView) → IsWireSchedule s → (i : ℕ) (o : Owned) → slice_get (owned_of s) i ≡ Some o → HasCourse s i o }
+    ensures further { (p q : Pair) → IsPair p → GoesOn p q → IsFurther p.up q.up × IsFurther p.down q.down }
     ensures delivered { (p : Pair) → IsPair p → IsPrefix p.up.got p.up.put × IsPrefix p.down.got p.down.put × (p.up.acked ≤ length p.up.got) × (p.down.acked ≤ length p.down.got) }
 {}
 
