@@ -45,38 +45,38 @@ module _ (schedule : WireView) (b : Bounds) (says : ℕ) (w : ItemWorld) (x : Ap
   following = with_device i d x
 
   -- another device
-  other_runs : (j : ℕ) (p : Owned) → IsOwned schedule j p → j ≢ i → DeviceSimulates schedule next following j p
-  other_runs j p is other = record {
-    logins = r.logins;
-    view = r.view;
-    in_time = r.in_time;
-    prompt = r.prompt;
-    represents = s;
-    device = r.device;
-    there = set_elsewhere x.devices i j d other ∙ r.there;
-    account = r.account;
-    sessions = r.sessions;
-    built = r.built;
-    submissions = subst (λ (e : ItemDevice). SubmissionsRepresent e.client r.device.sessions) same r.submissions;
-    log = subst (λ (e : ItemDevice). LogRepresents (keep_in schedule) (history_for schedule x.takes p) e.client.log r.device.reading) same r.log;
-    pages = subst (λ (e : ItemDevice). e.client.pages ≡ r.device.reading.asked) same r.pages;
-    flags = subst (λ h. FlagsRepresent (identity_at schedule j p).account p.device h r.device.sessions) (sym alone.server) r.flags;
-  }
-    where
-      r : DeviceSimulates schedule w x j p
-      r = runs.devices j p is
+  module _ (j : ℕ) (p : Owned) (is : IsOwned schedule j p) (other : j ≢ i) where
+    abbrev was : DeviceSimulates schedule w x j p
+    was = runs.devices j p is
 
-      s : Represents (identity_at schedule j p) r.logins next r.view
-      s = a.others j p is other
+    abbrev shown : Represents (identity_at schedule j p) was.logins next was.view
+    shown = a.others j p is other
 
-      same : r.represents.device ≡ s.device
-      same = same_Some r.represents.device s.device (sym r.represents.there ∙ sym (alone.beside j other) ∙ s.there)
+    same : was.represents.device ≡ shown.device
+    same = same_Some was.represents.device shown.device (sym was.represents.there ∙ sym (alone.beside j other) ∙ shown.there)
+
+    abbrev other_runs : DeviceSimulates schedule next following j p
+    other_runs = record {
+      logins = was.logins;
+      view = was.view;
+      in_time = was.in_time;
+      prompt = was.prompt;
+      represents = shown;
+      device = was.device;
+      there = set_elsewhere x.devices i j d other ∙ was.there;
+      account = was.account;
+      sessions = was.sessions;
+      built = was.built;
+      submissions = subst (λ (e : ItemDevice). SubmissionsRepresent e.client was.device.sessions) same was.submissions;
+      log = subst (λ (e : ItemDevice). LogRepresents (keep_in schedule) (history_for schedule x.takes p) e.client.log was.device.reading) same was.log;
+      pages = subst (λ (e : ItemDevice). e.client.pages ≡ was.device.reading.asked) same was.pages;
+      flags = subst (λ h. FlagsRepresent (identity_at schedule j p).account p.device h was.device.sessions) (sym alone.server) was.flags;
+    }
 
   abbrev Comes : (j : ℕ) (p : Owned) → IsOwned schedule j p → Type 0
   Comes j p is = (e : DeviceSimulates schedule next following j p) × Leads (runs.devices j p is).view e.view
 
   each_comes : (j : ℕ) (p : Owned) (is : IsOwned schedule j p) → Comes j p is
-  unfolding other_runs
   each_comes =
       either (λ j. (p : Owned) (is : IsOwned schedule j p) → Comes j p is) i
       (of_owner schedule i (Comes i) o a.owned (a.device, a.leads))

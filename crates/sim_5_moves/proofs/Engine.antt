@@ -36,7 +36,7 @@ use Rattle.sim_1_applications.specs.Runs.{begins, owned_of}
 use Rattle.sim_5_moves.proofs.Going.{goes}
 use Rattle.sim_5_moves.proofs.OneOwner.{of_owner}
 use Rattle.sim_5_moves.specs.Going.{AllBuilt, DeviceGoes}
-use Rattle.sim_5_moves.specs.Running.{Bounds, DeviceSimulates, IsOwned, Leads, RunsOn, WorldSimulates, history_for, keep_in}
+use Rattle.sim_5_moves.specs.Running.{Bounds, DeviceSimulates, IsOwned, Leads, WorldSimulates, history_for, keep_in}
 use Rattle.xml_writer.specs.Items.{ItemOut}
 
 -- what a device is behind the move, but for its place in the world of the applications

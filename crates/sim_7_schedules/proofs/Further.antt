@@ -1,5 +1,5 @@
 -- What moves of acknowledged delivery leave: what was put and handled.
-use Rattle.std.proofs.Common.{◌≡◌, ℕ, ◌≤◌, List, [], ◌∷◌, ◌++◌, refl, sym, ap, ◌∙◌, subst, arith, append-nil, append_assoc}
+use Rattle.std.proofs.Common.{List, [], ◌∷◌, ◌++◌, refl, sym, ap, ◌∙◌, subst, arith, append-nil, append_assoc}
 use Rattle.sm_acks.proofs.Directions.{kept_reached}
 use Rattle.sm_acks.specs.Delivery.{Acknowledge, Cut, Direction, Handle, IsPrefix, Move, Moves, Put, Reached, Reaches, Resume, State}
 use Rattle.sim_2_links.proofs.DeliveryRuns.{reached_more}

@@ -1,5 +1,5 @@
 -- The pairs of each world of a history go on in the next.
-use Rattle.std.proofs.Common.{◌≡◌, ◌⊎◌, ℕ, zero, suc, ◌+◌, ◌≤◌, List, [], ◌∷◌, Option, None, Some, refl, sym, ap, ◌∙◌, subst, arith, inl, inr}
+use Rattle.std.proofs.Common.{◌≡◌, ℕ, zero, suc, List, [], ◌∷◌, Option, None, Some, refl, sym, ap, ◌∙◌, subst, arith, inl, inr}
 use Rattle.std.proofs.lemmas.Bool.{cases_lt}
 use Rattle.std.proofs.lemmas.Option.{none-some, same_Some}
 use Rattle.std.specs.List.{slice_get}
@@ -36,14 +36,13 @@ use Rattle.xml_writer.specs.Items.{ItemOut}
 abbrev pub HasViews : WireView → ByteWorld → Type 0
 HasViews s W = (x : sessions.AppWorld) × (views : Views s) × SimulatesBy s W x views
 
-world_at : (s : WireView) (Ws : List ByteWorld) (x : sessions.AppWorld) (views : Views s) (j : ℕ) (W : ByteWorld) → Chain s x views Ws → slice_get Ws j ≡ Some W → HasViews s W
+abbrev world_at : (s : WireView) (Ws : List ByteWorld) (x : sessions.AppWorld) (views : Views s) (j : ℕ) (W : ByteWorld) → Chain s x views Ws → slice_get Ws j ≡ Some W → HasViews s W
 world_at s [] x views j W chain at = absurd (none-some W at)
 world_at s (V ∷ Ws) x views zero W chain at = (chain.0, chain.3, subst (λ U. SimulatesBy s U chain.0 chain.3) (same_Some V W at) chain.4)
 world_at s (V ∷ Ws) x views (suc j) W chain at = world_at s Ws chain.0 chain.3 j W chain.6 at
 
 leads_between : (s : WireView) (Ws : List ByteWorld) (x : sessions.AppWorld) (views : Views s) (j : ℕ) (V W : ByteWorld) (chain : Chain s x views Ws) (one : slice_get Ws j ≡ Some V) (two : slice_get Ws (suc j) ≡ Some W) →
     AllLead s (world_at s Ws x views j V chain one).1 (world_at s Ws x views (suc j) W chain two).1
-unfolding world_at
 leads_between s [] x views j V W chain one two = absurd (none-some V one)
 leads_between s (U ∷ []) x views zero V W chain one two = absurd (none-some W two)
 leads_between s (U ∷ T ∷ Ws) x views zero V W chain one two = chain.6.5
