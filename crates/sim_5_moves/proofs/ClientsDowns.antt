@@ -201,7 +201,7 @@ module _ (schedule : WireView) (b : Bounds) (small : AreSmall b) (says : ℕ) (w
   same_device : device_after t d ≡ goes_so.represents.device
   same_device = same_Some (device_after t d) goes_so.represents.device (sym (set_here w.devices i d (device_after t d) old.represents.there) ∙ goes_so.represents.there)
 
-  device_runs : DeviceSimulates schedule after next_world i o
+  abbrev device_runs : DeviceSimulates schedule after next_world i o
   device_runs = record {
     logins = goes_so.logins;
     view = goes_so.view;

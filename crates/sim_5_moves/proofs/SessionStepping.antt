@@ -109,7 +109,7 @@ module _ (schedule : WireView) (b : Bounds) (says : ℕ) (m : ItemMove) (w : Ite
         flags_session_step who old.logins w.server old.view f.next old.device.sessions end end xs old.represents.server (subst (λ h. ServerRepresents who old.logins h f.next) c.alone.server f.represents.server)
         (link_kept f.next (reached_along f.moves old.view f.next reached f.leads)) old.sessions done.2 session_steps refl old.flags
 
-    device_runs : DeviceSimulates schedule after next i o
+    abbrev device_runs : DeviceSimulates schedule after next i o
     device_runs = record {
       logins = old.logins;
       view = f.next;

@@ -171,7 +171,7 @@ module _ (schedule : WireView) (b : Bounds) (says : ℕ) (w : ItemWorld) (x : Ap
     abbrev next_world : AppWorld
     next_world = with_device i next x
 
-    device_runs : DeviceSimulates schedule after next_world i c.o
+    abbrev device_runs : DeviceSimulates schedule after next_world i c.o
     device_runs = record {
       logins = old.logins;
       view = follows.next;
