@@ -11,7 +11,7 @@ ghost use Rattle.cmd_report.specs.LawfulRuns.{IsLawfulKeeping};
 ghost use Rattle.cmd_report.specs.Reports.{ReportView};
 ghost use Rattle.cmd_report.specs.Worlds.{ReportWorld};
 ghost use Rattle.cmd_schedule.specs.Schedules.{WireView, seen_of};
-ghost use Rattle.cmd_schedule.specs.WireGrammar.{IsWireSchedule};
+ghost use Rattle.cmd_schedule.specs.LineLists.{IsLineList};
 ghost use Rattle.cmd_schedule.specs.declared.schedule.Version.TheVariants.{Two};
 ghost use Rattle.sim_1_applications.specs.Answers.{page_answer_of};
 ghost use Rattle.sim_1_applications.specs.Devices as sessions;
@@ -32,7 +32,7 @@ pub fn sessions_are_lawful()
 /// A law: each run of a wire schedule has worlds and a report, so that laws of these speak of something. A run is what
 /// each line led to, in moves that reach a state.
 pub fn runs_are_reported()
-    ensures { (s : WireView) (runs : List LineRun) (last : sessions.AppWorld) → IsWireSchedule s → map (λ (r : LineRun). r.line) runs ≡ s.lines →
+    ensures { (s : WireView) (runs : List LineRun) (last : sessions.AppWorld) → IsLineList s → map (λ (r : LineRun). r.line) runs ≡ s.lines →
         AllByRecursion (IsLineDone (owned_of s)) runs → Reaches (flat_map (λ (move : List AppEvent). move) (moves_of runs)) (begins s) last →
         length last.takes ≤ 4294967295 → (worlds : List ReportWorld) × (r : ReportView) × IsRunOf s worlds r }
 {}

@@ -11,7 +11,7 @@ ghost use Rattle.sim_2_links.specs.Machine.{nothing_yet};
 ghost use Rattle.cmd_report.specs.Addresses.{domain};
 ghost use Rattle.cmd_schedule.specs.Contents.{Owned, accounts_of};
 ghost use Rattle.cmd_schedule.specs.Schedules.{WireView};
-ghost use Rattle.cmd_schedule.specs.WireGrammar.{IsWireSchedule};
+ghost use Rattle.cmd_schedule.specs.LineLists.{IsLineList};
 ghost use Rattle.auth_scram.specs.Exchange.{is_plain};
 ghost use Rattle.srv_core.specs.Configs.{server_state_at_start};
 ghost use Rattle.cmd_world.specs.Histories.{common_steps};
@@ -21,18 +21,18 @@ ghost use Rattle.cmd_world.specs.Worlds.{client_entropy, server_entropy};
 /// normal form (`normal`); a server of the schedule's accounts has its account and its archive (`served`), and its
 /// client has the same account (`client`). Its account's name and password are printable ASCII (`name`, `password`).
 pub fn devices_have_identities()
-    ensures normal { (schedule : WireView) (position : ℕ) (o : Owned) → IsWireSchedule schedule → IsDeviceAt schedule position o → IsNormal (identity_at schedule position o) }
-    ensures served { (schedule : WireView) (position : ℕ) (o : Owned) (keep : ℕ) → IsWireSchedule schedule → IsDeviceAt schedule position o
+    ensures normal { (schedule : WireView) (position : ℕ) (o : Owned) → IsLineList schedule → IsDeviceAt schedule position o → IsNormal (identity_at schedule position o) }
+    ensures served { (schedule : WireView) (position : ℕ) (o : Owned) (keep : ℕ) → IsLineList schedule → IsDeviceAt schedule position o
         → IsDeviceServed (identity_at schedule position o) (server_state_at_start domain (accounts_at_start (accounts_of (common_steps schedule))) keep) }
-    ensures client { (schedule : WireView) (position : ℕ) (o : Owned) → IsWireSchedule schedule → IsDeviceAt schedule position o
+    ensures client { (schedule : WireView) (position : ℕ) (o : Owned) → IsLineList schedule → IsDeviceAt schedule position o
         → (device_at_start o.device o.account).client.client.account ≡ own_account (identity_at schedule position o) }
-    ensures name { (schedule : WireView) (position : ℕ) (o : Owned) → IsWireSchedule schedule → IsDeviceAt schedule position o → is_plain (identity_at schedule position o).name ≡ true }
-    ensures password { (schedule : WireView) (position : ℕ) (o : Owned) → IsWireSchedule schedule → IsDeviceAt schedule position o → is_plain (identity_at schedule position o).password ≡ true }
+    ensures name { (schedule : WireView) (position : ℕ) (o : Owned) → IsLineList schedule → IsDeviceAt schedule position o → is_plain (identity_at schedule position o).name ≡ true }
+    ensures password { (schedule : WireView) (position : ℕ) (o : Owned) → IsLineList schedule → IsDeviceAt schedule position o → is_plain (identity_at schedule position o).password ≡ true }
 {}
 
 /// A law: two devices of a wire schedule have two places and two resources.
 pub fn devices_are_apart()
-    ensures { (schedule : WireView) (p q : ℕ) (o r : Owned) → IsWireSchedule schedule → IsDeviceAt schedule p o → IsDeviceAt schedule q r → p ≢ q
+    ensures { (schedule : WireView) (p q : ℕ) (o r : Owned) → IsLineList schedule → IsDeviceAt schedule p o → IsDeviceAt schedule q r → p ≢ q
         → AreTwo (identity_at schedule p o) (identity_at schedule q r) }
 {}
 
@@ -42,13 +42,13 @@ pub fn devices_are_apart()
 /// (`schedule`).
 pub fn logins_go_through()
     ensures drawn { (who : Identity) (mine yours : List ℕ) → is_plain who.name ≡ true → is_plain who.password ≡ true → IsDrawn mine → IsDrawn yours → HasLogin who mine yours }
-    ensures schedule { (schedule : WireView) (position : ℕ) (o : Owned) → IsWireSchedule schedule → IsDeviceAt schedule position o
+    ensures schedule { (schedule : WireView) (position : ℕ) (o : Owned) → IsLineList schedule → IsDeviceAt schedule position o
         → (n : ℕ) → HasLogin (identity_at schedule position o) (client_entropy n) (server_entropy n) }
 {}
 
 /// A law: the first world of items of a wire schedule shows each of its devices, whatever its logins will be: nothing is
 /// there yet.
 pub fn devices_are_shown_from_the_start()
-    ensures { (schedule : WireView) (position : ℕ) (o : Owned) (logins : ℕ → Login) → IsWireSchedule schedule → IsDeviceAt schedule position o
+    ensures { (schedule : WireView) (position : ℕ) (o : Owned) (logins : ℕ → Login) → IsLineList schedule → IsDeviceAt schedule position o
         → Represents (identity_at schedule position o) logins (items_at_start schedule) nothing_yet }
 {}

@@ -29,7 +29,8 @@ use Rattle.cmd_report.specs.declared.report.RefusedWhy.TheVariants as why
 use Rattle.cmd_schedule.specs.Contents.{Owned, owned_in}
 use Rattle.cmd_schedule.specs.Grammar.{is_name, is_text}
 use Rattle.cmd_schedule.specs.Schedules.{WireView, common_at, steps_of}
-use Rattle.cmd_schedule.specs.WireGrammar.{AreWireLines, IsWireSchedule, WireAbove, above_by, may_run, nothing_above}
+use Rattle.cmd_schedule.specs.LineLists.{IsLineList}
+use Rattle.cmd_schedule.specs.WireGrammar.{AreWireLines, WireAbove, above_by, may_run, nothing_above}
 use Rattle.cmd_schedule.specs.declared.schedule.Line.{Line}
 use Rattle.cmd_schedule.specs.declared.schedule.Step.TheVariants as step
 use Rattle.cmd_schedule.specs.declared.schedule.WireLine.{WireLine}
@@ -239,7 +240,7 @@ all_answered owned above n (line ∷ lines) (r ∷ runs) w are known same refuse
       (declared_on above line.number line.step (lines_in lines) ∙ same ∙ sym (names_stay (moves_of line w) w)) refused.2,
 )
 
-pub schedule_answered : (schedule : WireView) (runs : List LineRun) → IsWireSchedule schedule → AreLinesRefused schedule.lines runs (world_at_start schedule)
+pub schedule_answered : (schedule : WireView) (runs : List LineRun) → IsLineList schedule → AreLinesRefused schedule.lines runs (world_at_start schedule)
     → AreAnswered (owned_of schedule) schedule.lines runs (world_at_start schedule)
 schedule_answered schedule runs right refused =
     all_answered (owned_of schedule) nothing_above 2 schedule.lines runs (world_at_start schedule) right.lines

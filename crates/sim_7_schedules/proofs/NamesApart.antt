@@ -10,7 +10,8 @@ use Rattle.sim_7_schedules.specs.Refusals.{Noted, noted_in, noted_of}
 use Rattle.cmd_schedule.specs.Contents.{Owned, owned_in}
 use Rattle.cmd_schedule.specs.Grammar.{is_name}
 use Rattle.cmd_schedule.specs.Schedules.{WireView, common_at, steps_of}
-use Rattle.cmd_schedule.specs.WireGrammar.{AreWireLines, IsWireSchedule, WireAbove, above_by, may_run, nothing_above}
+use Rattle.cmd_schedule.specs.LineLists.{IsLineList}
+use Rattle.cmd_schedule.specs.WireGrammar.{AreWireLines, WireAbove, above_by, may_run, nothing_above}
 use Rattle.cmd_schedule.specs.declared.schedule.Line.{Line}
 use Rattle.cmd_schedule.specs.declared.schedule.Step.{Step}
 use Rattle.cmd_schedule.specs.declared.schedule.Step.TheVariants as step
@@ -87,5 +88,5 @@ pub first_names : (os : List Owned) → map (λ (o : Owned). o.device) os ≡ na
 first_names [] = refl
 first_names (o ∷ os) = ap (λ ns. o.device ∷ ns) (first_names os)
 
-pub apart_at_start : (schedule : WireView) → IsWireSchedule schedule → AreApart (names_of (noted_in (world_at_start schedule)))
+pub apart_at_start : (schedule : WireView) → IsLineList schedule → AreApart (names_of (noted_in (world_at_start schedule)))
 apart_at_start schedule right = subst AreApart (first_names (owned_in (common_steps schedule))) (by_lines nothing_above 2 schedule.lines right.lines tt)

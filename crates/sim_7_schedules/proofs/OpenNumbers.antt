@@ -13,7 +13,8 @@ use Rattle.cmd_report_reader.specs.Readable.{IsNumber, IsUnderway}
 use Rattle.sim_7_schedules.specs.ShownWorlds.{shown_of}
 use Rattle.cmd_schedule.specs.Contents.{accounts_of}
 use Rattle.cmd_schedule.specs.Schedules.{WireView, keep_of}
-use Rattle.cmd_schedule.specs.WireGrammar.{AreWireLines, IsWireSchedule, WireAbove, above_by, nothing_above}
+use Rattle.cmd_schedule.specs.LineLists.{IsLineList}
+use Rattle.cmd_schedule.specs.WireGrammar.{AreWireLines, WireAbove, above_by, nothing_above}
 use Rattle.cmd_schedule.specs.declared.schedule.WireLine.{WireLine}
 use Rattle.sim_7_schedules.specs.Simulation.{ScheduleSimulates}
 use Rattle.sim_1_applications.proofs.Intervals.{length_after}
@@ -86,7 +87,7 @@ lines_early (line ∷ lines) above n w are low early =
     let more = line_moment w.names (length w.wires) line.number w above line.step are.2 in
     lines_early lines (above_by line.step above) (n + 1) (stepped line w) are.4 (omega (arith, are.1)) (omega (arith, early, more))
 
-module _ (s : WireView) (right : IsWireSchedule s) (sr : ScheduleSimulates s) where
+module _ (s : WireView) (right : IsLineList s) (sr : ScheduleSimulates s) where
   last_early : (world_of s).moment ≤ 1000000000 * 100001
   unfolding world_of
   last_early = lines_early s.lines nothing_above 2 (world_at_start s) right.lines (omega arith) (omega arith)

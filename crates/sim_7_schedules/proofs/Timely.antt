@@ -5,7 +5,8 @@ use Rattle.std.specs.Prelude.{IfSome}
 use Rattle.sim_3_images.proofs.ChangedLists.{all_at}
 use Rattle.cmd_schedule.proofs.Lists.{all_append}
 use Rattle.cmd_schedule.specs.Schedules.{WireView}
-use Rattle.cmd_schedule.specs.WireGrammar.{AreWireLines, IsWireSchedule, WireAbove, above_by, nothing_above}
+use Rattle.cmd_schedule.specs.LineLists.{IsLineList}
+use Rattle.cmd_schedule.specs.WireGrammar.{AreWireLines, WireAbove, above_by, nothing_above}
 use Rattle.cmd_schedule.specs.declared.schedule.WireLine.{WireLine}
 use Rattle.sim_7_schedules.proofs.ByteMoves.{IsTimely}
 use Rattle.sim_7_schedules.proofs.LineMoments.{asked, closed, dialed, down_still, forgot, line_moment, said, up_still}
@@ -47,7 +48,7 @@ lines_timely (line ∷ lines) above number w are low =
     all_append IsTimely (worlds_by (moves_of line w) w) (worlds_along lines (stepped line w)) (timely_all (worlds_by (moves_of line w) w) number are.1 (within (moves_of line w) w ((number + 1) * 1000000000) following))
     (lines_timely lines (above_by line.step above) (number + 1) (stepped line w) are.4 following)
 
-pub timely_at : (s : WireView) → IsWireSchedule s → (j : ℕ) (w : ByteWorld) → slice_get (history_of s) j ≡ Some w → IsTimely w
+pub timely_at : (s : WireView) → IsLineList s → (j : ℕ) (w : ByteWorld) → slice_get (history_of s) j ≡ Some w → IsTimely w
 timely_at s right j w at =
     let all : AllByRecursion IsTimely (history_of s) = (omega arith, lines_timely s.lines nothing_above 2 (world_at_start s) right.lines (omega arith)) in
     subst (λ o. IfSome o IsTimely) at (all_at IsTimely (history_of s) j all)

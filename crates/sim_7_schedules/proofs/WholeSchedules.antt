@@ -8,7 +8,8 @@ use Rattle.sim_7_schedules.proofs.LinesRefused.{schedule_refused}
 use Rattle.sim_7_schedules.proofs.LinesAlong.{IsBefore, lines_go}
 use Rattle.sim_7_schedules.proofs.LinesDone.{lines_done}
 use Rattle.cmd_schedule.specs.Schedules.{WireView}
-use Rattle.cmd_schedule.specs.WireGrammar.{IsWireSchedule, nothing_above}
+use Rattle.cmd_schedule.specs.LineLists.{IsLineList}
+use Rattle.cmd_schedule.specs.WireGrammar.{nothing_above}
 use Rattle.sim_7_schedules.proofs.FirstLinesBeginning.{first}
 use Rattle.sim_7_schedules.specs.Simulation.{EachMoveSimulates, ScheduleSimulates, bounds}
 use Rattle.sim_1_applications.specs.Devices.{Device, new_device}
@@ -45,7 +46,7 @@ module _ (s : WireView) where
     within = r.within;
   }
 
-  before_first : IsWireSchedule s → IsBefore s nothing_above 2 (world_at_start s) (begins s)
+  before_first : IsLineList s → IsBefore s nothing_above 2 (world_at_start s) (begins s)
   before_first right =
       let f = first s right in
       record {
@@ -65,7 +66,7 @@ module _ (s : WireView) where
 
 -- ---- all lines
 
-pub schedule_runs : (s : WireView) → IsWireSchedule s → EachMoveSimulates s → ScheduleSimulates s
+pub schedule_runs : (s : WireView) → IsLineList s → EachMoveSimulates s → ScheduleSimulates s
 schedule_runs s right each =
     let all = lines_go s each s.lines nothing_above 2 (world_at_start s) (begins s) right.lines (before_first s right) in
     record {

@@ -5,7 +5,7 @@
 ghost use Rattle.std.specs.Prelude.{◌≡◌, ℕ, Some, slice_get};
 ghost use Rattle.cmd_schedule.specs.Contents.{Owned};
 ghost use Rattle.cmd_schedule.specs.Schedules.{WireView};
-ghost use Rattle.cmd_schedule.specs.WireGrammar.{IsWireSchedule};
+ghost use Rattle.cmd_schedule.specs.LineLists.{IsLineList};
 ghost use Rattle.cmd_schedule.specs.declared.schedule.Count.{Count};
 ghost use Rattle.sim_7_schedules.specs.LateWords.{AsksAreUnbound, IsDialledBy, IsOfDeviceAlone, IsUnboundAt};
 ghost use Rattle.cmd_world.specs.Histories.{history_of};
@@ -17,7 +17,7 @@ ghost use Rattle.cmd_world.specs.Worlds.{ByteWorld};
 /// Where a `bind` or a `resume` comes (RFC 6120, section 7; XEP-0198, section 5), the server has none (`asks`). So it is of
 /// a late one, on a connection that its device has left.
 pub fn late_words_change_no_archive()
-    ensures changes { (s : WireView) → IsWireSchedule s → (j : ℕ) (w : ByteWorld) → slice_get (history_of s) j ≡ Some w → (position : ℕ) (o : Owned) → IsDialledBy s w position o → IsUnboundAt position w → (count : Count)
+    ensures changes { (s : WireView) → IsLineList s → (j : ℕ) (w : ByteWorld) → slice_get (history_of s) j ≡ Some w → (position : ℕ) (o : Owned) → IsDialledBy s w position o → IsUnboundAt position w → (count : Count)
         → IsOfDeviceAlone s o w (moved (Up position count) w) }
-    ensures asks { (s : WireView) → IsWireSchedule s → (j : ℕ) (w : ByteWorld) → slice_get (history_of s) j ≡ Some w → AsksAreUnbound w }
+    ensures asks { (s : WireView) → IsLineList s → (j : ℕ) (w : ByteWorld) → slice_get (history_of s) j ≡ Some w → AsksAreUnbound w }
 {}
