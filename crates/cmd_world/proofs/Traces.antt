@@ -199,9 +199,10 @@ may_step (wire.Run times) above w may early = tt
 may_all : (lines : List WireLine) (above : WireAbove) (w : ByteWorld) → AreListed above lines → w.moment + ticked_in lines ≤ 253402207200000 → MayAllStep lines w
 may_all [] above w are early = tt
 may_all (line ∷ lines) above w are early =
-    let next = passes_line line.step line.number w in (
-      may_step line.step above w are.1 (omega (arith, early)),
-      may_all lines (above_by line.step above) (stepped line w) are.3 (omega (arith, early, next.moment)),
+    let next = passes_line line.step line.number w in
+    let soon : w.moment + (ticked_of line.step + ticked_in lines) ≤ 253402207200000 = early in (
+      may_step line.step above w are.1 (omega (arith, soon)),
+      may_all lines (above_by line.step above) (stepped line w) are.3 (omega (arith, soon, next.moment)),
     )
 
 -- ---- a list of lines
@@ -218,7 +219,7 @@ numbered_start schedule w same = subst IsNumbered (sym same) (tt, tt)
 
 pub may_follow : (schedule : WireView) (w : ByteWorld) → IsLineList schedule → w ≡ world_at_start schedule → MayAllStep schedule.lines w
 may_follow schedule w is same =
-    subst (MayAllStep schedule.lines) (sym same) (may_all schedule.lines nothing_above (world_at_start schedule) is.lines (omega (arith, is.ticked)))
+    subst (MayAllStep schedule.lines) (sym same) (may_all schedule.lines nothing_above (world_at_start schedule) is.lines (let ticked : ticked_in schedule.lines ≤ 253402207200000 = is.ticked in omega (arith, ticked)))
 
 accounts_stay : (lines : List WireLine) (w : ByteWorld) → (all_stepped lines w).accounts ≡ w.accounts
 accounts_stay [] w = refl

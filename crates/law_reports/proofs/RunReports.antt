@@ -121,7 +121,8 @@ owner_of d = record { device = d.name; account = d.account }
 known_lines : (s : WireView) (worlds : List ReportWorld) (r : ReportView) → IsRunOf s worlds r → HasNumbers r → AllByRecursion IsKnownLine r.devices
 known_lines s worlds r run has =
     let many = length (seen_of s).lines in
-    let few : many < 2 ^ 32 = omega (arith, wire_lines_few s.lines, run.right.few) in
+    let short : length s.lines ≤ 4294967294 = run.right.few in
+    let few : many < 2 ^ 32 = omega (arith, wire_lines_few s.lines, short) in
     let g = ground_of s worlds r run in
     let owners : AllByRecursion (λ d. IsOwner (owner_of d)) r.devices =
     all_unmap IsOwner owner_of r.devices (subst (AllByRecursion IsOwner) (sym (of_schedule s worlds r run).devices) (owners_right s worlds r run)) in

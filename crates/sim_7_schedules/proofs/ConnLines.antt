@@ -44,7 +44,7 @@ lines_named [] right = tt
 lines_named (line ∷ lines) right = step_named line.step (owned_in (steps_of lines)) right.0.device (lines_named lines right.1)
 
 owners_named : (s : WireView) → IsLineList s → AllByRecursion IsOwner (owned_of s)
-owners_named s right = lines_named (seen_of s).lines (wire_lines_right nothing_above 2 s.lines right.lines)
+owners_named s right = lines_named (seen_of s).lines (wire_lines_right nothing_above s.lines right.lines)
 
 name_there : (ds : List DeviceState) (position : ℕ) (o : Owned) → slice_get (map owned_by ds) position ≡ Some o → name_at position ds ≡ o.device
 name_there [] position o at = absurd (none-some o at)

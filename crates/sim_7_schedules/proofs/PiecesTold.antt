@@ -63,9 +63,9 @@ use Rattle.xml_writer.specs.Items.{ItemOut}
 
 -- ---- items, one after another
 
--- behind all pages that the lines of a schedule ask for a device asks for one more at most
+-- behind all pages that lines ask for a device asks for one more at most
 abbrev wide : Bounds
-wide = record { says = 100000; pages = 200001; dials = 10000 }
+wide = record { says = 10000000; pages = 10100001; dials = 10000 }
 
 small : AreSmall wide
 small = record { stanzas = omega arith; dials = omega arith }
@@ -91,7 +91,7 @@ widened s says w x r = record {
 
 -- so far the device asked for few pages, or no answer is under way to it
 abbrev IsFew : Device → Type 0
-IsFew d = (d.reading.asked ≤ 200001) ⊎ IsUnanswered d
+IsFew d = (d.reading.asked ≤ 10100001) ⊎ IsUnanswered d
 
 -- these items are under way to the device of a connection, which has it
 record AreComing (s : WireView) (position says : ℕ) (w : ItemWorld) (x : AppWorld) (wire : ItemWire) (d : ItemDevice) (items : List ItemOut) : Type 0 where
