@@ -87,7 +87,7 @@ pub record IsReportOf (schedule : WireView) (runs : List LineRun) (last : sessio
   pub devices : AreDeviceLines (keep_of schedule.version) (history_at (owned_of schedule) last.takes) (owned_of schedule) last.devices report.devices
   pub refused : AllByRecursion (λ d. d.refused ≡ refused_by d.name runs) report.devices
 
--- The report is that of a run of the wire schedule over sessions that may stop at any time; and these were the worlds
+-- The report is that of a run of the list of lines over sessions that may stop at any time; and these were the worlds
 -- before the first move and after each move.
 pub record IsRunOf (schedule : WireView) (worlds : List ReportWorld) (report : ReportView) : Type 0 where
   pub right : IsLineList schedule

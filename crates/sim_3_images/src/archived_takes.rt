@@ -15,10 +15,10 @@ ghost use Rattle.cmd_world.specs.WorldReports.{report_of};
 ghost use Rattle.sim_3_images.specs.ReportTakes.{AreOfTakes, HasArchivesOfTakes, Taken};
 ghost use Rattle.sim_3_images.specs.Submitted.{AreAsSubmitted};
 
-/// A law: of each wire schedule, whichever its version, the archives of the report are those of its takes. An archive keeps
+/// A law: of each list of lines, whichever its version, the archives of the report are those of its takes. An archive keeps
 /// the newest KEEP entries of its account's history, and LAST is the history's length. The history has an entry of each
 /// message that the account sent or that is to it, in the order of the `take` lines, with the moment, the addresses and the
-/// origin id that the line tells. So it is of the report of each world of the schedule's history.
+/// origin id that the line tells. So it is of the report of each world of the list's history.
 pub fn archives_are_those_of_the_takes()
     ensures end { (schedule : WireView) → IsLineList schedule → HasArchivesOfTakes schedule (report_of (world_of schedule)) }
     ensures history { (schedule : WireView) → IsLineList schedule → AllByRecursion (λ w. HasArchivesOfTakes schedule (report_of w)) (history_of schedule) }

@@ -93,7 +93,7 @@ pub fn a_move_is_moves_of_items<U, D, H, C>()
         → WorldEncodes (Among up) (Among down) (StandingServers (Among server_state)) (Among client) w v → MovesEncode (Among up) (Among down) (StandingServers (Among server_state)) (Among client) (worlds_by moves w) w v }
 {}
 
-/// A law: each world of a wire schedule's history encodes a world of items that moves of items lead to from the
+/// A law: each world of the history of a list of lines encodes a world of items that moves of items lead to from the
 /// first one, in which the same accounts and devices are (`reached`); and they go side by side, move by move (`beside`:
 /// the worlds behind the first are those of `history_of`). With the same premise, of which the first world is part.
 pub fn histories_are_those_of_items<U, D, H, C>()

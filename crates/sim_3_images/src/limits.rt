@@ -41,7 +41,7 @@ pub fn worlds_fit<U, D, H, C>()
 {}
 
 /// A law: so it is of the four families of this project, without a premise: at each move (`one`), at moves one after
-/// another (`many`), and from the first world of a wire schedule on (`start`, `reached`). A world of items that a world of
+/// another (`many`), and from the first world of a list of lines on (`start`, `reached`). A world of items that a world of
 /// bytes encodes is such a world (`encodes`), and so are those between the moves of items that a move of bytes is,
 /// since these are such moves (`runs`).
 ///

@@ -20,7 +20,7 @@ ghost use Rattle.sim_7_schedules.specs.Bound.{AreEnabled, HasBound, IsTakenAbove
 ghost use Rattle.cmd_world.specs.Histories.{history_of};
 ghost use Rattle.cmd_world.specs.Worlds.{ByteWorld};
 
-/// A law: in a world of a wire schedule's history each session that the server has of a device is enabled (XEP-0198,
+/// A law: in a world of the history of a list of lines each session that the server has of a device is enabled (XEP-0198,
 /// section 3), or it has none; in a later one, `bound`, it has one that isn't. So it has handled a bind of that device
 /// (RFC 6120, section 7). Then what any later world has of takes beyond that one is, of this device, of epochs above the
 /// one that its client had reached before the bind: no message of an older session comes into an archive any more
@@ -32,7 +32,7 @@ pub fn nothing_older_is_taken_after_a_bind()
         → (i : ℕ) (o : Owned) (d : DeviceState) → slice_get (owned_of s) i ≡ Some o → slice_get w.devices i ≡ Some d → (e : ℕ) → e < d.client.client.epoch → IsTakenAbove e o w later }
 {}
 
-/// A law: so it is behind each bind that the server handles in a run of the applications beside the schedule's history,
+/// A law: so it is behind each bind that the server handles in a run of the applications beside the list's history,
 /// whatever the session before it was: of the device nothing more is taken of an epoch that it had reached by then.
 pub fn nothing_older_is_taken_after_a_handled_bind()
     ensures { (s : WireView) → IsLineList s → (runs : ScheduleSimulates s) (front following : List AppEvent) (i : ℕ) (d : Device) → flat_map (λ move. move) (moves_of runs.runs) ≡ front ++ At i Bind ∷ following

@@ -12,7 +12,7 @@ ghost use Rattle.sim_7_schedules.specs.Faults.{EachTells, EndsForFew, HasWords, 
 ghost use Rattle.cmd_world.specs.Histories.{history_of};
 ghost use Rattle.cmd_world.specs.Worlds.{ByteWorld};
 
-/// A law: no catch-up fails in a world of a wire schedule's history. However many bytes of those under way are handed to a
+/// A law: no catch-up fails in a world of the history of a list of lines. However many bytes of those under way are handed to a
 /// device on its connection, its client tells no `CatchUpFault`: the server refuses no page, no page has more results than
 /// were asked for, its end tells the last result that came, none comes twice, and each page but the last has one
 /// (XEP-0313, section 4; XEP-0059).

@@ -13,7 +13,7 @@ ghost use Rattle.cmd_world.specs.Histories.{history_of};
 ghost use Rattle.cmd_world.specs.Moves.{Up, moved};
 ghost use Rattle.cmd_world.specs.Worlds.{ByteWorld};
 
-/// A law: in each world of a wire schedule's history each device has pairs of directions of acknowledged delivery
+/// A law: in each world of the history of a list of lines each device has pairs of directions of acknowledged delivery
 /// (XEP-0198, sections 4 and 5), one of each epoch that its client has reached. The session that the server has of it and
 /// the one that its client has are ends of such pairs, and of one pair where they name each other; the client's is that of
 /// its present epoch, and so is the server's, or it has none while the client hasn't read that it was bound. Of an end the

@@ -12,7 +12,7 @@ ghost use Rattle.cmd_world.specs.Histories.{history_of};
 ghost use Rattle.cmd_world.specs.Moves.{Up, moved};
 ghost use Rattle.cmd_world.specs.Worlds.{ByteWorld};
 
-/// A law: in each world of a wire schedule's history, where the server has no session on a connection, whatever of it
+/// A law: in each world of the history of a list of lines, where the server has no session on a connection, whatever of it
 /// is handed to the server changes no archive, and of sessions only those of the device that dialled it (`changes`).
 /// Where a `bind` or a `resume` comes (RFC 6120, section 7; XEP-0198, section 5), the server has none (`asks`). So it is of
 /// a late one, on a connection that its device has left.

@@ -18,14 +18,14 @@ pub fn moves_leave_refused()
     ensures { (m : Move) (w : ByteWorld) → noted_in (moved m w) ≡ noted_after m w }
 {}
 
-/// A law: where each line of a wire schedule has the refusals of its moves, the report of the schedule's world has for each
+/// A law: where each line of a list of lines has the refusals of its moves, the report of the list's world has for each
 /// device the refusals under its name, in the order of the lines.
 pub fn lines_are_refused()
     ensures { (schedule : WireView) (runs : List LineRun) → IsLineList schedule → AreLinesRefused schedule.lines runs (world_at_start schedule) →
         AllByRecursion (λ (d : DeviceView). d.refused ≡ refused_by d.name runs) (report_of (world_of schedule)).devices }
 {}
 
-/// A law: what each line of a wire schedule comes to, where it has the refusals of its moves. The device under a name that a
+/// A law: what each line of a list comes to, where it has the refusals of its moves. The device under a name that a
 /// line says is there, at the place of its owner. Where its client takes the message, or asks for the page, nothing is
 /// refused; where it answers why not, the device refuses this line alone. No line of another kind is refused.
 pub fn lines_are_answered()
