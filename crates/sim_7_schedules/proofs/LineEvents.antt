@@ -1,6 +1,5 @@
 -- One line of a wire schedule as events of the applications, and what is said by them.
 use Rattle.std.proofs.Common.{ℕ, ◌+◌, ◌≤◌, Bool, true, false, List, [], ◌∷◌, Option, None, Some, length, subst, ap, arith}
-use Rattle.std.specs.List.{slice_get}
 use Rattle.std.specs.Prelude.{IsTrue}
 use Rattle.base_io.specs.Names.{position_of}
 use Rattle.sim_3_items.specs.ItemMoves as items
