@@ -1,4 +1,8 @@
 //! A base64 text as it is read.
+//!
+//! Canonical base64 is judged byte by byte (`auth_primitives`): whether an element has a bad field is told without
+//! memory, of a text that may lie in pieces. Who needs the bytes decodes with the ported `base64`; the law
+//! `base64_is_read_exactly` says that both accept the same texts.
 ghost use Rattle.std.specs.Prelude.{◌≡◌, ◌%◌, ◌==◌};
 ghost use Rattle.auth_primitives.specs.Canonical.{is_base64};
 ghost use Rattle.auth_primitives.specs.Reading.{base64_after, base64_goes_on, base64_may_end, sextet};

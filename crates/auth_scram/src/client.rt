@@ -1,4 +1,7 @@
 //! The client's end of an exchange (RFC 5802, section 5).
+//!
+//! In `last` and `ScramClient::first`, want of memory comes only where the answer is Ok otherwise. `judge` stands
+//! beside `last`, for a caller that may try again.
 ghost use Rattle.std.specs.Prelude.{◌≡◌, true, IfOk, IsSome, OnErr, OnOk};
 ghost use Rattle.auth_scram.specs.Exchange.{Judges, begun_client, check_of, expecting, replied, reply_of, reply_to, sent};
 ghost use Rattle.auth_scram.specs.Grammar.{is_nonce};

@@ -1,4 +1,9 @@
 //! A password, and what it was last stretched to (RFC 5802, section 3).
+//!
+//! A client stretches its password once for a salt and a count (RFC 5802, section 3, lets it keep the
+//! SaltedPassword), and keeps the last. Contracts see a `Password` as its text, so no definition knows of it; that
+//! what is kept is right is its invariant. An exchange has a copy, and hands what it learnt back when it replies. It
+//! is kept in memory alone.
 ghost use Rattle.std.specs.Prelude.{◌≡◌, ◌≤◌, IfOk};
 ghost use Rattle.auth_primitives.specs.Hashes.{salted_password};
 

@@ -1,4 +1,7 @@
 //! Bytes of ASCII as a text.
+//!
+//! Bytes that are known to be ASCII become a text without a look at them (`ascii_str` of `base_io`). That is the one
+//! `unsafe` line of this repository; its condition is proved as any other.
 ghost use Rattle.std.specs.Prelude.{◌≡◌};
 ghost use Rattle.std.specs.Str.{IsAscii};
 

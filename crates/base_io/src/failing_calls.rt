@@ -1,4 +1,7 @@
 //! Which calls of a source or a sink in memory fail.
+//!
+//! Source and sink in memory count each call once, by clauses, and keep `step` and `fails`: what fails when is a
+//! test's to choose.
 ghost use Rattle.std.specs.Prelude.{◌≡◌, ◌≤◌, ◌↔◌, IsTrue, Contains, if◌then◌else◌};
 ghost use Rattle.base_io.specs.InMemory.{not_called, called, failed};
 

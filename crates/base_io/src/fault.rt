@@ -1,4 +1,8 @@
 //! What is answered where memory runs out, or where a source or a sink fails.
+//!
+//! An Ok of a source or a sink leaves its count of faults. "Failed only where the count rose" alone would let a sink
+//! raise its count and be well; then "status 5 exactly where the count rose" could not be said. The converse clauses
+//! have the premise that the count neither rose nor stood at its end.
 use std::alloc::{AllocError, AllocFailed};
 use std::error::Error;
 use std::fmt;

@@ -1,4 +1,17 @@
 //! Lists whose calls answer want of memory.
+//!
+//! Lists are one generic type. `ListOf<T>` of `base_io` stands under the names `Numbers`, `Names`, `Lines`, `Items`
+//! and so on. Contracts see it, and `Bytes`, as a record of the items and of `spare`, the number of further items
+//! that fit without more memory: `spare` has to be visible where a call needs room, and `≡` compares all of a value.
+//! So an equal list is equal items.
+//!
+//! What a call adds it says of `spare` where room was reserved. After a call that takes memory itself, as `push`,
+//! nothing is said of it: who needs room again reserves it again.
+//!
+//! A copy of a list goes by a trait, `Copied`, since an alias can't be given a method in another crate.
+//!
+//! A list that has no room takes just what is reserved first, since most lists get all their items at once; from then
+//! on it doubles. A child of an element takes room for itself alone.
 ghost use Rattle.std.specs.Prelude.{◌≡◌, ◌+◌, ◌≤◌, [], ◌∷◌, ◌++◌, IfOk, IsOk, OnOk, OnErr};
 
 use crate::fault::NoMemory;

@@ -1,4 +1,6 @@
 //! Names that are found by an ordered index.
+//!
+//! An index of names holds each name twice, in order and as a key: a map can't borrow its keys from a list beside it.
 ghost use Rattle.std.specs.Prelude.{◌≡◌, ◌<◌, false, [], ◌∷◌, ◌++◌, length, OnOk, OnErr, IfSome, IfNone, IsTrue, ◌↔◌};
 ghost use Rattle.std.specs.List.{slice_get};
 ghost use Rattle.base_io.specs.Names.{is_among, position_of};

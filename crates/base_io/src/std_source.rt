@@ -1,4 +1,6 @@
 //! A source over a reader of std.
+//!
+//! An interrupted read or write of the system is tried again, and is no fault.
 ghost use Rattle.std.specs.Prelude.{Some};
 ghost use Rattle.std.specs.Io.{ReadsAtMost};
 ghost use Rattle.std.specs.Io.KnownBytes.{ReadConsumes, WriteAppends};

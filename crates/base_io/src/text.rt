@@ -1,4 +1,10 @@
 //! A text that answers want of memory, and that can be shared.
+//!
+//! A text is owned or shared. `Text::shared` makes one whose copies take no memory, for what many values hold, as the
+//! names of namespaces. A reference to a fixed text would burden each struct that holds a text with a lifetime.
+//!
+//! A text of up to 16 bytes stands in itself (`ArrayString`): most names, ids and namespaces are so short. A text
+//! stays 32 bytes large.
 ghost use Rattle.std.specs.Prelude.{◌≡◌, [], IfOk, string_bytes};
 ghost use Rattle.base_io.specs.Texts.{bytes_of};
 

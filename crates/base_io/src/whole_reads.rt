@@ -1,4 +1,6 @@
 //! A source read whole, to its end.
+//!
+//! A source is read 4,096 bytes at a time into a buffer on the stack. No clause depends on the number.
 ghost use Rattle.std.specs.Prelude.{◌≡◌, ◌<◌, ◌≤◌, ◌++◌, length, ⊤, IfOk, IfSome, OnOk, IsErrOf};
 ghost use Rattle.std.specs.Io.KnownBytes.{IsAtEnd};
 ghost use Rattle.base_io.specs.Counts.{Rose};

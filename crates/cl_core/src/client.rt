@@ -1,4 +1,8 @@
 //! The client's calls.
+//!
+//! A client is two crates: its state with the rows up to a session, of acknowledgements and of messages
+//! (`cl_handlers`), and its pages, its table and the calls of its user (`cl_core`). Rows are functions of the state,
+//! since a type gets no methods from another crate.
 ghost use Rattle.std.specs.Prelude.{◌≡◌, ◌≤◌, ◌⊎◌, List, None, not, Err, OnErr, OnOk};
 ghost use Rattle.std.specs.Option.{option_and_then};
 ghost use Rattle.cl_core.specs.Feeds.{IsMemoryLost, IsStopped, bytes_step, fed, kept_while, read};

@@ -1,4 +1,6 @@
 //! What answers a page request (XEP-0313, sections 4.2 and 4.3): the end of the page, or an error.
+//!
+//! No next page is made ready behind the last one.
 ghost use Rattle.std.specs.Prelude.{◌≡◌, ℕ, ◌≤◌, ◌||◌, Some, None, is_some, not, true, false, IfOk, IfSome, IsSome, OnErr, OnOk};
 ghost use Rattle.std.specs.Option.{option_copied};
 ghost use Rattle.sm_acks.specs.declared.end.TheConstants.{MOST_UNACKNOWLEDGED};

@@ -1,4 +1,7 @@
 //! Items, one by one.
+//!
+//! A stanza is told by its name before it is read: so its tree is moved, and no memory is taken to find out that it
+//! is none.
 ghost use Rattle.std.specs.Prelude.{◌≡◌, Some, IfOk, OnErr, OnOk};
 ghost use Rattle.cl_core.specs.Feeds.{IsStopped, with_fault};
 ghost use Rattle.cl_handlers.specs.Speech.{in_bytes};

@@ -1,4 +1,7 @@
 //! Acknowledgements (XEP-0198, sections 4 and 5).
+//!
+//! `Acked` is told for each count that is taken, also where it covers no further stanza; the count of a resumption
+//! before `Resumed`.
 ghost use Rattle.std.specs.Prelude.{◌≡◌, ◌+◌, ◌≤◌, None, OnErr, OnOk};
 ghost use Rattle.cl_handlers.specs.AckRows.{counts_too_high};
 ghost use Rattle.cl_handlers.specs.Acks.{ack_in, acknowledges_in, request_in, too_high_in};

@@ -1,4 +1,7 @@
 //! The states from the second features to the session (RFC 6120, section 7; XEP-0198, sections 3 and 5).
+//!
+//! A resumption makes what goes out anew: what was put so far in the call, and the stanzas that wait. Then it takes
+//! the place of what was put, so that a refusal leaves that as it was.
 ghost use Rattle.std.specs.Prelude.{◌≡◌, ◌≤◌, ◌++◌, None, codes, length, IfOk, IsSome, OnErr, OnOk};
 ghost use Rattle.std.specs.List.{concat};
 ghost use Rattle.std.specs.Option.{option_copied, option_map};

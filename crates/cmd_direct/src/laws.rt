@@ -1,4 +1,7 @@
 //! The law of the direct run.
+//!
+//! The direct run is a crate of definitions and laws (`cmd_direct`) below the code that makes it (`cmd_replay`). A
+//! page that is asked for anew is the log's own `restart`.
 ghost use Rattle.cmd_direct.specs.Direct.{direct_report};
 ghost use Rattle.cmd_direct.specs.History.{direct_history};
 ghost use Rattle.cmd_report.specs.LawfulRuns.{KeepsLaws};

@@ -1,4 +1,7 @@
 //! The schedule that a number and a size make.
+//!
+//! `generate` answers sizes up to `MOST_SIZE`, 10,000. Its dials could be 10,012, past the grammar's 10,000; it is
+//! proved that they never are: of 199 drawn lines in a row at least one is no dial.
 ghost use Rattle.std.specs.Prelude.{◌≡◌, ◌≤◌, ◌++◌, IfOk, OnOk};
 ghost use Rattle.cmd_generate.specs.Generated.{dials_with, drawn_lines, generated};
 ghost use Rattle.cmd_generate.specs.declared.generated.TheConstants.{MOST_SIZE};

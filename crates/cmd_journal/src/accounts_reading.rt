@@ -1,4 +1,7 @@
 //! An accounts file is read from its text.
+//!
+//! In accounts files a missing line is `Word` at the line where it should stand; where a journal follows, the text's
+//! end is `Ending`.
 ghost use Rattle.std.specs.Prelude.{◌≡◌, ◌+◌, ◌^◌, ◌<◌, ◌≤◌, [], ◌∷◌, ◌++◌, length, IfOk, OnErr};
 ghost use Rattle.cmd_journal.specs.Gives.{Gives, ReadsAs, begun_seen, preamble_seen, registered_seen};
 ghost use Rattle.cmd_journal.specs.LineReading.{read_domain, read_first, read_keep, read_registration};

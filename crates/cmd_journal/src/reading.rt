@@ -1,4 +1,7 @@
 //! What a run is done again from is read from its text.
+//!
+//! The laws of a journal speak of the input that a user makes of it: the accounts file, the line `%%`, the journal to
+//! its last byte.
 ghost use Rattle.std.specs.Prelude.{◌≡◌, ◌⊎◌, Err, IfOk, IfErr};
 ghost use Rattle.cmd_journal.specs.AccountsFiles.{AccountsView, IsAccountsFile, accounts_text};
 ghost use Rattle.cmd_journal.specs.Journals.{InputView, Says};

@@ -1,4 +1,7 @@
 //! The text of a run that was done again.
+//!
+//! A connection that the server shuts has no `gone` behind that in a journal. Another program that reads on to its
+//! end may write one.
 ghost use Rattle.std.specs.Prelude.{◌≡◌, IfOk, map};
 ghost use Rattle.cmd_journal.specs.Texts.{named_view, output_view, rerun_text};
 

@@ -1,5 +1,8 @@
 //! Lines of a report, made of what archives and logs hold: by moving it, or, under a name that begins with `copied`,
 //! by copying it.
+//!
+//! Lines of a report are made by moving. The schedule is dropped before its report is made, and the input before it
+//! is run.
 ghost use Rattle.std.specs.Prelude.{◌≡◌, ◌++◌, false, length, map, take, drop, IfOk, OnOk};
 ghost use Rattle.std.specs.Vec.Iter.{into_iter_items, into_iter_len};
 ghost use Rattle.cmd_report.specs.EntryLines.{line_under};

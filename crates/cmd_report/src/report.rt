@@ -1,4 +1,11 @@
 //! What a run of a schedule came to: a line for each thing that it tells.
+//!
+//! The laws of a report begin with a line for each account and device of the schedule; without this a report could
+//! leave out a log together with its pages. They take the worlds that they speak of, so that one statement serves
+//! every kind of run.
+//!
+//! Law 5 of version 2 says more than that the last entry before a break was purged: without that, reports were found
+//! that keep the laws although a kept entry was skipped, or a purged one delivered.
 ghost use Rattle.std.specs.Prelude.{◌≡◌};
 ghost use Rattle.cmd_report.specs.EntryLines.{line_of, line_under};
 

@@ -1,4 +1,7 @@
 //! A report is read from its text.
+//!
+//! Which reports have a text that is read back is `IsReadable`. Only whether `read_report` refuses is promised, not
+//! which line.
 ghost use Rattle.std.specs.Prelude.{◌≡◌, ◌≢◌, ◌⊎◌, ◌+◌, ◌<◌, ◌^◌, length, Err, IfOk, IfErr};
 ghost use Rattle.cmd_report.specs.ReportText.{text_of};
 ghost use Rattle.cmd_report.specs.Reports.{ReportView};

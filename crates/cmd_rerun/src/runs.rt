@@ -1,4 +1,9 @@
 //! A run of the server's core that is done again.
+//!
+//! `rerun` shows what the core does with events, and reads no clock. That the numbers of a run's connections are
+//! fresh is proved in `cmd_rerun`, so that `Server` can ask for it.
+//!
+//! With 2^32 accounts or more a run is not done again (`NoMemory`).
 ghost use Rattle.std.specs.Prelude.{◌≡◌, ◌⊎◌, ◌<◌, ◌^◌, Err, IfErr, IfOk, length, map};
 ghost use Rattle.cmd_journal.specs.AccountsFiles.{IsAccountsFile};
 ghost use Rattle.cmd_journal.specs.Journals.{AreEvents, InputView, IsInput, Says, event_view};

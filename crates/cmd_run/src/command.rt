@@ -1,4 +1,6 @@
 //! The commands, and the words that ask for them.
+//!
+//! `--help` and `--version`, each as the only word, are words of the table: the input isn't read.
 ghost use Rattle.std.specs.Prelude.{◌≡◌, ◌≤◌, IfSome, Some};
 ghost use Rattle.cmd_run.specs.Words.{IsAskable, asked, connections_in, generating, of_one, port_in, reads, seed_in, serving, size_in, spelled, syncing};
 

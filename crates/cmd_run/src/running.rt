@@ -1,4 +1,10 @@
 //! A call of the program: its words, its input, what it writes and its exit status.
+//!
+//! `run` has one list of clauses for all commands. `done_replay` is spelled out; the rest is said once, by `Due` and
+//! `MustAnswer`, with a case for each command. What each command comes to is derived in
+//! `crates/cmd_run/proofs/Rows.antt`.
+//!
+//! The headline is one clause for both kinds of schedule. `IsReportOf` has a case for each, in the same words.
 ghost use Rattle.std.specs.Prelude.{◌≡◌, ◌≢◌, false, ◌<◌, ◌≤◌, ◌⊎◌, List, ℕ, IfSome, IsSome, IsTrue};
 ghost use Rattle.std.specs.Io.KnownBytes.{Appends, Keeps, IsAtEnd};
 ghost use Rattle.base_io.specs.Counts.{Rose, Quiet};

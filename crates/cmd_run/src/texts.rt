@@ -1,4 +1,9 @@
 //! The texts that the program writes besides reports and items.
+//!
+//! At status 2 `main` prints a line of usage on standard error; `run` writes the line `words` alone. Arguments that
+//! aren't UTF-8 count as no words. Words are read without memory.
+//!
+//! A bad line has one text, in `cmd_run`, where it is proved.
 ghost use Rattle.std.specs.Prelude.{◌≡◌, IfOk};
 ghost use Rattle.cmd_run.specs.Texts.{why_name, bad_line, peer_line};
 

@@ -1,4 +1,8 @@
 //! A schedule is read from its text.
+//!
+//! Which bad line is named is proved: `read_schedule` answers what `reading` says of the bytes, and
+//! `reading_is_the_grammar` ties that function to the grammar. The readers of lines and fields are public calls of
+//! `cmd_schedule`; journals, accounts files, scripts and reports are read with them.
 ghost use Rattle.std.specs.Prelude.{◌≡◌, ◌⊎◌, ℕ, List, Ok, Err, IfOk, IfErr};
 ghost use Rattle.cmd_schedule.specs.Gives.{Gives, ReadsAs};
 ghost use Rattle.cmd_schedule.specs.Grammar.{nothing_declared};

@@ -1,4 +1,7 @@
 //! A schedule: its lines, and what each says.
+//!
+//! A schedule is `Direct` or `Wire`: a direct one can't hold wire lines. A line that both have is a `Step`. The laws
+//! see either as a `ScheduleView`. A version is an enum that owns its KEEP.
 ghost use Rattle.std.specs.Prelude.{◌≡◌};
 ghost use Rattle.cmd_schedule.specs.Schedules.{keep_of};
 

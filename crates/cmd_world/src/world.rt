@@ -1,4 +1,11 @@
 //! The world, and what it begins with.
+//!
+//! In a world a device whose connection ended still has it, until it dials, closes or forgets; one whose client left
+//! for a fault of the server has none. Where a line hands no bytes to the server, the server isn't called. A line
+//! whose device or connection isn't there has no moves. In a take, digits that spell no number below 2^64 count as 0.
+//!
+//! A world has all accounts and devices that its schedule declares anywhere from the start. A submission that the
+//! client refuses as no text that can be sent is no refused line: no schedule has such a text.
 
 use base_io::{NameIndex, Names};
 use cmd_network::{Device, Wire};

@@ -1,4 +1,6 @@
 //! Forwarded messages (XEP-0297) with their delays (XEP-0203).
+//!
+//! A forwarded message that is moved into a tree is walked at each level, for the same reason.
 ghost use Rattle.std.specs.Prelude.{◌≡◌, None, Some, true, codes, IfErr, IfOk};
 ghost use Rattle.std.specs.Option.{option_copied, option_map};
 ghost use Rattle.im_payload.specs.Bare.{bare};

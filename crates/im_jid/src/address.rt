@@ -1,4 +1,7 @@
 //! An address in normal form (RFC 7622).
+//!
+//! Want of memory may stand where a refusal was due in `Jid::parse`, `with_resource` and the calls for one part,
+//! which take memory before all is judged. The law that the normal form stays has the premise that the text is UTF-8.
 ghost use Rattle.std.specs.Prelude.{◌≡◌, ◌≢◌, ◌↔◌, ◌∷◌, ◌++◌, IfOk, IfErr, IsTrue, IsSome, Ok, Err};
 ghost use Rattle.std.specs.Option.{option_copied};
 ghost use Rattle.im_jid.specs.Answers.{Answers};

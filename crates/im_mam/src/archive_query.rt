@@ -1,4 +1,6 @@
 //! What an archive is asked for (XEP-0313, XEP-0004, XEP-0059).
+//!
+//! The address of a query is kept as the text of its normal form.
 ghost use Rattle.std.specs.Prelude.{◌≡◌, None, Some, true, codes, IfErr, IfOk, OnErr, OnOk};
 ghost use Rattle.std.specs.List.{list_all};
 ghost use Rattle.std.specs.Fmt.{decimal};

@@ -1,4 +1,7 @@
 //! What an archive keeps of a message (XEP-0313, section 4.2).
+//!
+//! What both ends make of a message's payload is one crate (`im_messages`): bodies, ids taken out, the archive's
+//! entry.
 ghost use Rattle.std.specs.Prelude.{◌≡◌, ℕ, [], IfOk, unwrap_or};
 ghost use Rattle.mam_archive.specs.Entries.{entry_with};
 ghost use Rattle.im_extensions.specs.Given.{origin_of};

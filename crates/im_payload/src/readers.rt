@@ -1,4 +1,7 @@
 //! What the readers of payloads have in common.
+//!
+//! A payload's fields are judged by a list of checks in their order (`first_wrong`), since one field may be wrong in
+//! two ways that stand apart.
 ghost use Rattle.std.specs.Prelude.{◌≡◌, ◌^◌, None, Some, IfErr, IfOk};
 ghost use Rattle.std.specs.Option.{option_copied};
 ghost use Rattle.im_payload.specs.Moments.{moment_in};

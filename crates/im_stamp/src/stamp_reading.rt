@@ -1,4 +1,7 @@
 //! Time stamps are read (XEP-0082, section 3.2).
+//!
+//! `jiff_core` stands for `jiff` in stamps, as the crate with calls between dates and day numbers. The reader of a
+//! stamp's text is this project's own, since jiff's accepts more than a stamp.
 ghost use Rattle.std.specs.Prelude.{◌≡◌, ◌<◌, ◌≤◌, length, true, pos, neg_ℤ, ◌≤ℤ◌, slice_index};
 ghost use Rattle.std.specs.Char.{is_ascii_digit};
 ghost use Rattle.jiff_core.specs.Calendar.{IsEpochDay, days_from_civil};

@@ -1,4 +1,6 @@
 //! The errors of stanzas (RFC 6120, section 8.3).
+//!
+//! An `iq` is answered with an error by `iq_error`, which has the addresses that it is given and always an id.
 ghost use Rattle.std.specs.Prelude.{◌≡◌, ◌≢◌, Some, Ok, Err, codes, IfOk, IfErr};
 ghost use Rattle.std.specs.Option.{option_copied};
 ghost use Rattle.xml_trees.specs.Readers.{first_named};

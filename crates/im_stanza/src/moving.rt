@@ -1,4 +1,6 @@
 //! Stanzas that are moved into trees and copied.
+//!
+//! `stanza_of` moves a stanza's content as one list, so that no payload is copied.
 ghost use Rattle.std.specs.Prelude.{◌≡◌, Ok, IfOk};
 ghost use Rattle.im_stanza.specs.Readings.{stanza_of};
 ghost use Rattle.im_stanza.specs.Written.{iq_elem, message_elem};

@@ -1,4 +1,8 @@
 //! The laws.
+//!
+//! Laws of the client's table are proved over the parts that its rows are made of (`law_client`, `Parts.antt`): the
+//! table is gone through once, for any relation that stays, joins and holds of each part. A new row is one more walk;
+//! a new law needs none. Laws hold over lists of calls, in which want of memory within a piece is a call of its own.
 ghost use Rattle.std.specs.Prelude.{◌≡◌, ◌-◌, ◌%◌, ◌^◌, ◌<◌, ◌≤◌, ◌+◌, ℕ, Bool, List, [], Ok, Option, Some, false, length};
 ghost use Rattle.sm_acks.specs.Delivery.{Acknowledge, Direction, Handle, Moves, Put, Reached, Resume, beginning};
 ghost use Rattle.mam_archive.specs.Ids.{id_of};

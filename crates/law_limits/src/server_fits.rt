@@ -1,4 +1,7 @@
 //! The laws.
+//!
+//! What a server builds is bounded part by part (`IsBounded`, some 400 bytes a tag, 6 a byte of text). What a client
+//! says again of what came to it has bounds as a premise (`IsAnswerable`, 4,096 bytes).
 ghost use Rattle.std.specs.Prelude.{◌≡◌, ◌<◌, ◌^◌, ℕ, List, [], ◌++◌, Option, None, IfSome, true};
 ghost use Rattle.std.specs.List.{AllByRecursion};
 ghost use Rattle.srv_state.specs.Moments.{at_moment, gone_at, with_fresh};

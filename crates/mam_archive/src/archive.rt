@@ -1,4 +1,7 @@
 //! An account's archive (XEP-0313).
+//!
+//! An archive keeps its newest entries from the start, and the direct run hands in a `keep` that no archive passes
+//! (`IsWhole`).
 ghost use Rattle.std.specs.Prelude.{◌≡◌, ◌+◌, ◌-◌, ◌<◌, ◌≤◌, ◌↔◌, ◌⊎◌, ◌∷◌, [], ◌++◌, length, map, drop, slice_get, IfSome, IfNone, IsNone, IfOk, IsErrOf, OnOk, IsTrue};
 ghost use Rattle.std.specs.Option.{option_copied};
 ghost use Rattle.std.specs.VecDeque.{deque_len, deque_capacity};

@@ -1,6 +1,10 @@
 //! The chains of an archive: for each peer the numbers of its first and last entry, and beside each entry the numbers
 //! of the next and of the previous one with the same peer, and its ordinal. A chain's peer is read off its first entry,
 //! so that no text is copied.
+//!
+//! The links of an archive's entries stand beside them: beside each entry the numbers of the next and the previous
+//! one with the same peer, or 0, and how many came before it in its chain. Dropping the oldest entry never leaves a
+//! chain without one.
 ghost use Rattle.std.specs.Prelude.{◌≡◌, ℕ, ◌+◌, ◌-◌, ◌<◌, ◌≤◌, List, [], ◌∷◌, ◌++◌, Some, map, take, drop, set, length, slice_get, IfOk, IfErr, OnOk};
 ghost use Rattle.std.specs.List.{insert};
 ghost use Rattle.mam_archive.specs.Chained.{AreChains, IsChained, IsGap, chain_or, count_of, extended, least_with_peer, kept_number, link_or, moved_on, some_chain, some_number};

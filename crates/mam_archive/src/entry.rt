@@ -1,4 +1,8 @@
 //! A message in an archive (XEP-0313).
+//!
+//! An entry is a number and one block of memory (`Rc`), seen as the same record, so that a copy in another archive, a
+//! page, a log or a report takes constant time. The block tells besides where the bare forms of the two addresses
+//! end.
 ghost use Rattle.std.specs.Prelude.{◌≡◌, IfOk};
 ghost use Rattle.mam_archive.specs.Entries.{entry_with};
 ghost use Rattle.mam_archive.specs.Peers.{peer_of};

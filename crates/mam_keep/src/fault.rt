@@ -1,4 +1,6 @@
 //! Why a keeper did not answer.
+//!
+//! Want of memory leaves a keeper's count of faults, and an Ok too: only `Failed` raises it (`HasKeepCause`).
 use base_io::NoMemory;
 use std::error::Error;
 use std::fmt;

@@ -1,4 +1,8 @@
 //! What is kept, as it is loaded.
+//!
+//! What is kept is a function of bare addresses (`Tables`), so that an account that isn't there and one without
+//! entries are the same. A function can't be the value of a model, so a keeper in memory is seen as what was
+//! committed to it (`ChangeView`).
 use base_io::{ListOf, Text};
 use mam_archive::Entries;
 use std::marker::Model;

@@ -1,4 +1,7 @@
 //! A keeper in memory whose calls can fail.
+//!
+//! A keeper in memory keeps every append ever committed, and computes the archives at a load. So a commit takes all
+//! its memory first, and then changes what is kept whole.
 ghost use Rattle.std.specs.Prelude.{◌≡◌, ◌↔◌, ◌⊎◌, IfOk, IsErrOf, OnOk, OnErr, Contains, Some};
 ghost use Rattle.base_io.specs.Counts.{counted};
 ghost use Rattle.base_io.specs.InMemory.{not_called};

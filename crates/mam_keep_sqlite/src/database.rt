@@ -1,4 +1,7 @@
 //! What is read from the file, and written to it.
+//!
+//! The file is opened by the first call, and after any error let go and opened anew. A commit that failed half-way
+//! then has one of the two states of the contract by the file's own recovery.
 use crate::bodies::joined;
 use crate::rows::{
     Connected, add_entries, close, id_of, integer, last_position_of, make_tables, number_at,

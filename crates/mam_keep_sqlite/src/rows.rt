@@ -1,5 +1,8 @@
 //! One call of the connection each, and what is read of a row. The clauses of `sqlite` are so large that a function
 //! with several of its calls takes many minutes to prove; after these helpers nothing is left of them.
+//!
+//! The file has the greatest session number given, since 2^63 is no integer of it. An entry's key is the account's id
+//! times 2^32 and its number: purging is one range, and an archive is one range in order.
 use crate::bodies::parted;
 use crate::statements::TABLES;
 use base_io::Text;

@@ -1,4 +1,9 @@
 //! The keeper over a file.
+//!
+//! The keeper over a file is a crate of its own: all that stands on the trait is proved without SQLite's libraries.
+//!
+//! What `SqliteKeeper` refuses beyond what an answer may not be: an empty address, a type that is neither 0 nor 1, an
+//! account's id of 2^31 and more, accounts without the row of the session number. No keeper writes these.
 ghost use Rattle.std.specs.Prelude.{◌≡◌, ◌≤◌, None, IfOk};
 ghost use Rattle.base_io.specs.Counts.{Rose};
 ghost use Rattle.mam_keep.specs.Kept.{IsKeptRight};

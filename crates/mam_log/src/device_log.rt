@@ -1,4 +1,7 @@
 //! What a device keeps of its account's archive.
+//!
+//! The end of a page and the beginning of the next are one call (`fin_then_begin`): where memory is wanting between
+//! two calls, the page would be over and nothing asked for.
 ghost use Rattle.std.specs.Prelude.{◌≡◌, ◌≢◌, ℕ, ◌≤◌, ◌⊎◌, List, [], ◌∷◌, ◌++◌, Ok, Err, Some, None, IsSome, IsErrOf, IfErr, IfOk, IfSome, AllPairs, OnOk, OnErr, IsSomeAnd, MatchOption, length, ◌↔◌};
 ghost use Rattle.std.specs.Option.{option_and_then, option_copied, option_map};
 ghost use Rattle.mam_log.specs.Breaks.{breaks_of};

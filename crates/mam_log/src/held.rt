@@ -1,4 +1,6 @@
 //! The messages that came live, held until a page brings them.
+//!
+//! What a log holds is kept in the order in which it came, with a set of its ids.
 ghost use Rattle.std.specs.Prelude.{◌≡◌, ◌≢◌, ℕ, ◌≤◌, Bool, false, not, ◌&&◌, nat_lt, List, [], ◌∷◌, ◌++◌, Ok, Err, OnOk, OnErr, length, drop, filter, AllPairs, vec_len};
 ghost use Rattle.std.specs.BTreeSet.{btree_set_len, contains_text};
 ghost use Rattle.mam_log.specs.HeldIds.{IsIndexOf};

@@ -1,5 +1,8 @@
 //! The places of entries in the order of their ids. Where ids rise, as those of an archive do, that is the order of the
 //! entries, and an id is found to be new by one comparison.
+//!
+//! A log keeps the indices of its entries in the order of their ids. An id above all others is found new by one
+//! comparison; a page whose ids rise above all before them is known to repeat none by one comparison for each.
 ghost use Rattle.std.specs.Prelude.{◌≡◌, ℕ, ◌-◌, ◌+◌, ◌<◌, ◌≤◌, List, [], ◌∷◌, ◌++◌, ◌||◌, Some, None, true, false, length, slice_get, vec_len, vec_capacity, IfOk, IfSome, IfNone, IsTrue};
 ghost use Rattle.std.specs.List.{list_any};
 ghost use Rattle.std.specs.Str.{bytes_eq};

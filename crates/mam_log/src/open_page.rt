@@ -1,4 +1,7 @@
 //! A page that was asked for and has not ended.
+//!
+//! `Log::result` takes what comes up to `max`; what is wrong with a page is judged at its end, by `fin`, in the order
+//! stranger, mismatch, repeated id, no advance.
 ghost use Rattle.std.specs.Prelude.{◌≡◌, ◌+◌, ◌≤◌, true, false, [], ◌∷◌, ◌++◌, Some, None, IfOk, OnOk, OnErr, IsErrOf, MatchOption, length, ◌↔◌};
 ghost use Rattle.std.specs.Option.{option_copied};
 ghost use Rattle.std.specs.Str.{bytes_eq};

@@ -1,4 +1,11 @@
 //! A page that was found, and why there is none.
+//!
+//! A page of an account and nothing else is found from its anchor, and takes a look for each entry that it may have,
+//! and three more. With times, or of a session, the chain of the account is walked; with times and no account, the
+//! whole list, since nothing says that stamps rise.
+//!
+//! A page tells whether it was asked for backwards (`PageCut.backward`), so that whoever writes its end needs no
+//! query: such an end has no `index`.
 ghost use Rattle.std.specs.Prelude.{◌≡◌, IfOk};
 ghost use Rattle.std.specs.Option.{option_copied, option_map};
 ghost use Rattle.mam_archive.specs.Ids.{id_of};

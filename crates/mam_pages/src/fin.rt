@@ -1,4 +1,6 @@
 //! The end of a page (XEP-0313, section 4.2; XEP-0059, section 2.1).
+//!
+//! `Fin` stands in `mam_pages`; `im_mam` reads and writes it.
 use base_io::Text;
 
 /// The end of a page of an archive, as the server reports it (XEP-0313, sections 4.2 and 4.3; XEP-0059, section 2.1):

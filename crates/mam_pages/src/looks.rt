@@ -1,4 +1,8 @@
 //! The calls by which a page is found.
+//!
+//! `Look` has calls by which a chain isn't walked (`chain`, `index_of`, `previous_of`, `is_with`): a page of one
+//! conversation costs no more as an archive grows. `owner` is no look: an entry's addresses alone don't tell who the
+//! other party is.
 ghost use Rattle.std.specs.Prelude.{◌≡◌, ℕ, Option};
 ghost use Rattle.std.specs.Borrow.{sem};
 ghost use Rattle.std.specs.Io.BufRead.{Rests};

@@ -6,6 +6,8 @@
 //! chain walked to its end. Else matching entries go by one after another (`tally_of_chain`, `tally_of_list`),
 //! and a `Tally` keeps their count and the page's numbers in 100 slots. Memory is taken once, for the page's
 //! numbers.
+//!
+//! The definition of a page is tried at pages worked out by hand; there is no second implementation to compare with.
 ghost use Rattle.std.specs.Prelude.{◌≡◌, ℕ, ◌+◌, ◌*◌, ◌<◌, ◌≤◌, ◌^◌, ◌↔◌, List, Some, None, true, false, length, IfOk, IsErrOf};
 ghost use Rattle.mam_archive.specs.Peers.{bare_form};
 ghost use Rattle.mam_pages.specs.Kept.{AreConsecutive, last_number};

@@ -1,4 +1,7 @@
 //! The numbers that a page has so far.
+//!
+//! A window's size stands beside the bound on a page (`SLOTS`, `MOST_RESULTS`): one is the length of an array, the
+//! other what queries are held to. That a page fits is proved.
 ghost use Rattle.std.specs.Prelude.{◌≡◌, ◌+◌, ◌≤◌, [], ◌∷◌, ◌++◌, take, drop, length, IfOk};
 ghost use Rattle.mam_archive.specs.Entries.{newest};
 

@@ -1,4 +1,8 @@
 //! Readers are joined, and links given back, whatever failed.
+//!
+//! Which links come back. At 0, 3 and 7 of `serve` each that was handed out came back, in order. At 6, 9 and 10 those
+//! come back of which a reader was started. That is said by a count: a spawner tells how many threads it started, and
+//! at each status it rose by as many as links came back and one for the acceptor, or nothing was started.
 ghost use Rattle.std.specs.Prelude.{◌≡◌, ◌++◌, ◌≤◌, ℕ, List, IfSome, length};
 ghost use Rattle.net_hub.specs.Backs.{AreLeft, ArePaired};
 ghost use Rattle.net_hub.specs.Joined.{AreMore};

@@ -1,6 +1,14 @@
 //! Outputs of one event are joined, a bundle for each connection, so that each half is written to once. Bundles are made
 //! before anything is written, and are handed over without memory: so they can be kept until it is known that their
 //! event stands, and go to threads that write.
+//!
+//! What one event puts for one connection is one bundle: its bytes, joined in order, and behind them whether the
+//! connection is shut. So a write costs a call of the system for each event and connection, and not for each output.
+//! The first output is moved, and others are copied behind it. Bundles stand in a map by connection, so that a
+//! connection has one at most by the map's type, and many outputs for many connections cost little more than their
+//! number. They are made before the event is noted and anything is written (`NoMemory` there is the event's), and
+//! handed over without memory. Whoever keeps outputs back, or hands them to threads that write, takes bundles as they
+//! are. The order between two connections is by their numbers.
 ghost use Rattle.std.specs.Prelude.{◌++◌, ◌∷◌, ℕ, List, [], IfOk, OnOk};
 ghost use Rattle.srv_state.specs.Seen.{out_of, outs_of};
 ghost use Rattle.srv_state.specs.State.{Out, Put, Shut};

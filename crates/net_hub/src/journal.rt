@@ -1,4 +1,7 @@
 //! The journal of a server's events.
+//!
+//! The journal of several connections keeps events and not text, since clauses have to see them. A connection whose
+//! number is above 2^63 - 1 has no place in it: `NoMemory`.
 ghost use Rattle.std.specs.Prelude.{◌≡◌, ◌∷◌, ◌++◌, [], ◌<◌, ◌^◌, IfOk, OnOk, length};
 ghost use Rattle.cmd_journal.specs.Journals.{event_view, events_text, journal_header};
 ghost use Rattle.net_hub.specs.Records.{run_of_file, views_of};

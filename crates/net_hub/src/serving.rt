@@ -1,4 +1,7 @@
 //! Connections are served at the same time.
+//!
+//! The door listens once the server is ready: the keys of all accounts are derived before, so that who connects is
+//! answered at once. That a port can't be listened on is told behind them.
 ghost use Rattle.std.specs.Prelude.{◌≡◌, ◌≢◌, ◌⊎◌, ◌<◌, ◌^◌, ◌∷◌, ◌++◌, ℕ, List, Option, None, Some, Err, IfErr, IfOk, IfSome, IsErrOf, length, true};
 ghost use Rattle.crossbeam_channel.specs.Claims.{IsSeatAt, view};
 ghost use Rattle.crossbeam_channel.specs.Ends.{sends_on};

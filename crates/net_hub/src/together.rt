@@ -1,4 +1,7 @@
 //! Connections that come in at a port are served at the same time.
+//!
+//! `serve_together` takes the door by value and answers it: a spawner that refuses the acceptor's job drops it, and
+//! the door with it. A fault of the door is none of the owner's troubles: no connection comes behind it.
 ghost use Rattle.std.specs.Prelude.{◌≡◌, ◌≢◌, ◌⊎◌, ℕ, List, Option, [], Err, IfErr, IfOk, IfSome, IsErrOf, IsSome, MatchOption};
 ghost use Rattle.base_io.specs.Counts.{Rose};
 ghost use Rattle.net_hub.specs.Backs.{AreAfter};

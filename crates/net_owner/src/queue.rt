@@ -1,4 +1,7 @@
 //! The calls of the queue, one for each kind of step.
+//!
+//! The door may be gone where a thread could not be started. `post` and `take` try again whatever ended a call
+//! without its step; no clause of the channel says when it is cut off.
 ghost use Rattle.std.specs.Prelude.{◌≡◌, ◌<◌, ◌++◌, true, false, List, [], IfOk};
 ghost use Rattle.crossbeam_channel.specs.Claims.{view, IsSeatAt};
 ghost use Rattle.crossbeam_channel.specs.Ends.{sends_on, receives_on};

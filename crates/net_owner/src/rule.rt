@@ -1,4 +1,7 @@
 //! The rule of the queue: what was taken of each sender, and then what the queue holds of it, is what it sent, in order.
+//!
+//! The queue's rule is generic in its item, which names its sender. A merge is said sender by sender (`IsMerge`), for
+//! events connection by connection (`AreMerged`).
 ghost use Rattle.std.specs.Prelude.{◌≡◌, ℕ, ◌++◌, ◌∷◌, []};
 
 use crossbeam_channel::protocol::{Join, Lesson, Outcome, Protocol, Split};

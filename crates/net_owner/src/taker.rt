@@ -1,4 +1,7 @@
 //! What takes the events of connections.
+//!
+//! The owner hands events to a `Taker`, a trait: so the proof of the merge knows no server. A taker tells by `keeps`
+//! what is so of it between two events; the owner proves that it stays so. Moment and random bytes are arguments.
 ghost use Rattle.std.specs.Prelude.{◌≡◌, ◌≤◌, ◌+◌, ℕ, List, Option, [], ◌∷◌, ◌++◌, if◌then◌else◌, length, true, false, IfOk, OnOk};
 ghost use Rattle.base_io.specs.Counts.{Rose};
 ghost use Rattle.net_owner.specs.Events.{Connect, Event, Gave, Gone, event, shown};

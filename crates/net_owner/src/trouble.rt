@@ -1,4 +1,8 @@
 //! What went wrong outside while connections were served.
+//!
+//! The owner keeps what went wrong first (`Trouble`); its causes are told by the counts at entry and now. What it
+//! keeps whatever failed (`IsHeld`) is enough to drain the queue and to give links back after want of memory. A
+//! reader's place is marked before want of memory is answered: else a drain would wait for an item that was taken.
 ghost use Rattle.std.specs.Prelude.{◌≡◌};
 ghost use Rattle.net_owner.specs.Troubles.{first_of};
 

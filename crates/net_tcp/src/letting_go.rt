@@ -1,4 +1,7 @@
 //! Streams of the system that are let go.
+//!
+//! The halves let their streams go by a trait of their own (`LetGo`): with `Drop` on the halves' impls the proof of
+//! `main` meets a bug of the prover.
 ghost use Rattle.std.specs.Prelude.{◌≡◌, None};
 
 use std::net::TcpStream;

@@ -1,4 +1,6 @@
 //! Doors that hand out links in halves.
+//!
+//! Doors that hand out halves are types of their own: a door moves into a thread, so it can't borrow the network.
 ghost use Rattle.std.specs.Prelude.{◌≡◌, [], ◌∷◌, ◌++◌, false, IfOk, is_ok};
 ghost use Rattle.base_io.specs.Counts.{HasCause};
 ghost use Rattle.net_traits.specs.Links.{counted_if};

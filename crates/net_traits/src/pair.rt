@@ -1,4 +1,7 @@
 //! The two halves of one link.
+//!
+//! `accept_halves` answers a `Pair`, whose ghost field says that both halves are unused and of one number: so the
+//! fact crosses the queue.
 ghost use Rattle.std.specs.Prelude.{◌≡◌};
 ghost use Rattle.net_traits.specs.Halves.{IsUnusedPair};
 

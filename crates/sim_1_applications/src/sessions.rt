@@ -1,4 +1,7 @@
 //! Laws of the two applications.
+//!
+//! A page that was taken over is known by what the archive had given when it was answered (`Tile.given`): its place,
+//! numbers and TOTAL are computed from that (`IsTile`), as in the direct run, so that the lemmas on turns serve both.
 ghost use Rattle.std.specs.Prelude.{◌≡◌, ℕ, ◌≤◌, List, Some, drop, length, slice_get};
 ghost use Rattle.sim_1_applications.specs.Devices.{AppWorld, Device, epoch_of, first_of, last_of};
 ghost use Rattle.sim_1_applications.specs.Events.{AppEvent, Moves, Reached, Reaches, beginning};

@@ -1,4 +1,8 @@
 //! The moves of the links as acts of the two applications.
+//!
+//! Sessions as lists stand apart from links, so that no proof of a law looks into a pipe and no proof of a pipe into
+//! a stanza. They meet in twelve events, in a crate of their own. Every event touches only the present session of a
+//! device; numbers of sessions don't occur. What was put is what was handled and a rest, by form.
 ghost use Rattle.std.specs.Prelude.{◌≡◌, ℕ, true, false, [], ◌∷◌, List, Option, length, take, nat_lt};
 ghost use Rattle.sim_2_links.specs.Views.{View};
 ghost use Rattle.sim_2_links.specs.Events.{Follows, IsSeenAs, LinkEvent, Seen, seen};

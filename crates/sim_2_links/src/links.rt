@@ -1,4 +1,15 @@
 //! What holds wherever the moves of one device and its server lead.
+//!
+//! The links of one device are a machine of small moves, more permissive than either core: the server may end a
+//! session or put a stanza at any time, the network may cut anywhere. So each move has one lemma, where two cores
+//! beside each other would have one for each pair of rows.
+//!
+//! What a cut loses stays as words beside the pipe that no one reads. A cut then changes no *whole* pipe, and the
+//! table of the handshake needs no row for connections that were cut, left or shut. A connection whose end the client
+//! was told counts as left.
+//!
+//! A session's two directions, its epoch and what both ends know of it are kept for each number ever bound; nothing
+//! in either core keeps them.
 ghost use Rattle.std.specs.Prelude.{Bool, ◌≡◌, ℕ, ◌+◌, ◌≤◌, [], ◌∷◌, List, None, Some, Option, length, true, false};
 ghost use Rattle.sm_acks.specs.Delivery.{IsPrefix, Reached};
 ghost use Rattle.sim_2_links.specs.Words.{Ack, Down, InOnline, down_stanzas, DownWord, ResumeAt, Resumed, Up, up_stanzas, UpWord};

@@ -1,4 +1,8 @@
 //! The laws.
+//!
+//! Premises over families: `CoresKeep` is of predicates; a clause can't quantify over these, so the laws take the
+//! types that they are the encodings of (`Among`). `TakesAny` is a premise more, which the families of this project
+//! meet.
 ghost use Rattle.std.specs.Prelude.{◌≡◌, ℕ, List, [], Some, false, slice_get};
 ghost use Rattle.std.specs.List.{AllByRecursion};
 ghost use Rattle.sim_3_images.specs.Relayable.{ClientFits, DownFits, ServerFits, UpFits};

@@ -1,4 +1,17 @@
 //! From worlds of bytes to worlds of items.
+//!
+//! A pipe of bytes is an image at its reader. One that is over is an image for any reader or none. Both pipes of a
+//! connection end together.
+//!
+//! The header that is read is `as_written`: a framer gives the stream's namespace and name whatever the writer's
+//! record says.
+//!
+//! `Tick 0` stands before items that go up: the server looks at the clock once for each piece, in a world of items at
+//! a tick. A world that runs has looked at the clock (`now` of `WorldSimulates`): else the moment of a take and the
+//! stamp of its entry could differ.
+//!
+//! Items behind a shut: the server runs on over the rest of a piece and does nothing; in the world of items the pipe
+//! was emptied. The order of what is put joins the two (`AreInOrder`).
 ghost use Rattle.std.specs.Prelude.{◌≡◌, ◌<◌, ◌+◌, ◌^◌, ℕ, List, [], ◌∷◌, Option, Some, false, true, slice_get};
 ghost use Rattle.std.specs.List.{AllByRecursion};
 ghost use Rattle.cl_handlers.specs.Clients.{ClientView};

@@ -1,4 +1,7 @@
 //! The law.
+//!
+//! `ServerStateStands` counts connections: one that comes has a number above those that the server knows of, and each
+//! has one session at most.
 ghost use Rattle.cmd_schedule.specs.Schedules.{WireView};
 ghost use Rattle.cmd_world.specs.Histories.{world_at_start};
 ghost use Rattle.cmd_world.specs.Moves.{Move, moved};

@@ -1,4 +1,8 @@
 //! What is said is read as what it means: to the server, and to the client.
+//!
+//! A pipe carries items of the framer's machine (`Items.antt`, `law_xml`), not spellings of the grammar: so the laws
+//! of pipes need neither the grammar nor the writer nor limits, and a declaration and the header behind it are one
+//! item.
 ghost use Rattle.std.specs.Prelude.{◌≡◌, ℕ, ◌^◌, ◌<◌, Bool, true, List, Option, Some};
 ghost use Rattle.mam_archive.specs.Entries.{EntryView};
 ghost use Rattle.im_forwarding.specs.Copies.{CopyView, copy_item};

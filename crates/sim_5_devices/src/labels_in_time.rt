@@ -1,4 +1,6 @@
 //! The labels of the two applications are in time.
+//!
+//! Promptness is said of the client's moves; whether a stanza is put in time of the applications' lists.
 ghost use Rattle.std.specs.Prelude.{◌≡◌, ◌≢◌, ◌≤◌, ◌+◌, ℕ, true, false, [], ◌∷◌, List, None, Ok, Some, drop, length, map, slice_get, take};
 ghost use Rattle.cl_core.specs.UserCalls.{say_answer};
 ghost use Rattle.sim_5_devices.specs.Pages.{EndsFor, IsPaged};

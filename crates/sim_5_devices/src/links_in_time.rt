@@ -1,4 +1,9 @@
 //! The links stay prompt and in time, and what this says of a client's queue and of a device that is settled.
+//!
+//! The client's queue is bounded by two counts, of requests for pages and of their ends (`Paging.antt`).
+//!
+//! Resumptions ask that in no session 2^32 stanzas were put (`AreCountable`), and that a client's queue is no longer
+//! than may wait (`few` in `IsOwn`): counts are told modulo 2^32.
 ghost use Rattle.std.specs.Prelude.{◌≡◌, ◌≤◌, ℕ, true, [], IfSome, List, Some, length};
 ghost use Rattle.sim_3_items.specs.Clients.{ClientRepresents};
 ghost use Rattle.sim_3_items.specs.Labels.{ArePrompt, awaits, labels_of};

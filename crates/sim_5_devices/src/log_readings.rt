@@ -1,4 +1,8 @@
 //! Calls on a log beside the steps of a reading.
+//!
+//! A log is compared with a reading on stanzas that are built, so a history is asked to be plain. A client whose
+//! session is full leaves where it should ask for the next page; the applications have no such event (`HasRoomFor`,
+//! `full_clients_leave`).
 ghost use Rattle.std.specs.Prelude.{◌≡◌, ℕ, ◌+◌, ◌<◌, ◌^◌, ◌==◌, ◌&&◌, ◌||◌, min, not, true, Bool, List, [], ◌∷◌, ◌++◌, None, Ok, Option, Some};
 ghost use Rattle.std.specs.Option.{option_map_or};
 ghost use Rattle.mam_archive.specs.Entries.{EntryView};

@@ -1,4 +1,7 @@
 //! What a client's submissions and its log become by calls, counts and sessions.
+//!
+//! A client's submissions are shown by their lines and by which stanzas wait, not by the stanzas in its queue: that
+//! the queue has these is said of the links.
 ghost use Rattle.std.specs.Prelude.{◌≡◌, ℕ, List, [], ◌∷◌, ◌++◌, Bool, true, false, None, Option, Some};
 ghost use Rattle.mam_archive.specs.Entries.{EntryView};
 ghost use Rattle.cl_core.specs.UserCalls.{catches_up, closes, dials, forgets, says};

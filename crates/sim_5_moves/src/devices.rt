@@ -1,4 +1,7 @@
 //! What of a device goes on beside a world of items.
+//!
+//! Who hears of a message is said by names of accounts and places of devices in place of numbers of sessions
+//! (`hears_in`), since a device has one session at most.
 ghost use Rattle.std.specs.Prelude.{◌≡◌, ◌++◌, ℕ, All, List, Some, slice_get};
 ghost use Rattle.mam_archive.specs.Entries.{EntryView};
 ghost use Rattle.sim_5_devices.specs.Pages.{IsPaged};

@@ -1,4 +1,10 @@
 //! A stanza goes up to the server.
+//!
+//! What a row gives a device is told by the small steps of the row (`sends_to`), not by what came out. A client that
+//! leaves is a cut behind all that goes up.
+//!
+//! A server is said to be that of the applications by its archives and by whose its sessions are (`ServerSimulates`).
+//! No session has come where flags show the same sessions (`none` of `AreFlagsKept`).
 ghost use Rattle.std.specs.Prelude.{◌≡◌, ℕ, ◌≤◌, ◌∷◌, List, Some, slice_get};
 ghost use Rattle.sim_5_moves.specs.Ground.{IsGround};
 ghost use Rattle.sim_3_images.specs.Devices.{identity_at};

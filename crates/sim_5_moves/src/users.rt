@@ -1,4 +1,7 @@
 //! The calls of a device's user.
+//!
+//! A premise on what a user says is of texts of the grammar (`says_so`): other bytes that `say_answer` takes may be
+//! no UTF-8.
 ghost use Rattle.std.specs.Prelude.{ℕ};
 ghost use Rattle.sim_3_items.specs.ItemMoves.{Close, Forget};
 ghost use Rattle.sim_3_items.specs.ItemWorlds.{ItemWorld};

@@ -1,4 +1,7 @@
 //! Words, and flags.
+//!
+//! Words are told as items, and not items as words: items tell counts modulo 2^32 and sessions by their `previd`, so
+//! the item of a word is a function.
 ghost use Rattle.std.specs.Prelude.{◌≡◌, ◌≢◌, ℕ, true, false, [], List};
 ghost use Rattle.srv_state.specs.State.{ServerState};
 ghost use Rattle.sim_3_items.specs.Labels.{Label};

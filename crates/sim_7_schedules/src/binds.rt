@@ -1,4 +1,7 @@
 //! The laws.
+//!
+//! `HasBound` doesn't tell of a bind that comes before the session before it was enabled: of such a bind
+//! `nothing_older_is_taken_after_a_handled_bind` speaks, of the run of the applications beside the history.
 ghost use Rattle.std.specs.Prelude.{◌≡◌, ℕ, ◌<◌, ◌≤◌, List, ◌∷◌, ◌++◌, Some, drop, length, slice_get};
 ghost use Rattle.std.specs.List.{flat_map};
 ghost use Rattle.cmd_network.specs.Devices.{DeviceState};

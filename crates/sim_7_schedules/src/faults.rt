@@ -1,4 +1,8 @@
 //! The laws.
+//!
+//! `counts_are_too_high_only_where_the_client_left` says a little less than holds: also on a connection whose end the
+//! client was told the count is what it handled. `counts_are_too_high_only_after_a_newer_connection` says when it is
+//! too high.
 ghost use Rattle.std.specs.Prelude.{◌≡◌, ℕ, Some, slice_get};
 ghost use Rattle.cmd_schedule.specs.Contents.{Owned};
 ghost use Rattle.cmd_schedule.specs.Schedules.{WireView};

@@ -1,4 +1,7 @@
 //! The law.
+//!
+//! A late `bind` or `resume` is said of all that comes on a connection without a session. That a bind was handled is
+//! told by the sessions that the server has (`HasBound`).
 ghost use Rattle.std.specs.Prelude.{◌≡◌, ℕ, Some, slice_get};
 ghost use Rattle.cmd_schedule.specs.Contents.{Owned};
 ghost use Rattle.cmd_schedule.specs.Schedules.{WireView};

@@ -1,4 +1,7 @@
 //! The law.
+//!
+//! A run of a schedule is what each line led to (`LineRun`): moves, each a list of events, and a refusal or none.
+//! Archives give at most 4,294,967,295 numbers in a run of which the laws speak (`few`).
 ghost use Rattle.cmd_schedule.specs.Schedules.{WireView};
 ghost use Rattle.cmd_schedule.specs.WireGrammar.{IsWireSchedule};
 ghost use Rattle.sim_7_schedules.specs.Simulation.{EachMoveSimulates, ScheduleSimulates};

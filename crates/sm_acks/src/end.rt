@@ -1,4 +1,8 @@
 //! One end of a session: its counters, and its stanzas that wait to be acknowledged (XEP-0198, section 4).
+//!
+//! `ack_end` lends the end of a session for reading; `ack`, `put_reserved` and `count_handled` are calls of the
+//! table, so that no borrower can change which queue is a session's. An acknowledgement finds its queue once
+//! (`drop_front`).
 ghost use Rattle.std.specs.Prelude.{◌≡◌, ◌≢◌, ℕ, ◌+◌, ◌-◌, ◌<◌, ◌≤◌, ◌%◌, ◌^◌, ◌↔◌, List, [], ◌∷◌, ◌++◌, drop, length, ◌⊎◌, IfNone, IfOk, IfErr, IfSome, IsErr, OnOk, OnErr, IsTrue};
 ghost use Rattle.sm_acks.specs.Queues.{Lives, list_of, stanzas_of};
 ghost use Rattle.sm_acks.specs.Counters.{ahead};

@@ -1,4 +1,8 @@
 //! The queues of stanzas, by their numbers.
+//!
+//! A pool is seen as the queues that live, and contracts speak of the list under a queue's number. A queue is a chain
+//! of nodes in one arena (`Slab`), and its ends are found by its number in a hash map: numbers only rise, so a slab
+//! of ends would need a generation beside each.
 ghost use Rattle.std.specs.HashMap as hash;
 ghost use Rattle.std.specs.Prelude.{◌≡◌, ◌≢◌, ℕ, ◌+◌, ◌<◌, ◌≤◌, ◌^◌, ◌↔◌, [], ◌∷◌, ◌++◌, drop, length, nat_eq, slice_get, IfOk, IfSome, IfNone, IsNone, IsSome, None, OnOk, OnErr, OnSome, Some, IsTrue};
 ghost use Rattle.std.specs.List.{concat};

@@ -1,4 +1,13 @@
 //! What sessions are found by, other than their numbers.
+//!
+//! The index of connections and parked sessions may be given up where room runs out; look-ups then go through all
+//! sessions, with the same answers, until the next `reserve`. So no answer depends on memory.
+//!
+//! Sessions are indexed by account, each account's numbers in a list, and a name is looked for among them: so a peer
+//! can lengthen a look-up only by binding many sessions of its own account.
+//!
+//! Room for a session is made for an account (`reserve(account)`). An account's list keeps its room where its
+//! sessions end.
 ghost use Rattle.std.specs.HashMap as hash;
 ghost use Rattle.std.specs.List.Sorted.{IsNonDecreasingBy};
 ghost use Rattle.std.specs.Prelude.{◌≡◌, ◌≢◌, ℕ, ◌+◌, ◌-◌, ◌<◌, ◌≤◌, ◌==◌, [], ◌∷◌, ◌++◌, List, filter, not, Some, None, IfNone, IfSome, IsSome, MatchOption, OnOk, false, length, nat_eq, slice_index_or, true};

@@ -1,4 +1,6 @@
 //! Sessions that are resumed (XEP-0198, section 5).
+//!
+//! `resume` doesn't call `would_resume`: it looks for the session once.
 ghost use Rattle.std.specs.Prelude.{◌≡◌, ◌≢◌, ℕ, ◌%◌, ◌<◌, ◌≤◌, ◌^◌, ◌↔◌, ◌⊎◌, length, Ok, None, Some, IsErr, IsSome, IfSome, IfNone, List, true};
 ghost use Rattle.std.specs.Option.{option_map};
 ghost use Rattle.sm_resumption.specs.Housed.{IsFree, IsHoused};

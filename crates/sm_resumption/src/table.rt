@@ -1,4 +1,10 @@
 //! The table of sessions: look-ups, changes of one session, and its stanzas that wait (XEP-0198, section 4).
+//!
+//! `next_after` stands instead of a slice of all numbers, which would cost a shift at each end of a session. The list
+//! keeps the numbers of ended sessions until they are half of it.
+//!
+//! Who was parked first is looked at first when sessions expire. The entry of a session that was resumed or ended
+//! stays until its turn comes, and is known by the session itself.
 ghost use Rattle.std.specs.Prelude.{◌≡◌, ℕ, ◌+◌, ◌-◌, ◌%◌, ◌<◌, ◌≤◌, ◌^◌, ◌↔◌, ◌⊎◌, List, [], ◌∷◌, ◌++◌, map, None, Ok, Some, IsErr, false, IsSome, OnOk, OnErr, IsTrue, MatchOption, IfSome, filter, is_some, length, nat_eq, nat_lt, slice_index_or, vec_len, vec_capacity};
 ghost use Rattle.std.specs.Option.{option_copied, option_map};
 ghost use Rattle.sm_resumption.specs.Moves.{HandsOver, HasExpired, Joins, PoolAcknowledged, ack_answer, acknowledged, asking, attached, copying, fresh_row, handling, is_expired, number_of, parked, present};

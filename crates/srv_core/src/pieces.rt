@@ -1,4 +1,6 @@
 //! The bytes of a connection: a framer makes items of them, which are handled in order (RFC 6120, section 4).
+//!
+//! What is known of a stream's bytes stands beside the state (`Whole`), so that rows know items alone.
 ghost use Rattle.std.specs.Prelude.{◌≡◌, [], None, drop, IfSome, IsOk, IsSome, OnErr, OnOk};
 ghost use Rattle.xml_framer.specs.Machine.{run};
 ghost use Rattle.xml_framer.specs.States.{Turn, turn};

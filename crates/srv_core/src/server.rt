@@ -1,4 +1,7 @@
 //! The server.
+//!
+//! `connect` asks that no open connection has the number, and not that it is above all earlier ones. A refused
+//! `connect` moves no moment. The moment has no bound: stamps end at the last one.
 ghost use Rattle.std.specs.Prelude.{◌≡◌, ◌≢◌, ◌<◌, ◌≤◌, ◌^◌, None, Some, length, IfErr, IfOk, IsOk, OnErr, OnOk};
 ghost use Rattle.std.specs.Map.{remove_entry};
 ghost use Rattle.std.specs.Option.{option_copied, option_map};

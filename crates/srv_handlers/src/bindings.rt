@@ -1,4 +1,7 @@
 //! The binding of a resource (RFC 6120, section 7).
+//!
+//! Where the numbers of sessions or queues are used up, a binding answers `NoMemory`; so do a message to more than
+//! 4,294,967,295 sessions and an accounts file with as many accounts.
 ghost use Rattle.std.specs.Prelude.{◌≡◌, [], ◌∷◌, None, Some, IfOk, OnErr, OnOk};
 ghost use Rattle.std.specs.Result.{result_ok};
 ghost use Rattle.base_lemmas.specs.Hexadecimal.{hex16_of};

@@ -1,4 +1,7 @@
 //! The row on a message of a session (RFC 6121, section 8; XEP-0313, section 5; XEP-0280; XEP-0359).
+//!
+//! The code appends to archives before it counts the stanza, and the row has the count first. Both are steps that
+//! can't fail and touch different things: that is proved, and the clause has the row's order.
 ghost use Rattle.std.specs.Prelude.{◌≡◌, [], false, nat_eq, true, IfOk, OnErr, OnOk, Some};
 ghost use Rattle.base_lemmas.specs.Distinct.{are_distinct_by};
 ghost use Rattle.srv_state.specs.Handling.{counting};

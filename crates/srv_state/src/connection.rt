@@ -1,4 +1,6 @@
 //! Connections, and where each stands (RFC 6120, sections 4 to 7).
+//!
+//! A connection that is bound has no phase of its own: it has logged in, and a session is on it.
 use srv_login::Negotiation;
 
 /// What the server awaits of a connection that is open. In `Ready` it is bound where a session is on it.

@@ -1,4 +1,7 @@
 //! What the server holds, and the small changes of it.
+//!
+//! Each row of the table is a list of small steps (`Act` in `srv_state`), made of the state before the first one. So
+//! a law over all rows is an induction over the steps.
 ghost use Rattle.std.specs.Prelude.{◌≡◌, ◌+◌, ◌≤◌, Some, OnErr, OnOk};
 ghost use Rattle.im_replies.specs.Streams.{footer_text};
 ghost use Rattle.srv_state.specs.Moments.{at_moment, gone_at, with_fresh};

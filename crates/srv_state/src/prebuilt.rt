@@ -1,4 +1,7 @@
 //! Words that are made ahead, since few of the stanzas that might need them do.
+//!
+//! What goes out to many is made before anything changes: all stanzas, the room of queues, outputs and archives. An
+//! `r` or the end of a session for which too many wait is made ahead and kept (`Prebuilt`).
 ghost use Rattle.std.specs.Prelude.{◌≡◌, ◌+◌, ◌≤◌, IfOk, OnOk, length};
 ghost use Rattle.im_replies.specs.Management.{request_text};
 ghost use Rattle.im_replies.specs.Streams.{error_text, footer_text};

@@ -1,4 +1,8 @@
 //! Elements are read before a row looks at them.
+//!
+//! An element is read before a row looks at it (`word_of`), and once. A plan is an enum, `Bounced` or `Routed`; the
+//! sender is what `Live` tells of it, so `plan` has no condition. A route names sessions by their numbers, its
+//! definition by themselves.
 ghost use Rattle.std.specs.Prelude.{◌≡◌, IfOk};
 ghost use Rattle.srv_state.specs.Words;
 ghost use Rattle.srv_state.specs.Words.{management_word, other_word, sasl_word, word_of};

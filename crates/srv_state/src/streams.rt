@@ -1,4 +1,6 @@
 //! How a stream begins and ends (RFC 6120, sections 4.3 to 4.9).
+//!
+//! An idle connection has no queue. One is made ahead of a binding.
 ghost use Rattle.std.specs.Prelude.{◌≡◌, true, OnErr, OnOk};
 ghost use Rattle.srv_state.specs.Seen.{server_state_of, step_of};
 ghost use Rattle.srv_state.specs.Steps.{acted};

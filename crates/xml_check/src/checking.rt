@@ -2,6 +2,10 @@
 //!
 //! The bytes go to a framer 512 at a time, and its items are written at once, so that only those of one piece are
 //! held. After the last piece `part` tells what is unfinished.
+//!
+//! `check` writes without measuring first (`write_growing`), to one text that grows; calls whose bytes are kept
+//! measure, so that they hold no more than they need. It feeds 512 bytes at a time and drops the items before the
+//! next, so that memory is taken again while it is near.
 ghost use Rattle.std.specs.Prelude.{◌≡◌, ℕ, List, false, None, IfOk, OnOk};
 ghost use Rattle.xml_check.specs.Checked.{Told, told, told_after, told_items, told_last, wrong_with};
 ghost use Rattle.xml_check.specs.Lines;

@@ -2,6 +2,12 @@
 //!
 //! A framer keeps the token in hand, the text after the last tag, and the open elements, the innermost beside the
 //! stack. Each private method has one equation as its contract: the machine's own definition for it.
+//!
+//! A framer's definitions are a machine. What decides a fault or an item is stated on whole tokens; only the
+//! characters of texts go one by one. What the bytes so far say is four functions (`Readings.antt`): the items, the
+//! fault, the offset of what is unfinished, and what a piece adds. Users cite these and not the machine.
+//!
+//! Want of memory spends a framer. A spent one stands for no bytes.
 ghost use Rattle.std.specs.Prelude.{◌≡◌, ◌≤◌, [], Some, None, OnOk};
 ghost use Rattle.std.specs.Option.{is_some};
 ghost use Rattle.xml_framer.specs.Machine.{passed};

@@ -1,4 +1,8 @@
 //! Laws of the machine that a framer is, which its users need.
+//!
+//! A stream is a relation that grows at its end (`StreamTo`). The grammar's laws hold for each list of bytes, and
+//! those on the machine within the limits. A count of bytes stops at 2^64 - 1, so that the law that what is read is
+//! within the limits has the range of `Limits.bytes` as a premise.
 ghost use Rattle.std.specs.Prelude.{◌≡◌, ℕ, List, ◌++◌, [], None, Some};
 ghost use Rattle.xml_framer.specs.Machine.{run};
 ghost use Rattle.xml_framer.specs.Readings.{fault_of, items_after, items_of, part_at};

@@ -2,6 +2,18 @@
 //!
 //! Plain bytes of a text or a tag are taken at once: a scan by slice, one copy, and offsets that advance by its
 //! length. That is the run of those bytes.
+//!
+//! Plain bytes are taken many at a time. In a text those that say themselves whatever stands before them, in a tag
+//! those of ASCII that don't end it, inside an element from its `<` on; all others go byte by byte. So the machine
+//! stays the one definition, and the run of many bytes is a lemma. The byte EF goes by itself, since with it begin
+//! U+FFFE and U+FFFF; so do bytes past ASCII in tags and all bytes of a CDATA section.
+//!
+//! Up to 128 bytes are looked at together. Where one of them isn't plain, the same bytes are gone through one by one.
+//!
+//! A loop that looks at each of many bytes joins numbers: a byte tells 0 or 1, joined by `|`. Truth values joined by
+//! `&` are not made vector code. Such loops get a multiple of eight bytes. The two scans that are vector code are
+//! kept out of line (`inline(never)`), since within the framer's loop their constants would be loaded anew for each
+//! byte.
 ghost use Rattle.std.specs.Prelude.{◌≡◌, ◌≤◌, ◌<◌, ◌++◌, ◌&&◌, ◌==◌, not, nat_lt, true, Some, None, take, length, IfOk, IfSome, OnOk, if◌then◌else◌};
 ghost use Rattle.std.specs.List.{list_all, prefix_len};
 ghost use Rattle.std.specs.Option.{is_some};

@@ -1,4 +1,7 @@
 //! The parts of a framer's state.
+//!
+//! The machine's state has flags side by side (`Lexical`), though not each combination can be: its laws speak of
+//! these fields. New states are enums whose variants hold their data.
 /// Places in the stream, each the smaller of an offset and 2^64 - 1, and a count.
 #[derive(Clone, Copy)]
 pub(crate) struct Positions {

@@ -1,4 +1,8 @@
 //! A byte of a text, a CDATA section or a reference.
+//!
+//! A text of up to 512 bytes is copied out of the room that it was read into, and that room stays for the next one;
+//! that of a longer one goes with it. A framer gives room back past 4,096 bytes at the end of a token, and all of it
+//! by `slim`, which a server calls behind each piece. No clause says so.
 ghost use Rattle.std.specs.Prelude.{◌≡◌, ◌++◌, string_bytes, OnOk, OnErr};
 ghost use Rattle.xml_framer.specs.TextSteps;
 ghost use Rattle.xml_framer.specs.TextSteps.{between, bracket_taken, character_begun, character_taken, in_reference, in_section, in_text, inside, judged_outside, judged_section, judged_text, kept_back, markup_begun, other_taken, refers, section_taken, text_inside, text_outside};

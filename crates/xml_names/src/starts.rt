@@ -1,4 +1,9 @@
 //! Start tags with their names expanded.
+//!
+//! Names are borrowed from a tag's bytes until they go into the tree, and an end tag's name is compared where it
+//! stands. The names of up to eight attributes are compared in pairs, those of more are sorted. A prefix is looked up
+//! in an ordered index, so that no choice of prefixes makes it slow; past 16 declarations in one tag through an
+//! ordered map.
 ghost use Rattle.std.specs.Prelude.{◌≡◌, [], ◌++◌, Ok, Err, Some, true, map, unwrap_or, IfOk, IfErr};
 ghost use Rattle.std.specs.List.{list_any};
 ghost use Rattle.std.specs.Option.{option_map, is_some};

@@ -1,4 +1,9 @@
 //! The pieces of elements, one behind the other.
+//!
+//! Open elements stand in pieces, and no tree is made before the outermost one is whole (`xml_open`). A tag, a text
+//! and an end tag are a few pieces of 40 bytes in one row, where a node of a tree has 120: so what an unfinished
+//! element holds is bounded. The row grows by a half, past 1,024 pieces by an eighth. What pieces say is a fold whose
+//! steps are those of the machine, and the tree is made by the same steps.
 ghost use Rattle.std.specs.Prelude.{◌≡◌, ◌+◌, ◌-◌, ◌≤◌, [], IfOk, OnErr, OnOk, Some};
 ghost use Rattle.std.specs.VecDeque.{deque_capacity, deque_len};
 ghost use Rattle.xml_open.specs.Building.{reading_of};

@@ -1,4 +1,8 @@
 //! References (XML 1.0, sections 4.1 and 4.6).
+//!
+//! What a reference stands for, which tags are restricted, whether a name is qualified and which bytes are white
+//! space are said inside the grammar by the reader's own functions: a relation would list the same cases again. For
+//! them the worked values and the vectors speak.
 ghost use Rattle.std.specs.Prelude.{◌≡◌, ◌<◌, [], min};
 ghost use Rattle.std.specs.List.{list_all};
 ghost use Rattle.xml_tokens.specs.Characters;

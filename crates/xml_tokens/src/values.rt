@@ -1,4 +1,7 @@
 //! Attribute values (XML 1.0, sections 2.11, 3.1 and 3.3.3).
+//!
+//! What a value says is a relation too (`SpellsValue`), so that a reader that is wrong in the same way as its
+//! definition is refused.
 ghost use Rattle.std.specs.Prelude.{◌≡◌, ◌<◌, ◌≤◌, ◌==◌, ◌++◌, [], ◌∷◌, true, false, Some, None, Ok, Err, length, encode_utf8, IfOk, IfErr, IfSome, IfNone, OnOk};
 ghost use Rattle.std.specs.List.{list_all, list_any};
 ghost use Rattle.std.specs.Option.{option_map};

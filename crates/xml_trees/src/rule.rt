@@ -1,3 +1,7 @@
+//! The rule that each whole stanza keeps.
+//!
+//! Each whole stanza is walked once more by `keeps_rule`: an invariant on open elements would put that into the
+//! parser's state.
 ghost use Rattle.std.specs.Prelude.{◌≡◌, ◌↔◌, IsTrue};
 ghost use Rattle.xml_trees.specs.Trees.{AreTidy, AreTidyAfter, IsTree, Nodes, is_text_first, joined};
 ghost use Rattle.xml_trees.specs.Views.{elem_view, node_view, nodes_view};

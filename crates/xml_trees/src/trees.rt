@@ -1,3 +1,13 @@
+//! Trees: elements that own all that they hold.
+//!
+//! A `Tree` is seen as a tree of the definitions, a declared `Element` through a fold, since the declared type has
+//! the room of its lists in it. `Copied` cannot be said of `Element` and `Node` for the same reason: they have `copy`
+//! through their views.
+//!
+//! Going through a tree calls itself once a level, its drop included, so the stack grows with the depth. A framer's
+//! depth is at most 1,000 (`MOST_DEPTH`): a thread's stack of 2 megabytes was enough for 3,500.
+//!
+//! `Tree::of` drops the element on want of memory, and takes none where the element keeps the rule already.
 ghost use Rattle.std.specs.Prelude.{◌≡◌, IfOk, IsOk};
 ghost use Rattle.xml_trees.specs.Tidied.{tidied};
 ghost use Rattle.xml_trees.specs.Trees.{IsTree};

@@ -4,6 +4,9 @@
 //! room is reserved, one that writes and so has no refusal (`tag_writing`). Each call is given the default namespace in
 //! force; what it declares holds only inside. A text and a value go by runs: the longest prefix without a byte to
 //! escape, then the escape.
+//!
+//! What an end puts is one type of definitions (`ItemOut` in `xml_writer`: a header, an element or a footer). The
+//! rows of both cores speak of items, and the code's clauses of bytes.
 ghost use Rattle.std.specs.Prelude.{◌≡◌, ◌+◌, ◌-◌, ◌<◌, ◌≤◌, ◌^◌, ◌++◌, length, min, OnErr, OnOk};
 ghost use Rattle.xml_writer.specs.Canon;
 ghost use Rattle.xml_writer.specs.Canon.{canon, written, written_footer, written_given, written_header, written_inside, written_nodes};
