@@ -70,8 +70,8 @@ AreRounds {A = A} kind k (suc n) v last = (next : View A) × IsRound kind k v ne
 
 -- ---- how many it takes
 
--- until the client is online, at most: the rows of the handshake (RFC 6120, sections 6 and 7; XEP-0198, sections 3 and 5)
--- that a client waits for, where its session can't be resumed
+-- until the client is online, at most: one for each word of the handshake that it waits for (RFC 6120, sections 6 and 7;
+-- XEP-0198, sections 3 and 5), where its session isn't resumed; where it is, the last two aren't needed
 abbrev pub rounds_to_go : Client → ℕ
 rounds_to_go InHeader1 = 7
 rounds_to_go InFeatures1 = 7
@@ -83,16 +83,3 @@ rounds_to_go (InResume p) = 3
 rounds_to_go InBind = 2
 rounds_to_go InEnable = 1
 rounds_to_go (InOnline p) = 0
-
--- and where it is resumed
-abbrev pub rounds_to_resume : Client → ℕ
-rounds_to_resume InHeader1 = 5
-rounds_to_resume InFeatures1 = 5
-rounds_to_resume InAuth = 4
-rounds_to_resume InResponse = 3
-rounds_to_resume InHeader2 = 2
-rounds_to_resume InFeatures2 = 2
-rounds_to_resume (InResume p) = 1
-rounds_to_resume InBind = 0
-rounds_to_resume InEnable = 0
-rounds_to_resume (InOnline p) = 0

@@ -1,11 +1,11 @@
 //! Rounds on the links of one device.
 ghost use Rattle.std.specs.Prelude.{Bool, ◌≡◌, ℕ, ◌-◌, ◌≤◌, [], Some, true};
-ghost use Rattle.sim_2_links.specs.Words.{Client, InOnline};
+ghost use Rattle.sim_2_links.specs.Words.{InHeader1, InOnline};
 ghost use Rattle.sim_2_links.specs.Wires.{down_words, is_flowing, up_words};
 ghost use Rattle.sim_2_links.specs.Stages.{Conn};
 ghost use Rattle.sim_2_links.specs.Views.{Own, Row, View};
 ghost use Rattle.sim_2_links.specs.Machine.{LinkReached};
-ghost use Rattle.law_calm.specs.Rounds.{AreRounds, IsCalm, IsRound, IsSparing, IsStill, rounds_to_go, rounds_to_resume};
+ghost use Rattle.law_calm.specs.Rounds.{AreRounds, IsCalm, IsRound, IsSparing, IsStill, rounds_to_go};
 
 /// Where the client works on a connection that stays open, each calm round leaves it one round less to go, until it is
 /// online (`falls`): so behind as many rounds as it had to go it is online, seven behind its dialling (`online`). Whatever
@@ -29,6 +29,5 @@ pub fn what_is_under_way_comes_to_its_end<A>()
 /// is online with the same session, and its epoch is the same.
 pub fn a_session_that_stays_is_resumed<A>()
     ensures { (v last : View A) (k n : ℕ) (c d : Conn A) (own : Own A) (row : Row A) → LinkReached v → v.here ≡ Some k → v.conns k ≡ Some c → v.own ≡ Some own → v.row ≡ Some row → row.number ≡ own.number →
-        (c.client ≡ Client.InHeader1) → AreRounds IsSparing k n v last → 5 ≤ n →
-        last.conns k ≡ Some d → is_flowing d.wires ≡ true → (d.client ≡ InOnline own.number) × (last.epoch ≡ v.epoch) }
+        c.client ≡ InHeader1 → AreRounds IsSparing k n v last → 5 ≤ n → last.conns k ≡ Some d → is_flowing d.wires ≡ true → (d.client ≡ InOnline own.number) × (last.epoch ≡ v.epoch) }
 {}
