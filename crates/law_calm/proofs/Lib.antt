@@ -3,3 +3,6 @@ pub mod Changes
 pub mod Calm
 -- rounds
 pub mod Online
+pub mod Counts
+pub mod Quiet
+pub mod Sparing

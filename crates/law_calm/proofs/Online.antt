@@ -1,5 +1,5 @@
 -- Each round leaves one round less to go until the client is online.
-use Rattle.std.proofs.Common.{◌≡◌, ◌⊎◌, ℕ, zero, suc, ◌+◌, ◌-◌, ◌≤◌, Bool, true, false, List, [], ◌∷◌, ◌++◌, refl, sym, ap, ◌∙◌, subst, inl, inr, Some}
+use Rattle.std.proofs.Common.{arith, ◌≡◌, ◌⊎◌, ℕ, zero, suc, ◌+◌, ◌≤◌, ◌<◌, Bool, true, false, List, [], ◌∷◌, ◌++◌, refl, sym, ap, ◌∙◌, subst, inl, inr, Some}
 use Rattle.std.proofs.lemmas.List.{append-nil}
 use Rattle.sim_2_links.proofs.CutLinks.{some_one}
 use Rattle.sim_2_links.proofs.Entries.{is_has}
@@ -26,7 +26,7 @@ kept_going kind P keeps v last goes kept p = kept_along kind P keeps goes.moves 
 -- ---- where nothing is under way
 
 -- only one row of the table has nothing in both pipes
-idle_row : {A : Type 0} (s : Stage A) → up_of s ≡ [] → down_of s ≡ [] → (p : ℕ) × (s ≡ Runs p [] [])
+idle_row : {A : Type 0} (s : Stage A) → up_of s ≡ [] → down_of s ≡ [] → (p : ℕ) × (client_of s ≡ InOnline p)
 idle_row (Runs p [] []) e f = (p, refl)
 idle_row (Runs p (u ∷ ups) downs) e f = absurd (let no_way : ⊥ = cc in no_way)
 idle_row (Runs p [] (d ∷ downs)) e f = absurd (let no_way : ⊥ = cc in no_way)
@@ -38,17 +38,13 @@ idle_row (AsksEnable m) e f = absurd (let no_way : ⊥ = cc in no_way)
 idle_row (Enables m downs) e f = absurd (let no_way : ⊥ = cc in no_way)
 idle_row _ e f = absurd (let no_way : ⊥ = cc in no_way)
 
-pub flowing_up : {A : Type 0} (x : Wires A) → is_flowing x ≡ true → up_whole x ≡ up_words x
-flowing_up (Flow us ds) e = refl
-flowing_up (Stop us ds lu ld) e = absurd (let no_way : ⊥ = cc in no_way)
-
-pub flowing_down : {A : Type 0} (x : Wires A) → is_flowing x ≡ true → down_whole x ≡ down_words x
-flowing_down (Flow us ds) e = refl
-flowing_down (Stop us ds lu ld) e = absurd (let no_way : ⊥ = cc in no_way)
+flowing_whole : {A : Type 0} (x : Wires A) → is_flowing x ≡ true → (up_whole x ≡ up_words x) × (down_whole x ≡ down_words x)
+flowing_whole (Flow us ds) e = (refl, refl)
+flowing_whole (Stop us ds lu ld) e = absurd (let no_way : ⊥ = cc in no_way)
 
 -- the client is online
 pub idle_online : {A : Type 0} (v : View A) (k : ℕ) (c : Conn A) → LinkKept v → v.here ≡ Some k → v.conns k ≡ Some c → is_flowing c.wires ≡ true → up_words c.wires ≡ [] → down_words c.wires ≡ [] → (p : ℕ) × (c.client ≡ InOnline p)
-idle_online {A = A} v k c kept here is flows no_up no_down = (row.0, old.at.client ∙ ap client_of row.1)
+idle_online {A = A} v k c kept here is flows no_up no_down = (row.0, old.at.client ∙ row.1)
   where
     old : ConnKept v k c
     old = kept.conns k c is
@@ -59,10 +55,13 @@ idle_online {A = A} v k c kept here is flows no_up no_down = (row.0, old.at.clie
     stands : (has v.here k ≡ true) × (c.ending ≡ Stands) × (c.gone ≡ false)
     stands = old.piped.flowing flows
 
-    row : (p : ℕ) × (old.stage ≡ Runs p [] [])
+    whole : (up_whole c.wires ≡ up_words c.wires) × (down_whole c.wires ≡ down_words c.wires)
+    whole = flowing_whole c.wires flows
+
+    row : (p : ℕ) × (client_of old.stage ≡ InOnline p)
     row = idle_row old.stage
-        (sym (append-nil (up_of old.stage)) ∙ ap (λ x. up_of old.stage ++ foot_of x) (sym (old.piped.unfooted works)) ∙ sym old.at.up ∙ flowing_up c.wires flows ∙ no_up)
-        (sym (append-nil (down_of old.stage)) ∙ ap (λ x. down_of old.stage ++ tail_of x) (sym stands.1) ∙ sym old.at.down ∙ flowing_down c.wires flows ∙ no_down)
+        (sym (append-nil (up_of old.stage)) ∙ ap (λ x. up_of old.stage ++ foot_of x) (sym (old.piped.unfooted works)) ∙ sym old.at.up ∙ whole.0 ∙ no_up)
+        (sym (append-nil (down_of old.stage)) ∙ ap (λ x. down_of old.stage ++ tail_of x) (sym stands.1) ∙ sym old.at.down ∙ whole.1 ∙ no_down)
 
 -- with nothing to go it is, and the other way
 pub nothing_to_go : (c : Client) → rounds_to_go c ≤ 0 → (p : ℕ) × (c ≡ InOnline p)
@@ -80,21 +79,27 @@ nothing_to_go InEnable e = absurd (omega arith)
 -- ---- a round
 
 -- the client works on the connection, with at most so many rounds to go
-abbrev pub Has : {A : Type 0} → ℕ → ℕ → View A → Type 0
-Has {A = A} k most v = (v.here ≡ Some k) × ((c : Conn A) × (v.conns k ≡ Some c) × (rounds_to_go c.client ≤ most))
+pub record Has {A : Type 0} (k most : ℕ) (v : View A) : Type 0 where
+  pub here : v.here ≡ Some k
+  pub conn : Conn A
+  pub is : v.conns k ≡ Some conn
+  pub low : rounds_to_go conn.client ≤ most
 
 -- with fewer, or with nothing put up since nothing was on its way up
 abbrev pub IsNearer : {A : Type 0} → ℕ → Conn A → Type 0
 IsNearer most c = (rounds_to_go c.client + 1 ≤ most) ⊎ ((rounds_to_go c.client ≤ most) × (up_words c.wires ≡ []))
 
-abbrev pub HasNearer : {A : Type 0} → ℕ → ℕ → View A → Type 0
-HasNearer {A = A} k most v = (v.here ≡ Some k) × ((c : Conn A) × (v.conns k ≡ Some c) × IsNearer most c)
+pub record HasNearer {A : Type 0} (k most : ℕ) (v : View A) : Type 0 where
+  pub here : v.here ≡ Some k
+  pub conn : Conn A
+  pub is : v.conns k ≡ Some conn
+  pub near : IsNearer most conn
 
 pub below : {A : Type 0} (most : ℕ) (c d : Conn A) → GoesOn c d → rounds_to_go c.client ≤ most → rounds_to_go d.client ≤ most
 below most c d goes low =
     elim goes.comes [
       | inl same ↦ let e = same.0 in omega arith
-      | inr more ↦ elim more [ inl nearer ↦ omega arith | inr done ↦ let e = done.1 in omega arith ]
+      | inr more ↦ elim more [ inl near ↦ omega arith | inr done ↦ let e = done.1 in omega arith ]
     ]
 
 pub nearer : {A : Type 0} (most : ℕ) (c d : Conn A) → 1 ≤ most → GoesOn c d → IsNearer most c → IsNearer most d
@@ -105,33 +110,23 @@ nearer most c d some goes is =
     ]
 
 pub has_keeps : {A : Type 0} (k most : ℕ) (move : LinkMove A) (v next : View A) → IsCalm move → LinkMoves move v next → Has k most v → Has k most next
-has_keeps k most move v next calm made (here, c, is, low) =
-    let on = goes_on move v next k c calm made is in
-    (stays_here move v next calm made ∙ here, on.0, on.1, below most c on.0 on.2 low)
+has_keeps k most move v next calm made has =
+    let on = goes_on move v next k has.conn calm made has.is in
+    record { here = stays_here move v next calm made ∙ has.here; conn = on.0; is = on.1; low = below most has.conn on.0 on.2 has.low }
 
 nearer_keeps : {A : Type 0} (k most : ℕ) → 1 ≤ most → (move : LinkMove A) (v next : View A) → IsCalm move → LinkMoves move v next → HasNearer k most v → HasNearer k most next
-nearer_keeps k most some move v next calm made (here, c, is, near) =
-    let on = goes_on move v next k c calm made is in
-    (stays_here move v next calm made ∙ here, on.0, on.1, nearer most c on.0 some on.2 near)
+nearer_keeps k most some move v next calm made has =
+    let on = goes_on move v next k has.conn calm made has.is in
+    record { here = stays_here move v next calm made ∙ has.here; conn = on.0; is = on.1; near = nearer most has.conn on.0 some on.2 has.near }
 
 -- behind a round
 pub record HasRound {A : Type 0} (k most : ℕ) (last : View A) : Type 0 where
   pub kept : LinkKept last
-  pub here : last.here ≡ Some k
-  pub conn : Conn A
-  pub is : last.conns k ≡ Some conn
-  pub low : rounds_to_go conn.client ≤ most
-  pub nearer : is_flowing conn.wires ≡ true → rounds_to_go conn.client ≤ most - 1
+  pub has : Has k most last
+  pub nearer : is_flowing has.conn.wires ≡ true → (less : ℕ) → most ≤ less + 1 → rounds_to_go has.conn.client ≤ less
 
 pub round_brings : {A : Type 0} (kind : LinkMove A → Type 0) → ((move : LinkMove A) → kind move → IsCalm move) → (k most : ℕ) (v last : View A) → IsRound kind k v last → LinkKept v → Has k most v → HasRound k most last
-round_brings {A = A} kind into k zero v last round kept has = record {
-  kept = end.0;
-  here = end.1.0;
-  conn = end.1.1.0;
-  is = end.1.1.1;
-  low = end.1.1.2;
-  nearer = λ flows. end.1.1.2;
-}
+round_brings {A = A} kind into k zero v last round kept has = record { kept = end.0; has = end.1; nearer = λ flows less low. let e = end.1.low in omega arith }
   where
     keeps : (move : LinkMove A) (x next : View A) → kind move → LinkMoves move x next → LinkKept x → Has k 0 x → Has k 0 next
     keeps move x next is made old it = has_keeps k 0 move x next (into move is) made it
@@ -143,11 +138,8 @@ round_brings {A = A} kind into k zero v last round kept has = record {
     end = kept_going kind (Has k 0) keeps round.taken last round.down mid.0 mid.1
 round_brings {A = A} kind into k (suc less) v last round kept has = record {
   kept = end.0;
-  here = end.1.0;
-  conn = end.1.1.0;
-  is = end.1.1.1;
-  low = elim end.1.1.2 [ inl near ↦ omega arith | inr still ↦ still.0 ];
-  nearer = λ flows. elim end.1.1.2 [ inl near ↦ omega arith | inr still ↦ online flows still.1 ];
+  has = record { here = end.1.here; conn = end.1.conn; is = end.1.is; low = elim end.1.near [ inl less_now ↦ omega arith | inr still ↦ still.0 ] };
+  nearer = λ flows fewer low. elim end.1.near [ inl less_now ↦ omega arith | inr still ↦ online flows still.1 fewer ];
 }
   where
     keeps : (move : LinkMove A) (x next : View A) → kind move → LinkMoves move x next → LinkKept x → Has k (suc less) x → Has k (suc less) next
@@ -164,21 +156,85 @@ round_brings {A = A} kind into k (suc less) v last round kept has = record {
 
     near : HasNearer k (suc less) round.taken
     near =
-        let one : round.up_empty.0 ≡ mid.1.1.0 = some_one (round.taken.conns k) round.up_empty.0 mid.1.1.0 round.up_empty.1 mid.1.1.1 in
-        (mid.1.0, mid.1.1.0, mid.1.1.1, inr (mid.1.1.2, subst (λ (x : Conn A). up_words x.wires ≡ []) one round.up_empty.2))
+        let one : round.up_empty.0 ≡ mid.1.conn = some_one (round.taken.conns k) round.up_empty.0 mid.1.conn round.up_empty.1 mid.1.is in
+        record { here = mid.1.here; conn = mid.1.conn; is = mid.1.is; near = inr (mid.1.low, subst (λ (x : Conn A). up_words x.wires ≡ []) one round.up_empty.2) }
 
     end : LinkKept last × HasNearer k (suc less) last
     end = kept_going kind (HasNearer k (suc less)) nears round.taken last round.down mid.0 near
 
-    online : is_flowing end.1.1.0.wires ≡ true → up_words end.1.1.0.wires ≡ [] → rounds_to_go end.1.1.0.client ≤ suc less - 1
-    online flows no_up =
-        let one : round.down_empty.0 ≡ end.1.1.0 = some_one (last.conns k) round.down_empty.0 end.1.1.0 round.down_empty.1 end.1.1.1 in
-        let it = idle_online last k end.1.1.0 end.0 end.1.0 end.1.1.1 flows no_up (subst (λ (x : Conn A). down_words x.wires ≡ []) one round.down_empty.2) in
-        let e : rounds_to_go end.1.1.0.client ≡ 0 = ap rounds_to_go it.1 in
+    online : is_flowing end.1.conn.wires ≡ true → up_words end.1.conn.wires ≡ [] → (fewer : ℕ) → rounds_to_go end.1.conn.client ≤ fewer
+    online flows no_up fewer =
+        let one : round.down_empty.0 ≡ end.1.conn = some_one (last.conns k) round.down_empty.0 end.1.conn round.down_empty.1 end.1.is in
+        let it = idle_online last k end.1.conn end.0 end.1.here end.1.is flows no_up (subst (λ (x : Conn A). down_words x.wires ≡ []) one round.down_empty.2) in
+        let e : rounds_to_go end.1.conn.client ≡ 0 = ap rounds_to_go it.1 in
         omega arith
 
-pub falls : {A : Type 0} (v next : View A) (k : ℕ) (c d : Conn A) → LinkReached v → v.here ≡ Some k → v.conns k ≡ Some c → IsRound IsCalm k v next → next.conns k ≡ Some d → is_flowing d.wires ≡ true → rounds_to_go d.client ≤ rounds_to_go c.client - 1
-falls {A = A} v next k c d reached here is round at flows =
-    let r = round_brings IsCalm (λ move calm. calm) k (rounds_to_go c.client) v next round (link_kept v reached) (here, c, is, omega arith) in
-    let one : r.conn ≡ d = some_one (next.conns k) r.conn d r.is at in
-    subst (λ (x : Conn A). rounds_to_go x.client ≤ rounds_to_go c.client - 1) one (r.nearer (subst (λ (x : Conn A). is_flowing x.wires ≡ true) (sym one) flows))
+-- ---- what flows did so before
+
+flows_along : {A : Type 0} (kind : LinkMove A → Type 0) → ((move : LinkMove A) → kind move → IsCalm move) → (moves : List (LinkMove A)) (v last : View A) (k : ℕ) (c d : Conn A) → Leads kind moves v last → v.conns k ≡ Some c → last.conns k ≡ Some d → is_flowing d.wires ≡ true → is_flowing c.wires ≡ true
+flows_along {A = A} kind into [] v last k c d same is at flows =
+    let one : d ≡ c = some_one (v.conns k) d c (subst (λ (x : View A). x.conns k ≡ Some d) same at) is in
+    subst (λ (x : Conn A). is_flowing x.wires ≡ true) one flows
+flows_along {A = A} kind into (move ∷ moves) v last k c d (next, ok, made, more) is at flows =
+    let on = goes_on move v next k c (into move ok) made is in
+    on.2.flows (flows_along kind into moves next last k on.0 d more on.1 at flows)
+
+conn_along : {A : Type 0} (kind : LinkMove A → Type 0) → ((move : LinkMove A) → kind move → IsCalm move) → (moves : List (LinkMove A)) (v last : View A) (k : ℕ) (c : Conn A) → Leads kind moves v last → v.conns k ≡ Some c → (d : Conn A) × (last.conns k ≡ Some d)
+conn_along {A = A} kind into [] v last k c same is = (c, subst (λ (x : View A). x.conns k ≡ Some c) (sym same) is)
+conn_along {A = A} kind into (move ∷ moves) v last k c (next, ok, made, more) is =
+    let on = goes_on move v next k c (into move ok) made is in
+    conn_along kind into moves next last k on.0 more on.1
+
+pub flows_round : {A : Type 0} (kind : LinkMove A → Type 0) → ((move : LinkMove A) → kind move → IsCalm move) → (v last : View A) (k : ℕ) (c d : Conn A) → IsRound kind k v last → v.conns k ≡ Some c → last.conns k ≡ Some d → is_flowing d.wires ≡ true → is_flowing c.wires ≡ true
+flows_round kind into v last k c d round is at flows =
+    let mid = conn_along kind into round.up.moves v round.taken k c round.up.leads is in
+    flows_along kind into round.up.moves v round.taken k c mid.0 round.up.leads is mid.1
+    (flows_along kind into round.down.moves round.taken last k mid.0 d round.down.leads mid.1 at flows)
+
+pub flows_rounds : {A : Type 0} (kind : LinkMove A → Type 0) → ((move : LinkMove A) → kind move → IsCalm move) → (n : ℕ) (v last : View A) (k : ℕ) (c d : Conn A) → AreRounds kind k n v last → v.conns k ≡ Some c → last.conns k ≡ Some d → is_flowing d.wires ≡ true → is_flowing c.wires ≡ true
+flows_rounds {A = A} kind into zero v last k c d same is at flows =
+    let one : d ≡ c = some_one (v.conns k) d c (subst (λ (x : View A). x.conns k ≡ Some d) same at) is in
+    subst (λ (x : Conn A). is_flowing x.wires ≡ true) one flows
+flows_rounds {A = A} kind into (suc n) v last k c d (next, round, more) is at flows =
+    let mid = conn_along kind into round.up.moves v round.taken k c round.up.leads is in
+    let then = conn_along kind into round.down.moves round.taken next k mid.0 round.down.leads mid.1 in
+    flows_round kind into v next k c then.0 round is then.1 (flows_rounds kind into n next last k then.0 d more then.1 at flows)
+
+-- ---- rounds
+
+-- where the connection flows in the end, so many fewer are to go
+pub rounds_bring : {A : Type 0} (kind : LinkMove A → Type 0) → ((move : LinkMove A) → kind move → IsCalm move) → (k n less most : ℕ) (v last : View A) (d : Conn A) → AreRounds kind k n v last → LinkKept v → Has k most v → most ≤ n + less → last.conns k ≡ Some d → is_flowing d.wires ≡ true → rounds_to_go d.client ≤ less
+rounds_bring {A = A} kind into k zero less most v last d same kept has low at flows =
+    let one : has.conn ≡ d = some_one (v.conns k) has.conn d has.is (subst (λ (x : View A). x.conns k ≡ Some d) same at) in
+    subst (λ (x : Conn A). rounds_to_go x.client ≤ less) one (let e = has.low in omega arith)
+rounds_bring {A = A} kind into k (suc n) less most v last d (next, round, more) kept has low at flows =
+    let one : HasRound k most next = round_brings kind into k most v next round kept has in
+    let there : is_flowing one.has.conn.wires ≡ true = flows_rounds kind into n next last k one.has.conn d more one.has.is at flows in
+    let near : rounds_to_go one.has.conn.client ≤ n + less = one.nearer there (n + less) (omega arith) in
+    let now : Has k (n + less) next = record { here = one.has.here; conn = one.has.conn; is = one.has.is; low = near } in
+    let same : n + less ≤ n + less = omega arith in
+    rounds_bring kind into k n less (n + less) next last d more one.kept now same at flows
+
+pub has_now : {A : Type 0} (v : View A) (k : ℕ) (c : Conn A) → v.here ≡ Some k → v.conns k ≡ Some c → Has k (rounds_to_go c.client) v
+has_now v k c here is = record { here = here; conn = c; is = is; low = omega arith }
+
+-- ---- the law
+
+pub falls : {A : Type 0} (v next : View A) (k : ℕ) (c d : Conn A) → LinkReached v → v.here ≡ Some k → v.conns k ≡ Some c → IsRound IsCalm k v next → next.conns k ≡ Some d → is_flowing d.wires ≡ true → (rounds_to_go d.client < rounds_to_go c.client) ⊎ ((p : ℕ) × (d.client ≡ InOnline p))
+falls {A = A} v next k c d reached here is round at flows = go (rounds_to_go c.client) refl
+  where
+    r : HasRound k (rounds_to_go c.client) next
+    r = round_brings IsCalm (λ move calm. calm) k (rounds_to_go c.client) v next round (link_kept v reached) (has_now v k c here is)
+
+    near : (less : ℕ) → rounds_to_go c.client ≤ less + 1 → rounds_to_go d.client ≤ less
+    near less low =
+        let one : r.has.conn ≡ d = some_one (next.conns k) r.has.conn d r.has.is at in
+        subst (λ (x : Conn A). rounds_to_go x.client ≤ less) one (r.nearer (subst (λ (x : Conn A). is_flowing x.wires ≡ true) (sym one) flows) less low)
+
+    go : (n : ℕ) → rounds_to_go c.client ≡ n → (rounds_to_go d.client < rounds_to_go c.client) ⊎ ((p : ℕ) × (d.client ≡ InOnline p))
+    go zero e = inr (nothing_to_go d.client (near 0 (omega arith)))
+    go (suc less) e = inl (let f = near less (omega arith) in omega arith)
+
+pub online_then : {A : Type 0} (v last : View A) (k n : ℕ) (c d : Conn A) → LinkReached v → v.here ≡ Some k → v.conns k ≡ Some c → AreRounds IsCalm k n v last → rounds_to_go c.client ≤ n → last.conns k ≡ Some d → is_flowing d.wires ≡ true → (p : ℕ) × (d.client ≡ InOnline p)
+online_then {A = A} v last k n c d reached here is rounds low at flows =
+    nothing_to_go d.client (rounds_bring IsCalm (λ move calm. calm) k n 0 (rounds_to_go c.client) v last d rounds (link_kept v reached) (has_now v k c here is) (omega arith) at flows)

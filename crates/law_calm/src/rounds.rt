@@ -1,5 +1,5 @@
 //! Rounds on the links of one device.
-ghost use Rattle.std.specs.Prelude.{Bool, ◌≡◌, ℕ, ◌-◌, ◌≤◌, [], Some, true};
+ghost use Rattle.std.specs.Prelude.{◌≡◌, ◌⊎◌, ℕ, ◌≤◌, ◌<◌, [], Some, true};
 ghost use Rattle.sim_2_links.specs.Words.{InHeader1, InOnline};
 ghost use Rattle.sim_2_links.specs.Wires.{down_words, is_flowing, up_words};
 ghost use Rattle.sim_2_links.specs.Stages.{Conn};
@@ -12,7 +12,7 @@ ghost use Rattle.law_calm.specs.Rounds.{AreRounds, IsCalm, IsRound, IsSparing, I
 /// else happens meanwhile, on other connections of the device and for other devices, changes nothing of that.
 pub fn rounds_bring_the_client_online<A>()
     ensures falls { (v next : View A) (k : ℕ) (c d : Conn A) → LinkReached v → v.here ≡ Some k → v.conns k ≡ Some c → IsRound IsCalm k v next →
-        next.conns k ≡ Some d → is_flowing d.wires ≡ true → rounds_to_go d.client ≤ rounds_to_go c.client - 1 }
+        next.conns k ≡ Some d → is_flowing d.wires ≡ true → (rounds_to_go d.client < rounds_to_go c.client) ⊎ ((p : ℕ) × (d.client ≡ InOnline p)) }
     ensures online { (v last : View A) (k n : ℕ) (c d : Conn A) → LinkReached v → v.here ≡ Some k → v.conns k ≡ Some c → AreRounds IsCalm k n v last → rounds_to_go c.client ≤ n →
         last.conns k ≡ Some d → is_flowing d.wires ≡ true → (p : ℕ) × (d.client ≡ InOnline p) }
 {}
