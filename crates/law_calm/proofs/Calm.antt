@@ -1,12 +1,12 @@
 -- Each move of a calm network leaves the device on its connection, and each connection going on.
-use Rattle.std.proofs.Common.{arith, ◌≡◌, ℕ, ◌+◌, ◌-◌, ◌≤◌, List, [], ◌∷◌, drop, refl, sym, ap, ◌∙◌, subst, Option, Some}
-use Rattle.sim_2_links.specs.Words.{TooHigh, UpWord, ResumeAt, Bind, Enable, Up, St, Req, Ack, DownWord, Failed, Bound, Enabled, Down, Client, InFeatures2, InResume, InBind, InEnable, InOnline}
-use Rattle.sim_2_links.specs.Stages.{Conn, Ending, Errs, Closes}
+use Rattle.std.proofs.Common.{arith, ◌≡◌, ℕ, ◌-◌, [], ◌∷◌, drop, refl, ap, Option, Some}
+use Rattle.sim_2_links.specs.Words.{TooHigh, ResumeAt, Bind, Enable, Up, St, Req, Ack, Failed, Bound, Enabled, Down, InFeatures2, InResume, InBind, InEnable, InOnline}
+use Rattle.sim_2_links.specs.Stages.{Conn, Errs, Closes}
 use Rattle.sim_2_links.specs.Views.{Table, View}
-use Rattle.sim_2_links.specs.SessionMoves.{again, resumed_words, shut}
+use Rattle.sim_2_links.specs.SessionMoves.{again, resumed_words}
 use Rattle.sim_2_links.specs.Machine.{LinkMove, Cuts, Dials, LetsGo, Foots, Forgets, Puts, Queues, Requests, ReadsHand, AsksToResume, AsksToBind, ReadsFailed, ReadsResumed, ReadsBound, ReadsEnabled, ReadsStanza, ReadsRequest, ReadsCount, TakesHand, TakesResume, TakesLateResume, TakesStrangeResume, TakesHighResume, TakesBind, TakesEnable, TakesStanza, TakesRequest, TakesCount, TakesFoot, Parks, Hears, HearsEarly, Detaches, Shuts, EndsRow, Serves, Keeps, Demands, LinkMoves}
 use Rattle.law_calm.proofs.Changes.{Changed, GoesOn, unmoved, at_one, at_none, taken_goes, put_goes, shut_goes, told_goes, say_goes, online_reads, hand_reads, step_reads}
-use Rattle.law_calm.specs.Rounds.{IsCalm, rounds_to_go}
+use Rattle.law_calm.specs.Rounds.{IsCalm}
 
 abbrev conns_of : {A : Type 0} (v : View A) → Table (Conn A)
 conns_of v = v.conns

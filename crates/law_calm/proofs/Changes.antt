@@ -1,6 +1,6 @@
 -- What each move of a calm network leaves of a connection: the client comes no further from being online, nothing is put up
 -- but where it comes nearer, and what has ended stays so.
-use Rattle.std.proofs.Common.{arith, ◌≡◌, ◌≢◌, ◌⊎◌, ℕ, ◌+◌, ◌≤◌, Bool, true, false, List, [], ◌∷◌, refl, sym, ap, ◌∙◌, subst, inl, inr, None, Some}
+use Rattle.std.proofs.Common.{arith, ◌≡◌, ◌⊎◌, ℕ, ◌+◌, ◌≤◌, true, false, List, [], ◌∷◌, sym, ap, ◌∙◌, subst, inl, inr, None, Some}
 use Rattle.std.proofs.lemmas.Bool.{cases_eq}
 use Rattle.sim_2_links.proofs.CutLinks.{some_one}
 use Rattle.sim_2_links.proofs.Detached.{halted, halted_up}
@@ -8,13 +8,12 @@ use Rattle.sim_2_links.proofs.Entries.{at_same, at_other}
 use Rattle.sim_2_links.proofs.Hands.{flow_down, flow_up}
 use Rattle.sim_2_links.proofs.Heard.{same_up as same_up_left}
 use Rattle.sim_2_links.proofs.Prompt.{same_flow_down, same_flow_up, same_up}
-use Rattle.sim_2_links.specs.Words.{UpWord, DownWord, Head, Feat, Chal, Succ, Failed, Resumed, Bound, Enabled, Down, Err, End, Client, InHeader1, InFeatures1, InAuth, InResponse, InHeader2, InFeatures2, InResume, InBind, InEnable, InOnline}
-use Rattle.sim_2_links.specs.Wires.{Wires, is_flowing, up_words, down_words, send_up, send_down, left_up, left_down, halt}
+use Rattle.sim_2_links.specs.Words.{UpWord, DownWord, Head, Feat, Chal, Succ, Client, InHeader1, InFeatures1, InAuth, InResponse, InHeader2, InFeatures2, InResume, InBind, InEnable, InOnline}
+use Rattle.sim_2_links.specs.Wires.{is_flowing, up_words, send_up, send_down, left_up, left_down, halt}
 use Rattle.sim_2_links.specs.Stages.{Conn, Ending, IsEarly, Goes, client_hand, tail_of}
 use Rattle.sim_2_links.specs.Views.{Table, View, with_at}
 use Rattle.sim_2_links.specs.SessionMoves.{shut}
-use Rattle.sim_2_links.specs.Machine.{LinkMove, Cuts, Dials, LetsGo, Foots, Forgets, Puts, Queues, Requests, ReadsHand, AsksToResume, AsksToBind, ReadsFailed, ReadsResumed, ReadsBound, ReadsEnabled, ReadsStanza, ReadsRequest, ReadsCount, TakesHand, TakesResume, TakesLateResume, TakesStrangeResume, TakesHighResume, TakesBind, TakesEnable, TakesStanza, TakesRequest, TakesCount, TakesFoot, Parks, Hears, HearsEarly, Detaches, Shuts, EndsRow, Serves, Keeps, Demands, LinkMoves}
-use Rattle.law_calm.specs.Rounds.{IsCalm, rounds_to_go}
+use Rattle.law_calm.specs.Rounds.{rounds_to_go}
 
 -- ---- a connection
 

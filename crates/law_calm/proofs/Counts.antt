@@ -1,16 +1,16 @@
 -- Where neither end puts anything of itself, a client that is online puts up counts alone, and a server that takes counts
 -- alone puts nothing down.
-use Rattle.std.proofs.Common.{arith, ◌≡◌, ◌⊎◌, ℕ, ◌+◌, ◌≤◌, Bool, true, false, List, [], ◌∷◌, ◌++◌, refl, sym, ap, ◌∙◌, subst, inl, inr, Some}
+use Rattle.std.proofs.Common.{arith, ◌≡◌, ℕ, ◌+◌, true, false, List, [], ◌∷◌, ◌++◌, refl, sym, ap, ◌∙◌, subst, Some}
 use Rattle.std.proofs.lemmas.List.{append-nil}
 use Rattle.sim_2_links.proofs.Detached.{halted, halted_up}
-use Rattle.sim_2_links.specs.Words.{Traffic, TooHigh, St, Req, Ack, UpWord, Hdr, Auth, Resp, ResumeAt, Bind, Enable, Up, Foot, DownWord, Failed, Bound, Enabled, Down, Client, InHeader1, InFeatures1, InAuth, InResponse, InHeader2, InFeatures2, InResume, InBind, InEnable, InOnline, Phase, Start, Sasl, Challenge, Restart, Ready, AtSession}
+use Rattle.sim_2_links.specs.Words.{TooHigh, St, Req, Ack, UpWord, Hdr, Auth, Resp, ResumeAt, Bind, Enable, Up, Foot, DownWord, Down, Client, InHeader1, InFeatures1, InAuth, InResponse, InHeader2, InFeatures2, InResume, InBind, InEnable, InOnline, Phase, Start, Sasl, Challenge, Restart, Ready, AtSession}
 use Rattle.sim_2_links.specs.Wires.{Wires, Flow, Stop, is_flowing, up_words, down_words, send_up, send_down, left_up, left_down, halt}
 use Rattle.sim_2_links.specs.Stages.{Conn, Ending, Errs, Closes, IsEarly, Goes, server_hand, tail_of}
 use Rattle.sim_2_links.specs.Views.{Table, View}
-use Rattle.sim_2_links.specs.SessionMoves.{resumed_words, shut}
+use Rattle.sim_2_links.specs.SessionMoves.{shut}
 use Rattle.sim_2_links.specs.Machine.{LinkMove, Cuts, Dials, LetsGo, Foots, Forgets, Puts, Queues, Requests, ReadsHand, AsksToResume, AsksToBind, ReadsFailed, ReadsResumed, ReadsBound, ReadsEnabled, ReadsStanza, ReadsRequest, ReadsCount, TakesHand, TakesResume, TakesLateResume, TakesStrangeResume, TakesHighResume, TakesBind, TakesEnable, TakesStanza, TakesRequest, TakesCount, TakesFoot, Parks, Hears, HearsEarly, Detaches, Shuts, EndsRow, Serves, Keeps, Demands, LinkMoves}
 use Rattle.law_calm.proofs.Changes.{Changed, at_one, at_none}
-use Rattle.law_calm.specs.Rounds.{IsCalm, IsStill, rounds_to_go}
+use Rattle.law_calm.specs.Rounds.{IsStill, rounds_to_go}
 
 -- ---- counts alone
 

@@ -6,3 +6,4 @@ pub mod Online
 pub mod Counts
 pub mod Quiet
 pub mod Sparing
+pub mod Settling

@@ -1,5 +1,5 @@
 -- Each round leaves one round less to go until the client is online.
-use Rattle.std.proofs.Common.{arith, ◌≡◌, ◌⊎◌, ℕ, zero, suc, ◌+◌, ◌≤◌, ◌<◌, Bool, true, false, List, [], ◌∷◌, ◌++◌, refl, sym, ap, ◌∙◌, subst, inl, inr, Some}
+use Rattle.std.proofs.Common.{arith, ◌≡◌, ◌⊎◌, ℕ, zero, suc, ◌+◌, ◌≤◌, ◌<◌, true, false, List, [], ◌∷◌, ◌++◌, refl, sym, ap, ◌∙◌, subst, inl, inr, Some}
 use Rattle.std.proofs.lemmas.List.{append-nil}
 use Rattle.sim_2_links.proofs.CutLinks.{some_one}
 use Rattle.sim_2_links.proofs.Entries.{is_has}
@@ -12,7 +12,7 @@ use Rattle.sim_2_links.specs.Links.{ConnKept, LinkKept}
 use Rattle.sim_2_links.specs.Machine.{LinkMove, LinkMoves, LinkReached}
 use Rattle.law_calm.proofs.Changes.{GoesOn}
 use Rattle.law_calm.proofs.Calm.{goes_on, stays_here}
-use Rattle.law_calm.specs.Rounds.{IsCalm, Leads, Goes, IsUpEmpty, IsDownEmpty, IsRound, AreRounds, rounds_to_go}
+use Rattle.law_calm.specs.Rounds.{IsCalm, Leads, Goes, IsRound, AreRounds, rounds_to_go}
 
 -- ---- what moves of a kind keep
 
@@ -214,6 +214,13 @@ rounds_bring {A = A} kind into k (suc n) less most v last d (next, round, more) 
     let now : Has k (n + less) next = record { here = one.has.here; conn = one.has.conn; is = one.has.is; low = near } in
     let same : n + less ≤ n + less = omega arith in
     rounds_bring kind into k n less (n + less) next last d more one.kept now same at flows
+
+-- and the device stays on the connection
+pub rounds_keep : {A : Type 0} (kind : LinkMove A → Type 0) → ((move : LinkMove A) → kind move → IsCalm move) → (k n most : ℕ) (v last : View A) → AreRounds kind k n v last → LinkKept v → Has k most v → LinkKept last × Has k most last
+rounds_keep kind into k zero most v last same kept has = subst (λ x. LinkKept x × Has k most x) (sym same) (kept, has)
+rounds_keep kind into k (suc n) most v last (next, round, more) kept has =
+    let one = round_brings kind into k most v next round kept has in
+    rounds_keep kind into k n most next last more one.kept one.has
 
 pub has_now : {A : Type 0} (v : View A) (k : ℕ) (c : Conn A) → v.here ≡ Some k → v.conns k ≡ Some c → Has k (rounds_to_go c.client) v
 has_now v k c here is = record { here = here; conn = c; is = is; low = omega arith }

@@ -1,14 +1,14 @@
 -- Two rounds in which neither end puts anything of itself leave nothing under way.
-use Rattle.std.proofs.Common.{arith, ◌≡◌, ◌⊎◌, ℕ, zero, suc, ◌+◌, ◌≤◌, Bool, true, false, List, [], ◌∷◌, refl, sym, ap, ◌∙◌, subst, Some}
+use Rattle.std.proofs.Common.{arith, ◌≡◌, ℕ, ◌≤◌, true, List, [], sym, ap, ◌∙◌, subst, Some}
 use Rattle.sim_2_links.proofs.CutLinks.{some_one}
 use Rattle.sim_2_links.proofs.Reached.{link_kept}
 use Rattle.sim_2_links.specs.Words.{UpWord, InOnline}
-use Rattle.sim_2_links.specs.Wires.{Wires, is_flowing, up_words, down_words}
+use Rattle.sim_2_links.specs.Wires.{is_flowing, up_words, down_words}
 use Rattle.sim_2_links.specs.Stages.{Conn}
 use Rattle.sim_2_links.specs.Views.{View}
 use Rattle.sim_2_links.specs.Links.{LinkKept}
 use Rattle.sim_2_links.specs.Machine.{LinkMove, Cuts, Dials, LetsGo, Foots, Forgets, Puts, Requests, Serves, Demands, LinkMoves, LinkReached}
-use Rattle.law_calm.proofs.Changes.{Changed, GoesOn}
+use Rattle.law_calm.proofs.Changes.{GoesOn}
 use Rattle.law_calm.proofs.Calm.{goes_on, stays_here}
 use Rattle.law_calm.proofs.Counts.{OnlyCounts, StaysQuiet, stays_quiet}
 use Rattle.law_calm.proofs.Online.{kept_going, below, Has, has_keeps}
@@ -120,10 +120,14 @@ second_round {A = A} k v last round kept drained =
     let a : LinkKept round.taken × Drained k round.taken = kept_going IsStill (Drained k) (drained_keeps k) v round.taken round.up kept drained in
     kept_going IsStill (Emptied k) (emptied_keeps k) round.taken last round.down a.0 (emptied_at k round.taken round.up_empty.0 round.up_empty.1 round.up_empty.2 a.1)
 
+pub two_rounds : {A : Type 0} (k : ℕ) (v last : View A) → AreRounds IsStill k 2 v last → LinkKept v → Has k 0 v → LinkKept last × Emptied k last
+two_rounds k v last (mid, one, (then, two, same)) kept has =
+    let a = first_round k v mid one kept has in
+    subst (λ x. LinkKept x × Emptied k x) (sym same) (second_round k mid then two a.0 a.1)
+
 pub empty_then : {A : Type 0} (v last : View A) (k p : ℕ) (c d : Conn A) → LinkReached v → v.here ≡ Some k → v.conns k ≡ Some c → c.client ≡ InOnline p → AreRounds IsStill k 2 v last → last.conns k ≡ Some d → is_flowing d.wires ≡ true → (up_words d.wires ≡ []) × (down_words d.wires ≡ [])
-empty_then {A = A} v last k p c d reached here is online (mid, one, (then, two, same)) at flows =
-    let a = first_round k v mid one (link_kept v reached) (record { here = here; conn = c; is = is; low = (let e : rounds_to_go c.client ≡ 0 = ap rounds_to_go online in omega arith) }) in
-    let b = second_round k mid then two a.0 a.1 in
-    let it : d ≡ b.1.has.conn = some_one (then.conns k) d b.1.has.conn (subst (λ (x : View A). x.conns k ≡ Some d) same at) b.1.has.is in
+empty_then {A = A} v last k p c d reached here is online rounds at flows =
+    let b = two_rounds k v last rounds (link_kept v reached) (record { here = here; conn = c; is = is; low = (let e : rounds_to_go c.client ≡ 0 = ap rounds_to_go online in omega arith) }) in
+    let it : d ≡ b.1.has.conn = some_one (last.conns k) d b.1.has.conn at b.1.has.is in
     let there : is_flowing b.1.has.conn.wires ≡ true = subst (λ (x : Conn A). is_flowing x.wires ≡ true) it flows in
     subst (λ (x : Conn A). (up_words x.wires ≡ []) × (down_words x.wires ≡ [])) (sym it) (b.1.up there, b.1.down there)

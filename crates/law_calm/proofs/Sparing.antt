@@ -1,15 +1,14 @@
 -- Where the server ends no session of the device, one that both ends have is resumed.
-use Rattle.std.proofs.Common.{arith, ◌≡◌, ◌≢◌, ◌⊎◌, ℕ, zero, suc, ◌+◌, ◌-◌, ◌≤◌, Bool, true, false, List, [], ◌∷◌, ◌++◌, drop, map, refl, sym, ap, ◌∙◌, subst, inl, inr, Option, None, Some}
-use Rattle.std.proofs.lemmas.Bool.{cases_eq}
+use Rattle.std.proofs.Common.{arith, ◌≡◌, ℕ, zero, suc, ◌-◌, ◌≤◌, Bool, true, false, List, [], ◌∷◌, ◌++◌, drop, map, refl, sym, ap, ◌∙◌, subst, Option, None, Some}
 use Rattle.sim_2_links.proofs.CutLinks.{some_one}
 use Rattle.sim_2_links.proofs.Entries.{at_other, is_has}
 use Rattle.sim_2_links.proofs.Reached.{link_kept}
-use Rattle.sim_2_links.specs.Words.{Traffic, TooHigh, St, UpWord, Hdr, Auth, Resp, ResumeAt, Bind, Enable, Up, Foot, DownWord, Head, Feat, Chal, Succ, Failed, Resumed, Bound, Enabled, Down, Err, End, Client, InHeader1, InFeatures1, InAuth, InResponse, InHeader2, InFeatures2, InResume, InBind, InEnable, InOnline, Phase, Start, Sasl, Challenge, Restart, Ready, AtSession, Req, Ack}
+use Rattle.sim_2_links.specs.Words.{Traffic, St, UpWord, Hdr, Auth, Resp, ResumeAt, Bind, Up, DownWord, Head, Feat, Chal, Succ, Failed, Resumed, Enabled, Down, Client, InHeader1, InFeatures1, InAuth, InResponse, InHeader2, InFeatures2, InResume, InBind, InEnable, InOnline, Phase, Start, Sasl, Challenge, Restart, Req, Ack}
 use Rattle.sim_2_links.specs.Wires.{Wires, Flow, Stop, is_flowing, up_words, down_words, up_whole, down_whole, send_up, send_down, left_up, left_down, halt}
-use Rattle.sim_2_links.specs.Stages.{Stage, Greets, Greeted, AsksResume, Refused, Resumes, AsksBind, Binds, AsksEnable, Enables, Runs, client_of, up_of, down_of, Goes, server_hand, Ending, Stands, Errs, Closes, tail_of, foot_of, Conn}
-use Rattle.sim_2_links.specs.Views.{Table, with_at, View, Session, Row, Own, has}
-use Rattle.sim_2_links.specs.SessionMoves.{again, resumed_words, shut}
-use Rattle.sim_2_links.specs.Links.{FitsOwn, IsOwn, ConnKept, LinkKept}
+use Rattle.sim_2_links.specs.Stages.{Stage, Greets, Greeted, AsksResume, AsksBind, Binds, AsksEnable, Enables, Runs, client_of, up_of, down_of, Goes, server_hand, Ending, Stands, Errs, Closes, tail_of, foot_of, Conn}
+use Rattle.sim_2_links.specs.Views.{Table, with_at, View, Session, Row, Own}
+use Rattle.sim_2_links.specs.SessionMoves.{again, resumed_words}
+use Rattle.sim_2_links.specs.Links.{FitsOwn, IsOwn, LinkKept}
 use Rattle.sim_2_links.specs.Machine.{LinkMove, Cuts, Dials, LetsGo, Foots, Forgets, Puts, Queues, Requests, ReadsHand, AsksToResume, AsksToBind, ReadsFailed, ReadsResumed, ReadsBound, ReadsEnabled, ReadsStanza, ReadsRequest, ReadsCount, TakesHand, TakesResume, TakesLateResume, TakesStrangeResume, TakesHighResume, TakesBind, TakesEnable, TakesStanza, TakesRequest, TakesCount, TakesFoot, Parks, Hears, HearsEarly, Detaches, Shuts, EndsRow, Serves, Keeps, Demands, LinkMoves, LinkReached}
 use Rattle.law_calm.proofs.Changes.{Changed, at_one, at_none}
 use Rattle.law_calm.proofs.Calm.{stays_here}

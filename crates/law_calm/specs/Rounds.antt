@@ -1,7 +1,7 @@
 -- Rounds of a calm network, on the links of one device: in each round what is under way on the connection on which its
 -- client works is handed over, first to the server and then to the client.
-use Rattle.std.specs.Prelude.{◌≡◌, ℕ, zero, suc, Bool, List, [], ◌∷◌, Some}
-use Rattle.sim_2_links.specs.Words.{UpWord, DownWord, Client, InHeader1, InFeatures1, InAuth, InResponse, InHeader2, InFeatures2, InResume, InBind, InEnable, InOnline}
+use Rattle.std.specs.Prelude.{◌≡◌, ℕ, zero, suc, List, [], ◌∷◌, Some}
+use Rattle.sim_2_links.specs.Words.{Client, InHeader1, InFeatures1, InAuth, InResponse, InHeader2, InFeatures2, InResume, InBind, InEnable, InOnline}
 use Rattle.sim_2_links.specs.Wires.{up_words, down_words}
 use Rattle.sim_2_links.specs.Stages.{Conn}
 use Rattle.sim_2_links.specs.Views.{View}

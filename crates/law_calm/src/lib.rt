@@ -5,6 +5,6 @@
 mod rounds;
 
 pub use rounds::{
-    a_session_that_stays_is_resumed, rounds_bring_the_client_online,
+    a_device_settles, a_session_that_stays_is_resumed, rounds_bring_the_client_online,
     what_is_under_way_comes_to_its_end,
 };

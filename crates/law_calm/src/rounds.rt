@@ -1,10 +1,11 @@
 //! Rounds on the links of one device.
-ghost use Rattle.std.specs.Prelude.{◌≡◌, ◌⊎◌, ℕ, ◌≤◌, ◌<◌, [], Some, true};
+ghost use Rattle.std.specs.Prelude.{Bool, ◌≡◌, ◌⊎◌, ℕ, ◌≤◌, ◌<◌, [], Some, true};
 ghost use Rattle.sim_2_links.specs.Words.{InHeader1, InOnline};
 ghost use Rattle.sim_2_links.specs.Wires.{down_words, is_flowing, up_words};
 ghost use Rattle.sim_2_links.specs.Stages.{Conn};
 ghost use Rattle.sim_2_links.specs.Views.{Own, Row, View};
 ghost use Rattle.sim_2_links.specs.Machine.{LinkReached};
+ghost use Rattle.sim_2_links.specs.Covers.{IsSettled, PromptReached};
 ghost use Rattle.law_calm.specs.Rounds.{AreRounds, IsCalm, IsRound, IsSparing, IsStill, rounds_to_go};
 
 /// Where the client works on a connection that stays open, each calm round leaves it one round less to go, until it is
@@ -22,6 +23,14 @@ pub fn rounds_bring_the_client_online<A>()
 pub fn what_is_under_way_comes_to_its_end<A>()
     ensures { (v last : View A) (k p : ℕ) (c d : Conn A) → LinkReached v → v.here ≡ Some k → v.conns k ≡ Some c → c.client ≡ InOnline p → AreRounds IsStill k 2 v last →
         last.conns k ≡ Some d → is_flowing d.wires ≡ true → (up_words d.wires ≡ []) × (down_words d.wires ≡ []) }
+{}
+
+/// So behind the rounds that a client has to go, and two more in which neither end puts anything of itself, nothing is
+/// outstanding where the connection stays open: the client is online with a session that the server has on this connection,
+/// each end handled all that the other put, and no stanza behind which the client put a request at once waits.
+pub fn a_device_settles<A>()
+    ensures { (asks : A → Bool) (v mid last : View A) (k n : ℕ) (c d : Conn A) → LinkReached v → PromptReached asks last → v.here ≡ Some k → v.conns k ≡ Some c → rounds_to_go c.client ≤ n → AreRounds IsCalm k n v mid → AreRounds IsStill k 2 mid last →
+        last.conns k ≡ Some d → is_flowing d.wires ≡ true → IsSettled asks last k d }
 {}
 
 /// A session that its client has still, and that the server has, is resumed: where the server ends no session meanwhile, the
