@@ -66,14 +66,13 @@ module _ (all : List Step) (seen : List Take → List ℕ) (is : List Step → L
 
 -- ---- takes
 
-moment_of : Take → ℕ
+abbrev moment_of : Take → ℕ
 moment_of t = t.moment
 
-moments : List Take → List ℕ
+abbrev moments : List Take → List ℕ
 moments takes = map moment_of takes
 
 one_take : (all before : List Step) (device to text : List ℕ) → moments (taken all before device to text) ≡ cond (has_addressee all before device to) (moment_after before ∷ []) []
-unfolding moments moment_of
 one_take all before device to text =
     elim (cases_Bool (is_among to (accounts_of all))) [
       | inl there ↦ rw there refl
@@ -81,26 +80,22 @@ one_take all before device to text =
     ]
 
 takes_along : (all : List Step) → moments (takes_of all all) ≡ moments_along (has_addressee all) [] 0 all
-unfolding moments
 takes_along all = seen_along all moments (has_addressee all) refl (map-append moment_of) (one_take all) [] all
 
 told_moments : (version : Version) (takes : List Take) → tells_moments version ≡ true → map (λ (t : TakeLine). t.moment) (map (take_line version) takes) ≡ map Some (moments takes)
-unfolding moments moment_of
 told_moments One takes tells = cc tells
 told_moments (Two keep) [] tells = refl
 told_moments (Two keep) (t ∷ takes) tells = ap (λ rest. Some t.moment ∷ rest) (told_moments (Two keep) takes tells)
 
 -- ---- archives
 
-moments_with : List ℕ → List Take → List ℕ
+abbrev moments_with : List ℕ → List Take → List ℕ
 moments_with name takes = map moment_of (filter (concerns name) takes)
 
 joined_with : (name : List ℕ) (xs ys : List Take) → moments_with name (xs ++ ys) ≡ moments_with name xs ++ moments_with name ys
-unfolding moments_with
 joined_with name xs ys = ap (map moment_of) (filter-append (concerns name) xs ys) ∙ map-append moment_of (filter (concerns name) xs) (filter (concerns name) ys)
 
 one_with : (name : List ℕ) (all before : List Step) (device to text : List ℕ) → moments_with name (taken all before device to text) ≡ cond (is_with name all before device to) (moment_after before ∷ []) []
-unfolding moments_with moment_of
 one_with name all before device to text =
     elim (cases_Bool (is_among to (accounts_of all))) [
       | inl there ↦
@@ -113,23 +108,19 @@ one_with name all before device to text =
     ]
 
 with_along : (name : List ℕ) (all : List Step) → moments_with name (takes_of all all) ≡ moments_along (is_with name all) [] 0 all
-unfolding moments_with
 with_along name all = seen_along all (moments_with name) (is_with name all) refl (joined_with name) (one_with name all) [] all
 
-stamp_of : EntryLineView → ℕ
+abbrev stamp_of : EntryLineView → ℕ
 stamp_of e = e.stamp
 
 stamps_are : (n : ℕ) (takes : List Take) → map stamp_of (map entry_line (numbered_from n (map entry_of takes))) ≡ moments takes
-unfolding stamp_of moments moment_of
 stamps_are n [] = refl
 stamps_are n (t ∷ takes) = ap (λ rest. t.moment ∷ rest) (stamps_are (n + 1) takes)
 
 archive_stamps : (name : List ℕ) (all : List Step) → map stamp_of (map entry_line (archive_of name (takes_of all all))) ≡ moments_along (is_with name all) [] 0 all
-unfolding moments
 archive_stamps name all = stamps_are 1 (filter (concerns name) (takes_of all all)) ∙ with_along name all
 
 kept_stamps : (keep : ℕ) (all : List Step) (name : List ℕ) → map (λ e. e.stamp) (account_line keep all name).entries ≡ newest keep (moments_along (is_with name all) [] 0 all)
-unfolding stamp_of
 kept_stamps keep all name =
     ap (map stamp_of) (map-newest entry_line keep (archive_of name (takes_of all all)))
     ∙ map-newest stamp_of keep (map entry_line (archive_of name (takes_of all all)))

@@ -26,13 +26,13 @@ use Rattle.law_commands.specs.DirectRuns.{AreOfCatchUps, BeginsWithPages, HasFew
 
 -- ---- one page
 
+given_one : {A B : Type 0} (f : A → Option B) (x : A) (xs : List A) (o : Option B) → f x ≡ o → length (filter_map f xs) ≤ length xs → length (filter_map f (x ∷ xs)) ≤ length (x ∷ xs)
+given_one f x xs None is rest = rw is (omega (arith, rest))
+given_one f x xs (Some y) is rest = rw is (omega (arith, rest))
+
 given_few : {A B : Type 0} (f : A → Option B) (xs : List A) → length (filter_map f xs) ≤ length xs
 given_few f [] = omega arith
-given_few {A = A} {B = B} f (x ∷ xs) = either (f x) refl
-  where
-    either : (o : Option B) → f x ≡ o → length (filter_map f (x ∷ xs)) ≤ length (x ∷ xs)
-    either None is = let rest = given_few f xs in rw is (omega (arith, rest))
-    either (Some y) is = let rest = given_few f xs in rw is (omega (arith, rest))
+given_few f (x ∷ xs) = given_one f x xs (f x) refl (given_few f xs)
 
 portion_few : (after : Option (List ℕ)) (most : ℕ) (found : List EntryView) → length (portion (position_after after) (min 100 most) found) ≤ most
 portion_few None most found = let size = length-take (min 100 most) found in omega (arith, size)
@@ -83,15 +83,16 @@ adds_either : (most : ℕ) (pages : List LogPage) (b : Bool) (x y : List LogPage
 adds_either most pages true x y one other = one
 adds_either most pages false x y one other = other
 
+with_next : (most : ℕ) (pages : List LogPage) (more : LogPage → List LogPage) → ((page : LogPage) → Adds most (pages ++ page ∷ []) (more page)) → (o : Option LogPage) → IsFew most o
+    → Adds most pages (option_map_or (λ (page : LogPage). cond page.complete (pages ++ page ∷ []) (more page)) o pages)
+with_next most pages more each None few = adds_none most pages
+with_next most pages more each (Some page) few =
+    adds_one most pages page _ few (adds_either most (pages ++ page ∷ []) page.complete _ _ (adds_none most (pages ++ page ∷ [])) (each page))
+
 caught_up : (turns most : ℕ) (kept : Kept) (pages : List LogPage) → Adds most pages (catch_up turns most kept pages)
 caught_up zero most kept pages = adds_none most pages
-caught_up (suc turns) most kept pages = with_next (next_page most kept pages) (next_few most kept pages)
-  where
-    with_next : (o : Option LogPage) → IsFew most o
-        → Adds most pages (option_map_or (λ (page : LogPage). cond page.complete (pages ++ page ∷ []) (catch_up turns most kept (pages ++ page ∷ []))) o pages)
-    with_next None few = adds_none most pages
-    with_next (Some page) few =
-        adds_one most pages page _ few (adds_either most (pages ++ page ∷ []) page.complete _ _ (adds_none most (pages ++ page ∷ [])) (caught_up turns most kept (pages ++ page ∷ [])))
+caught_up (suc turns) most kept pages =
+    with_next most pages (λ page. catch_up turns most kept (pages ++ page ∷ [])) (λ page. caught_up turns most kept (pages ++ page ∷ [])) (next_page most kept pages) (next_few most kept pages)
 
 -- ---- all steps
 
@@ -106,15 +107,15 @@ record Behind (name : List ℕ) (steps : List Step) (before after : List LogPage
   pub asked : AreOfCatchUps name steps (map page_line more)
 
 module _ (keep : ℕ) (all : List Step) (name : List ℕ) where
-  behind : (before : List Step) (pages : List LogPage) (steps : List Step) → Behind name steps pages (pages_from keep all name before pages steps)
-
-  catching : (before : List Step) (pages : List LogPage) (device : List ℕ) (most : ℕ) (steps : List Step) (b : Bool) → bytes_eq name device ≡ b
+  catching : (before : List Step) (pages : List LogPage) (device : List ℕ) (most : ℕ) (steps : List Step)
+      → ((now : List LogPage) → Behind name steps now (pages_from keep all name (before ++ Catchup device most ∷ []) now steps))
+      → (b : Bool) → bytes_eq name device ≡ b
       → Behind name (Catchup device most ∷ steps) pages (pages_from keep all name (before ++ Catchup device most ∷ []) (pages_after keep all name before pages (Catchup device most)) steps)
-  catching before pages device most steps true is =
+  catching before pages device most steps later true is =
       let kept = kept_after keep (home_of before name) (takes_of all before) in
       let now = catch_up (length kept.entries + 1) most kept pages in
       let first : Adds most pages now = caught_up (length kept.entries + 1) most kept pages in
-      let rest = behind (before ++ Catchup device most ∷ []) now steps in
+      let rest = later now in
       rw is (record {
         more = first.own ++ rest.more;
         are = rest.are ∙ ap (λ ps. ps ++ rest.more) first.are ∙ append_assoc pages first.own rest.more;
@@ -126,17 +127,22 @@ module _ (keep : ℕ) (all : List Step) (name : List ℕ) where
           later = rest.asked;
         });
       })
-  catching before pages device most steps false is =
-      let rest = behind (before ++ Catchup device most ∷ []) pages steps in
+  catching before pages device most steps later false is =
+      let rest = later pages in
       rw is (record { more = rest.more; are = rest.are; asked = rw is rest.asked })
 
+  passing : (step : Step) (pages after : List LogPage) (steps : List Step) → ((lines : List PageLine) → AreOfCatchUps name steps lines → AreOfCatchUps name (step ∷ steps) lines)
+      → Behind name steps pages after → Behind name (step ∷ steps) pages after
+  passing step pages after steps same rest = record { more = rest.more; are = rest.are; asked = same (map page_line rest.more) rest.asked }
+
+  behind : (before : List Step) (pages : List LogPage) (steps : List Step) → Behind name steps pages (pages_from keep all name before pages steps)
   behind before pages [] = record { more = []; are = sym (append-nil pages); asked = refl }
-  behind before pages (Catchup device most ∷ steps) = catching before pages device most steps (bytes_eq name device) refl
-  behind before pages (Account other ∷ steps) = (let rest = behind (before ++ Account other ∷ []) pages steps in record { more = rest.more; are = rest.are; asked = rest.asked })
-  behind before pages (Device other account ∷ steps) = (let rest = behind (before ++ Device other account ∷ []) pages steps in record { more = rest.more; are = rest.are; asked = rest.asked })
-  behind before pages (Say device to text ∷ steps) = (let rest = behind (before ++ Say device to text ∷ []) pages steps in record { more = rest.more; are = rest.are; asked = rest.asked })
-  behind before pages (Private device to text ∷ steps) = (let rest = behind (before ++ Private device to text ∷ []) pages steps in record { more = rest.more; are = rest.are; asked = rest.asked })
-  behind before pages (Tick ms ∷ steps) = (let rest = behind (before ++ Tick ms ∷ []) pages steps in record { more = rest.more; are = rest.are; asked = rest.asked })
+  behind before pages (Catchup device most ∷ steps) = catching before pages device most steps (λ now. behind (before ++ Catchup device most ∷ []) now steps) (bytes_eq name device) refl
+  behind before pages (Account other ∷ steps) = passing (Account other) pages _ steps (λ lines is. is) (behind (before ++ Account other ∷ []) pages steps)
+  behind before pages (Device other account ∷ steps) = passing (Device other account) pages _ steps (λ lines is. is) (behind (before ++ Device other account ∷ []) pages steps)
+  behind before pages (Say device to text ∷ steps) = passing (Say device to text) pages _ steps (λ lines is. is) (behind (before ++ Say device to text ∷ []) pages steps)
+  behind before pages (Private device to text ∷ steps) = passing (Private device to text) pages _ steps (λ lines is. is) (behind (before ++ Private device to text ∷ []) pages steps)
+  behind before pages (Tick ms ∷ steps) = passing (Tick ms) pages _ steps (λ lines is. is) (behind (before ++ Tick ms ∷ []) pages steps)
 
   few_of : AreOfCatchUps name all (map page_line (pages_from keep all name [] [] all))
   few_of = let found = behind [] [] all in rw (found.are) (found.asked)
