@@ -46,12 +46,14 @@ pub mod RowsDue
 pub mod PutsDue
 pub mod PassedOn
 pub mod Reached
+pub mod KeptMessages
 pub mod SentPuts
 pub mod WorkedLive
 -- ---- passwords that were proved
 pub mod Seats
 pub mod SeatedActs
 pub mod ProvedEvents
+pub mod ToldApart
 -- ---- sessions that are gone
 pub mod SessionWalks
 pub mod GoneSessions
