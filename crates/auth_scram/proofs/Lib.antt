@@ -23,5 +23,6 @@ pub mod Runs
 pub mod SentMessages
 pub mod Sequences
 pub mod Spelled
+pub mod ToldApart
 pub mod Utf8
 pub mod WrittenMessages

@@ -1,11 +1,11 @@
 //! Laws of reading and writing messages (RFC 5802, section 7).
-ghost use Rattle.std.specs.Prelude.{◌≡◌, ℕ, Bool, ◌≤◌, ◌↔◌, ◌++◌, List, Option, Some, None, Ok, Err, IsTrue, codes, length, min, option_and_then, true, false};
+ghost use Rattle.std.specs.Prelude.{◌≡◌, ℕ, Bool, ◌≤◌, ◌↔◌, ◌++◌, List, Option, Some, None, Ok, Err, IsTrue, codes, length, min, option_and_then, take, true, false};
 ghost use Rattle.std.specs.Fmt.{decimal};
 ghost use Rattle.std.specs.List.{flat_map};
 ghost use Rattle.base64.specs.Engines.{standard};
 ghost use Rattle.base64.specs.GeneralPurpose.{IsBytes, encode_of};
 ghost use Rattle.auth_scram.specs.Classes.{is_within};
-ghost use Rattle.auth_scram.specs.Exchange.{ClientView, CredentialsView, ReplyView, ServerView, bare_of, begun_client, begun_server, last_of, reply_of};
+ghost use Rattle.auth_scram.specs.Exchange.{ClientView, CredentialsView, ReplyView, ServerView, added_nonce, bare_of, begun_client, begun_server, last_of, reply_of};
 ghost use Rattle.auth_scram.specs.Grammar.{InClientFinal, InClientFirst, InServerFinal, InServerFirst, IsClientFinal, IsClientFirst, IsNonce, IsServerFinal, IsServerFirst, are_some, escaped_byte, gs2_header};
 ghost use Rattle.auth_scram.specs.Messages.{ClientFinalView, ServerFirstView, client_final_of, client_first_of, gs2_base64, server_final_of, server_first_of};
 ghost use Rattle.auth_scram.specs.Positions.{LeavesAt};
@@ -101,4 +101,10 @@ pub fn sent_messages_are_within_the_grammar()
         → InClientFinal Unsupported reply.message }
     ensures server_final { (server : ServerView) (bytes message : List ℕ) → last_of server bytes ≡ Ok message
         → InServerFinal message }
+{}
+
+/// A law: nonces are told apart. Of two connections for which other bytes were drawn, among the first 18, an end adds other nonces
+/// (section 5.1). So a message that answers one of them is no answer to the other: the whole nonce is judged.
+pub fn nonces_are_told_apart()
+    ensures { (a b : List ℕ) → IsBytes (take 18 a) → IsBytes (take 18 b) → added_nonce a ≡ added_nonce b → take 18 a ≡ take 18 b }
 {}

@@ -30,7 +30,8 @@ pub use client_first::{ClientFirst, read_first};
 pub use credentials::{Credentials, CredentialsFault};
 pub use fault::ScramFault;
 pub use laws::{
-    reading_is_the_grammar, sent_messages_are_within_the_grammar, written_messages_are_read,
+    nonces_are_told_apart, reading_is_the_grammar, sent_messages_are_within_the_grammar,
+    written_messages_are_read,
 };
 pub use nonces::{added_nonce, is_nonce, nonce_of, salt_of};
 pub use password::Password;

@@ -53,7 +53,6 @@ pub mod WorkedLive
 pub mod Seats
 pub mod SeatedActs
 pub mod ProvedEvents
-pub mod ToldApart
 -- ---- sessions that are gone
 pub mod SessionWalks
 pub mod GoneSessions

@@ -19,9 +19,7 @@ pub use live_messages::{
     messages_are_archived, messages_go_to_their_accounts, messages_reach_their_sessions,
     what_is_passed_on_is_the_message, what_is_sent_is_put,
 };
-pub use proved_logins::{
-    nonces_are_told_apart, servers_are_sound_after_events, sessions_are_of_proved_accounts,
-};
+pub use proved_logins::{servers_are_sound_after_events, sessions_are_of_proved_accounts};
 pub use server_maps::{
     bytes_are_the_items_written, events_are_the_same_however_written,
     moments_are_the_same_however_written, relations_are_the_same_however_written,

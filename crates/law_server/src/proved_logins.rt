@@ -1,7 +1,5 @@
 //! Laws of who is logged in, over any events (RFC 6120, section 6; RFC 5802).
-ghost use Rattle.std.specs.Prelude.{◌≡◌, ℕ, List, Some, take};
-ghost use Rattle.auth_scram.specs.Exchange.{added_nonce};
-ghost use Rattle.base64.specs.GeneralPurpose.{IsBytes};
+ghost use Rattle.std.specs.Prelude.{◌≡◌, ℕ, List, Some};
 ghost use Rattle.law_server.specs.Events.{Event, after_events};
 ghost use Rattle.law_server.specs.Happenings.{MayFollow};
 ghost use Rattle.law_server.specs.Proved.{HasProved, at_first};
@@ -32,11 +30,4 @@ pub fn sessions_are_of_proved_accounts<A>()
 /// sessions have numbers of their own is said of each server.
 pub fn servers_are_sound_after_events<A>()
     ensures { (say : ItemOut → A) (domain : List ℕ) (accounts : List Account) (keep : ℕ) (events : List Event) → MayFollow say events (at_first domain accounts keep) → IsSound (after_events say events (at_first domain accounts keep)).server.server_state }
-{}
-
-/// A law: nonces are told apart. Connections for which other bytes were drawn, of the first 18, have nonces whose parts of the
-/// server's own differ (RFC 5802, section 5.1). So what was answered on one of them is no answer on the other: `HasProved` asks
-/// for the whole nonce.
-pub fn nonces_are_told_apart()
-    ensures { (a b : List ℕ) → IsBytes (take 18 a) → IsBytes (take 18 b) → added_nonce a ≡ added_nonce b → take 18 a ≡ take 18 b }
 {}
