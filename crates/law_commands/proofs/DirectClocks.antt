@@ -62,7 +62,7 @@ module _ (all : List Step) (seen : List Take → List ℕ) (is : List Step → L
       joins (take_at all before step) (along (take_at all) (before ++ step ∷ []) steps)
       ∙ ap (λ front. front ++ seen (along (take_at all) (before ++ step ∷ []) steps)) (seen_at before step)
       ∙ ap (λ rest. moment_at (is before) (moment_after before) step ++ rest)
-        (seen_along (before ++ step ∷ []) steps ∙ ap (λ now. moments_along is (before ++ step ∷ []) now steps) (clock_is before step))
+      (seen_along (before ++ step ∷ []) steps ∙ ap (λ now. moments_along is (before ++ step ∷ []) now steps) (clock_is before step))
 
 -- ---- takes
 
