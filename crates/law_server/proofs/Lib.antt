@@ -58,3 +58,5 @@ pub mod GoneSessions
 pub mod HighCounts
 pub mod EventsMade
 mod WorkedGone
+-- ---- logins
+pub mod NoncesApart

@@ -5,7 +5,7 @@ use Rattle.std.proofs.lemmas.Option.{none-some, same_Some}
 use Rattle.std.specs.List.{flat_map, slice_get}
 use Rattle.sim_5_devices.proofs.AllSessionSteps.{reaches_both}
 use Rattle.cmd_schedule.specs.Schedules.{WireView}
-use Rattle.cmd_schedule.specs.WireGrammar.{IsWireSchedule}
+use Rattle.cmd_schedule.specs.LineLists.{IsLineList}
 use Rattle.cmd_schedule.specs.declared.schedule.WireLine.{WireLine}
 use Rattle.sim_1_applications.specs.Devices as sessions
 use Rattle.sim_1_applications.specs.Events.{AppEvent, Reaches}
@@ -72,10 +72,10 @@ chain_lines s (line ∷ rest) (run ∷ runs) views W x last go reaches =
     (subst (λ es. Reaches es x last) (flat_map-append (λ l. l) run.moves (lines.moves_of runs)) reaches)
     (λ onward. chain_lines s rest runs go.1 (stepped line W) (state_after x (joined run.moves)) last go.3 onward)
 
-abbrev pub first_views : (s : WireView) → IsWireSchedule s → Views s
+abbrev pub first_views : (s : WireView) → IsLineList s → Views s
 first_views s right = views_of (whole_run s right).first.runs
 
-pub chain_of : (s : WireView) (right : IsWireSchedule s) → Chain s (begins s) (first_views s right) (history_of s)
+pub chain_of : (s : WireView) (right : IsLineList s) → Chain s (begins s) (first_views s right) (history_of s)
 chain_of s right =
     let runs = whole_run s right in (
       begins s,

@@ -7,7 +7,7 @@ use Rattle.std.specs.Option.{option_map}
 use Rattle.cmd_network.specs.Devices.{DeviceState}
 use Rattle.cmd_schedule.specs.Contents.{Owned}
 use Rattle.cmd_schedule.specs.Schedules.{WireView}
-use Rattle.cmd_schedule.specs.WireGrammar.{IsWireSchedule}
+use Rattle.cmd_schedule.specs.LineLists.{IsLineList}
 use Rattle.sim_1_applications.specs.Devices as sessions
 use Rattle.sim_1_applications.specs.Runs.{begins, owned_of}
 use Rattle.sim_2_links.proofs.Onward.{moves_go}
@@ -87,7 +87,7 @@ left_of R (Some x) b both = (x, refl)
 
 -- ---- the course
 
-module _ (s : WireView) (right : IsWireSchedule s) (i : ℕ) (o : Owned) (owned : slice_get (owned_of s) i ≡ Some o) where
+module _ (s : WireView) (right : IsLineList s) (i : ℕ) (o : Owned) (owned : slice_get (owned_of s) i ≡ Some o) where
   abbrev beside : (j : ℕ) (W : ByteWorld) → slice_get (history_of s) j ≡ Some W → HasViews s W
   beside j W at = world_at s (history_of s) (begins s) (first_views s right) j W (chain_of s right) at
 

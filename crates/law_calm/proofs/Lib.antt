@@ -1,0 +1,9 @@
+-- what moves leave
+pub mod Changes
+pub mod Calm
+-- rounds
+pub mod Online
+pub mod Counts
+pub mod Quiet
+pub mod Sparing
+pub mod Settling

@@ -1,0 +1,2 @@
+-- law: rounds of a network that is calm, on the links of one device
+pub mod Rounds
