@@ -12,6 +12,7 @@ use Rattle.cmd_direct.specs.Direct.{as_logged}
 use Rattle.cmd_direct.specs.NextPages.{kept_after, page_at, purged}
 use Rattle.mam_log.specs.LogPages.{LogPage, last_id, log_of}
 use Rattle.mam_log.specs.declared.log_entry.LogEntry.{LogEntry}
+use Rattle.mam_archive.proofs.ChainPositions.{follow_take}
 
 -- one page: the greatest number that the archive had given, and how many entries were asked for
 pub record Turn : Type 0 where
@@ -152,11 +153,6 @@ cut_span s most last history low within =
           let size : min (s + most) last - s ≡ most = omega arith in
           take-take most (last - s) (drop s history) many ∙ ap (λ k. take k (drop s history)) (sym size)
     ]
-
-follow_take : (k s : ℕ) (es : List EntryView) → FollowFrom s es → FollowFrom s (take k es)
-follow_take zero s es follow = tt
-follow_take (suc k) s [] follow = tt
-follow_take (suc k) s (e ∷ es) follow = (follow.0, follow_take k (suc s) es follow.1)
 
 pub follow_span : (s t : ℕ) (history : List EntryView) → FollowFrom 1 history → FollowFrom (suc s) (span s t history)
 follow_span s t history follow =

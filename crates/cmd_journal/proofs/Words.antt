@@ -25,6 +25,7 @@ use Rattle.cmd_schedule.proofs.Numbers.{decimal_number, number_digits}
 use Rattle.cmd_schedule.proofs.Words.{Lacks, cut_after}
 use Rattle.cmd_schedule.specs.Reading.{last_field, next_field, not_empty}
 use Rattle.cmd_schedule.specs.Grammar as schedules
+use Rattle.cmd_schedule.proofs.Again.{lacks_append}
 
 -- ---- bytes that pass a test
 
@@ -40,11 +41,6 @@ ascii_from_all : (p : ℕ → Bool) → ((c : ℕ) → p c ≡ true → c < 128)
 ascii_from_all p low [] h i = omega arith
 ascii_from_all p low (b ∷ bytes) h zero = low b (and_parts (p b) (list_all p bytes) h).0
 ascii_from_all p low (b ∷ bytes) h (suc i) = ascii_from_all p low bytes (and_parts (p b) (list_all p bytes) h).1 i
-
-lacks_append : (c : ℕ) (xs ys : List ℕ) → Lacks c xs → Lacks c ys → Lacks c (xs ++ ys)
-lacks_append c [] ys hx hy i lt = hy i lt
-lacks_append c (x ∷ xs) ys hx hy zero lt = hx 0 (omega arith)
-lacks_append c (x ∷ xs) ys hx hy (suc i) lt = lacks_append c xs ys (λ j l. hx (suc j) (omega arith)) hy i (omega arith)
 
 -- what a line may be written with: no LF, and UTF-8
 pub record IsPlain (bytes : List ℕ) : Type 0 where

@@ -44,7 +44,7 @@ module _ {A : Type 0} where
   told_is None x e = absurd cc
   told_is (Some y) x e = ap (λ (z : A). Some z) (ok_is y x e)
 
-not_true : (b : Bool) → not b ≡ true → b ≡ false
+pub not_true : (b : Bool) → not b ≡ true → b ≡ false
 not_true true e = absurd cc
 not_true false e = refl
 

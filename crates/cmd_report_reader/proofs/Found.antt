@@ -10,7 +10,7 @@ use Rattle.std.specs.Str.{bytes_eq, is_utf8}
 use Rattle.cmd_report.specs.ReportText.{header_text, text_of}
 use Rattle.cmd_report.specs.Reports.{ReportView}
 use Rattle.cmd_report_reader.proofs.Joined.{cons_append}
-use Rattle.cmd_report_reader.proofs.Added.{line_added, told_text}
+use Rattle.cmd_report_reader.proofs.Added.{line_added, not_true, told_text}
 use Rattle.cmd_report_reader.proofs.LinesFound.{line_text, words_found}
 use Rattle.cmd_report_reader.specs.LineReading.{read_words}
 use Rattle.cmd_report_reader.specs.Reading.{at_line, read_first, read_heading, read_lines, read_next, read_one, read_pieces, read_two, read_version, report_reading, spelled}
@@ -129,10 +129,6 @@ adds_piece s further piece line ended is added rest =
     let here : text_of_piece piece rest ≡ piece.bytes ++ 10 ∷ rest = ended_text piece piece.bytes rest ended refl in
     let apart : piece.bytes ++ 10 ∷ rest ≡ line ++ rest = sym (append_assoc piece.bytes (10 ∷ []) rest) ∙ ap (λ (xs : List ℕ). xs ++ rest) is in
     ap (λ (xs : List ℕ). xs ++ rest) added ∙ append_assoc (told_text s) line rest ∙ ap (λ (xs : List ℕ). told_text s ++ xs) (sym (here ∙ apart))
-
-not_true : (b : Bool) → not b ≡ true → b ≡ false
-not_true true e = absurd cc
-not_true false e = refl
 
 next_found : (s further : SoFarView) (piece : Piece) → read_next s piece ≡ Ok further → AddsPiece s further piece
 unfolding read_next

@@ -9,6 +9,7 @@ use Rattle.cmd_sync.specs.ScriptReading.{fields_after}
 use Rattle.cmd_schedule.specs.Reading.{Piece, Cut, ◌>>=◌, wants, cut_of, not_empty, next_field, last_field}
 use Rattle.cmd_schedule.specs.declared.fault.LineWhy.{LineWhy}
 use Rattle.cmd_schedule.specs.declared.fault.LineWhy.TheVariants as why
+pub use Rattle.cmd_schedule.proofs.Found.{last_is}
 
 pub bind_ok : {A B : Type 0} (r : Result A LineWhy) (f : A → Result B LineWhy) (y : B) → (r >>= f) ≡ Ok y → (x : A) × (r ≡ Ok x) × (f x ≡ Ok y)
 bind_ok (Ok x) f y e = (x, refl, e)
@@ -56,10 +57,6 @@ next_is None cut e = absurd cc
 next_is (Some bytes) cut e =
     let k = kept (not_empty (cut_of bytes).front) (cut_of bytes) cut why.Shape e in
     ap (λ (xs : List ℕ). Some xs) (sym (ap (λ (c : Cut). with_rest c.front c.rest) (sym k.1) ∙ cut_back bytes))
-
-pub last_is : (fields : Option (List ℕ)) (field : List ℕ) → last_field fields ≡ Ok field → fields ≡ Some field
-last_is None field e = absurd cc
-last_is (Some bytes) field e = ap (λ (xs : List ℕ). Some xs) (kept (not_empty bytes && list_all (λ b. not (eqb b 32)) bytes) bytes field why.Shape e).1
 
 pub last_some : (fields : Option (List ℕ)) (field : List ℕ) → last_field fields ≡ Ok field → not_empty field ≡ true
 last_some None field e = absurd cc

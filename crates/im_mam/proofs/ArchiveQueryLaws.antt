@@ -28,12 +28,9 @@ use Rattle.mam_pages.specs.declared.query.PagePosition.{PagePosition}
 use Rattle.mam_pages.specs.declared.query.PagePosition.TheVariants.{First, After, Before, Last}
 use Rattle.im_stanza.specs.Errors.{trees_where}
 use Rattle.im_stanza.specs.Written.{IsNormal, unless_empty}
+use Rattle.im_mam.proofs.FinLaws.{item_stays}
 
 -- ---- what is written is a tree
-
-item_stays : (name : List ℕ) (given : Option (List ℕ)) → option_map tidied (set_item_where name given) ≡ set_item_where name given
-item_stays name None = refl
-item_stays name (Some t) = ap Some (λ i. element result_sets name [] (after_text t i))
 
 field_stays : (name : List ℕ) (given : Option (List ℕ)) → option_map tidied (field_where name given) ≡ field_where name given
 field_stays name None = refl

@@ -26,7 +26,7 @@ first_stays : (first : Option (List ℕ)) (index : Option ℕ) → option_map ti
 first_stays None index = refl
 first_stays (Some id) index = ap Some (λ i. element result_sets (codes "first") (attr_stays [] (codes "index") (option_map decimal index) i) (after_text id i))
 
-item_stays : (name : List ℕ) (given : Option (List ℕ)) → option_map tidied (set_item_where name given) ≡ set_item_where name given
+pub item_stays : (name : List ℕ) (given : Option (List ℕ)) → option_map tidied (set_item_where name given) ≡ set_item_where name given
 item_stays name None = refl
 item_stays name (Some t) = ap Some (λ i. element result_sets name [] (after_text t i))
 

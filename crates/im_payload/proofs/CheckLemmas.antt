@@ -6,6 +6,7 @@ use Rattle.im_payload.specs.Faults.{IsFault}
 use Rattle.im_payload.specs.declared.fault.ExtFault.{ExtFault}
 use Rattle.im_payload.specs.declared.fault.ExtFault.TheVariants.{NoMemory}
 use Rattle.im_payload.specs.declared.fault.Field.{Field}
+pub use Rattle.im_payload.proofs.FaultLemmas.{same_inside as same_value}
 
 -- this element, of which no field is wrong, is refused for want of memory alone
 pub right_refused : (is_this : Bool) (checks : List Check) (fault : ExtFault) → is_this ≡ true → first_wrong checks ≡ None → IsFault is_this (IsFirstWrong checks) fault → fault ≡ NoMemory
@@ -19,9 +20,6 @@ right_value (Some y) x field rest is right = right
 pub right_test : (test : Bool) (field : Field) (rest : List Check) → test ≡ true → first_wrong rest ≡ None → first_wrong ((test, field) ∷ rest) ≡ None
 right_test true field rest is right = right
 right_test false field rest is right = absurd (let p = is in cc)
-
-pub same_value : {A : Type 0} (x y : A) → Some x ≡ Some y → x ≡ y
-same_value x y same = cc
 
 -- checks behind others
 after_right : (test : Bool) (field : Field) (front following : List Check) → (first_wrong front ≡ None → first_wrong (front ++ following) ≡ first_wrong following) → first_wrong ((test, field) ∷ front) ≡ None

@@ -12,10 +12,7 @@ use Rattle.sm_outbox.specs.Sessions.{SessionView}
 use Rattle.sm_outbox.specs.Submissions.{said_of, with_said}
 use Rattle.sm_outbox.specs.declared.said.Said.{Said}
 use Rattle.xml_writer.specs.Items.{ItemOut}
-
-start_rendered : {A B : Type 0} (f : A → B) (c : ClientView A) (o : Option (SessionView A)) → catch_up_in (client_rendered f c) (option_map (session_rendered f) o) ≡ catch_up_in c o
-start_rendered f c None = refl
-start_rendered f c (Some s) = ap (λ n. if nat_le outbox_bound n then Err start.OutboxFull else (if is_some c.log.page then Err start.Underway else Ok tt)) (length-map s.waiting.queue f)
+use Rattle.law_client.proofs.TableRendered.{start_rendered}
 
 pub start_answer_rendered : {A B : Type 0} (f : A → B) (c : ClientView A) → catch_up_answer (client_rendered f c) ≡ catch_up_answer c
 start_answer_rendered f c = start_rendered f c c.session

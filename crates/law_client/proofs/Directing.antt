@@ -16,6 +16,7 @@ use Rattle.sm_outbox.specs.Sessions.{SessionView}
 use Rattle.sm_outbox.specs.Waiting.{Waiting, counted_in, is_too_high, queued, too_high}
 use Rattle.im_requests.specs.Sessions.{available_item, carbons_item}
 use Rattle.xml_trees.specs.Trees.{Elem}
+use Rattle.sm_acks.proofs.Senders.{counted_more as wraps}
 
 -- ---- the ends
 
@@ -27,9 +28,6 @@ sends_more w stanza kind d next s is =
       within = let size = length_push d.put stanza in let low = s.within in omega arith;
       queue = ap (λ q. q ++ stanza ∷ []) s.queue ∙ sym (drop-append-le d.acked d.put (stanza ∷ []) s.within);
     })
-
-wraps : (n : ℕ) → (n % 2 ^ 32 + 1) % 2 ^ 32 ≡ (n + 1) % 2 ^ 32
-wraps n = omega arith
 
 receives_more : {A : Type 0} (w : Waiting A) (d next : Direction A) → Receives w d → Moves Handle d next → Receives (counted_in w) next
 receives_more {A = A} w d next r (a, rest, way, is) =

@@ -94,7 +94,7 @@ say_in_rendered f c (Some s) = ap (λ n. if nat_le outbox_bound n then Err say.O
 pub answer_rendered : {A B : Type 0} (f : A → B) (c : ClientView A) (text : List ℕ) → say_answer (client_rendered f c) text ≡ say_answer c text
 answer_rendered f c text = ap (λ answer. if is_bad_text text then Err say.BadText else answer) (say_in_rendered f c c.session)
 
-start_rendered : {A B : Type 0} (f : A → B) (c : ClientView A) (o : Option (SessionView A)) → catch_up_in (client_rendered f c) (option_map (session_rendered f) o) ≡ catch_up_in c o
+pub start_rendered : {A B : Type 0} (f : A → B) (c : ClientView A) (o : Option (SessionView A)) → catch_up_in (client_rendered f c) (option_map (session_rendered f) o) ≡ catch_up_in c o
 start_rendered f c None = refl
 start_rendered f c (Some s) = ap (λ n. if nat_le outbox_bound n then Err start.OutboxFull else (if is_some c.log.page then Err start.Underway else Ok tt)) (length-map s.waiting.queue f)
 

@@ -22,18 +22,12 @@ use Rattle.cmd_schedule.specs.Schedules.{ScheduleView, keep_of, steps_of}
 use Rattle.cmd_schedule.specs.declared.schedule.Step.{Step}
 use Rattle.law_commands.proofs.HistoriesGrow.{Extends, archive_grows, front_few, front_is, fronts_of, newest_none}
 use Rattle.law_commands.specs.OfWorlds.{AreAskedFirst, AreFronts, AreKeptOf, AreMarksRight, ArePagesAsked, IsArchiveOf, IsFirst, IsLast, IsOfWorlds}
-
-waits_not : (x : SaidMark) → x ≡ Acknowledged → x ≡ Waiting → ⊥
-waits_not x one other = let bad : ⊥ = cc in bad
+use Rattle.law_commands.proofs.Marks.{clash as waits_not}
+use Rattle.law_commands.proofs.Worlds.{either}
 
 unmap : {A B : Type 0} (P : B → Type 0) (f : A → B) (xs : List A) → AllByRecursion P (map f xs) → AllByRecursion (λ x. P (f x)) xs
 unmap P f [] all = tt
 unmap P f (x ∷ xs) all = (all.0, unmap P f xs all.1)
-
-either : (k n : ℕ) → (n ≤ k) ⊎ (k < n)
-either k zero = inl (omega arith)
-either zero (suc n) = inr (omega arith)
-either (suc k) (suc n) = elim (either k n) [ inl low ↦ inl (omega (arith, low)) | inr high ↦ inr (omega (arith, high)) ]
 
 -- what keeps as many entries as there are keeps all
 all_kept : (keep : ℕ) (history : List EntryView) → length history ≡ length (newest keep history) → length history ≤ keep

@@ -29,7 +29,7 @@ marked acked mark (Presence ∷ zs) = marked (acked - 1) mark zs
 marked acked mark (Query r ∷ zs) = marked (acked - 1) mark zs
 marked acked mark (Message m ∷ zs) = (chosen (nat_lt 0 acked) mark, marked (acked - 1) mark zs)
 
-clash : (x : SaidMark) → x ≡ Acknowledged → x ≡ Waiting → ⊥
+pub clash : (x : SaidMark) → x ≡ Acknowledged → x ≡ Waiting → ⊥
 clash x one other = let bad : ⊥ = cc in bad
 
 apart : (x : SaidMark) → x ≡ Acknowledged → x ≡ Undecided → ⊥

@@ -7,7 +7,7 @@ use Rattle.cmd_report.specs.Worlds.{ReportWorld}
 use Rattle.cmd_schedule.specs.Schedules.{ScheduleView}
 use Rattle.law_commands.specs.OfWorlds.{AreAskedFirst, ArePagesAsked, HasMove, IsFirst, IsLast, IsOfWorlds}
 
-either : (k n : ℕ) → (n ≤ k) ⊎ (k < n)
+pub either : (k n : ℕ) → (n ≤ k) ⊎ (k < n)
 either k zero = inl (omega arith)
 either zero (suc n) = inr (omega arith)
 either (suc k) (suc n) = elim (either k n) [ inl low ↦ inl (omega (arith, low)) | inr high ↦ inr (omega (arith, high)) ]

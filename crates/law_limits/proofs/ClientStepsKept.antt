@@ -5,7 +5,7 @@ use Rattle.cl_core.specs.Steps.{connected_step, element_row, handles, item_step,
 use Rattle.cl_core.specs.UserCalls.{catches_up, catches_up_in, closes, dials, forgets, leaves, says, submission_of, submits}
 use Rattle.law_limits.proofs.ClientLoginsKept.{dialed_within, header_within, login_within}
 use Rattle.law_limits.proofs.ClientMessagesKept.{message_within}
-use Rattle.law_limits.proofs.PagesKept.{begun_page_within, iq_within, requested_within}
+use Rattle.law_limits.proofs.PagesKept.{begun_page_within, iq_within, next_low, requested_within}
 use Rattle.law_limits.proofs.SessionsKept.{IsLowAck, ack_low, acks_within, binding_within, enabling_within, features2_within, request_within, resuming_within}
 use Rattle.law_limits.proofs.TurnsKept.{drops_within, ends_within, footer_within, left_within, notes_within, session_within, within_either}
 use Rattle.law_limits.specs.Answerable.{AreAnswerable, IsAnswerable, IsItemAnswerable, IsPieceAnswerable}
@@ -122,9 +122,6 @@ submitted_within t (Some s) item said h within fit =
     let kept : IsClientStepWithin (record t { client = record t.client { n = said.n; said = with_said t.client.said said } }) =
     record { client = record { account = c.account; log = c.log; epoch = c.epoch; session = c.session; phase = c.phase }; put = h.put } in
     requested_within _ s item true kept within fit
-
-next_low : (n : ℕ) → next_number n < 2 ^ 64
-next_low n = omega arith
 
 pub says_within : (t : ClientStep ItemOut ItemOut) (to text : List ℕ) (private : Bool) → IsTextWithin most_address to → IsTextWithin most_text text → IsClientStepWithin t → IsClientStepWithin (says in_items t to text private)
 says_within t to text private to_short text_short h =

@@ -6,7 +6,7 @@ use Rattle.std.proofs.lemmas.Option.{same_Some}
 use Rattle.std.proofs.lemmas.Slice.Eq.{bytes_eq-Decides}
 use Rattle.std.specs.Option.{option_map}
 use Rattle.xml_names.specs.Scopes.{xml_namespace}
-use Rattle.law_limits.proofs.TextSizes.{text_append, text_nothing}
+use Rattle.law_limits.proofs.TextSizes.{either_short as shorter, text_append, text_nothing}
 use Rattle.law_limits.specs.Elements.{are_local, attributes_size, element_size, nodes_size}
 use Rattle.law_limits.specs.Texts.{text_size, value_size}
 use Rattle.im_stanza.specs.Written.{attr_where, unless_empty}
@@ -18,15 +18,14 @@ use Rattle.xml_trees.specs.Readers.{attr_of, text_of}
 use Rattle.xml_trees.specs.Tidied.{text_node, texts_joined}
 use Rattle.xml_trees.specs.Trees.{Elem, Nodes, child, element, joined, namespace_of, no_nodes, nodes_of, text}
 use Rattle.xml_writer.specs.Canon.{after_attributes, assignment, assignments, declared_default, declares_default, default_inside, has_nothing, is_foreign, next_number, number_text, opened, spelled, spelled_attribute, spelled_attributes, spelled_name, streams_namespace, tag_attributes, written, written_nodes}
+use Rattle.base_lemmas.proofs.Bytes.{same-from_bytes_eq as same_bytes}
+use Rattle.law_limits.proofs.Spelled.{joined_long as assignments_add, name_short as name_written}
 
 -- ---- attributes as they are spelled
 
 pub assignment_is : (name value : List ℕ) → length (assignment (spelled name value)) ≡ 4 + length name + value_size value
 unfolding assignment value_size
 assignment_is name value = omega (arith, length-append name (61 ∷ 39 ∷ (spelled_value value ++ (39 ∷ []))), length-append (spelled_value value) (39 ∷ []))
-
-assignments_add : (xs ys : List tokens.Attribute) → length (assignments (xs ++ ys)) ≡ length (assignments xs) + length (assignments ys)
-assignments_add xs ys = ap length (flat_map-append assignment xs ys) ∙ length-append (assignments xs) (assignments ys)
 
 one_assignment : (name value : List ℕ) → length (assignments (spelled name value ∷ [])) ≡ 4 + length name + value_size value
 one_assignment name value = let one = assignment_is name value in omega (arith, one, length-append (assignment (spelled name value)) [])
@@ -82,16 +81,6 @@ default_written default ns =
     ]
 
 -- ---- tags
-
-shorter : (b : Bool) (n : ℕ) (xs ys : List ℕ) → length xs ≤ n → length ys ≤ n → length (cond b xs ys) ≤ n
-shorter true n xs ys h k = h
-shorter false n xs ys h k = k
-
-name_written : (ns name : List ℕ) → length (spelled_name ns name) ≤ 7 + length name
-unfolding spelled_name
-name_written ns name =
-    shorter (bytes_eq ns streams_namespace) (7 + length name) (codes "stream:" ++ name) (cond (bytes_eq ns xml_namespace) (codes "xml:" ++ name) name) (omega (arith, length-append (codes "stream:") name))
-    (shorter (bytes_eq ns xml_namespace) (7 + length name) (codes "xml:" ++ name) name (omega (arith, length-append (codes "xml:") name)) (omega arith))
 
 after_written : (b : Bool) (ns name inside : List ℕ) → length (after_attributes b ns name inside) ≤ 11 + length name + length inside
 after_written true ns name inside = omega arith
@@ -214,10 +203,6 @@ text_of_size default (child e rest) = let after = text_of_size default rest in o
 text_of_size default (text t rest) = let after = text_of_size default rest in omega (arith, after, text_append t (text_of rest), texts_size default t rest)
 
 -- ---- less of an element
-
--- the language, if it is there, as it is spelled
-same_bytes : (s t : List ℕ) → bytes_eq s t ≡ true → s ≡ t
-same_bytes s t e = (bytes_eq-Decides s t).0 e
 
 language_spelled : (n : ℕ) (a : Attribute) → has_name xml_namespace (codes "lang") a ≡ true → 12 + value_size a.value ≤ length (assignments (spelled_attribute n a))
 unfolding spelled_attribute

@@ -68,7 +68,7 @@ text_characters (text t rest) h = characters_append t (text_of rest) h.0 (text_c
 
 -- ---- bodies
 
-le_self : (n : ℕ) → n ≤ n
+pub le_self : (n : ℕ) → n ≤ n
 le_self n = omega arith
 
 language_bounded : (o : Option (List ℕ)) → IfSome o IsCharacters → (m : ℕ) × BoundedAttributes 1 m (attr_where xml_ns (codes "lang") (unless_empty (unwrap_or o [])))

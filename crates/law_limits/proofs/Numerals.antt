@@ -8,6 +8,7 @@ use Rattle.std.specs.List.{list_all}
 use Rattle.base_lemmas.specs.Hexadecimal.{hex16_of, hex_digit, hex_digits}
 use Rattle.law_limits.proofs.Characters.{printable_append, said_printable}
 use Rattle.law_limits.specs.Texts.{Said, is_printable}
+pub use Rattle.base_lemmas.proofs.HexDigits.{length-hex_digits as hex_length}
 
 -- ---- hexadecimal
 
@@ -17,10 +18,6 @@ digit_printable n small = grind (arith, nat_tests)
 pub hex_printable : (k n : ℕ) → list_all is_printable (hex_digits k n) ≡ true
 hex_printable zero n = refl
 hex_printable (suc k) n = printable_append (hex_digits k (n / 16)) (hex_digit (n % 16) ∷ []) (hex_printable k (n / 16)) (and_from _ _ (digit_printable (n % 16) (omega arith)) refl)
-
-pub hex_length : (k n : ℕ) → length (hex_digits k n) ≡ k
-hex_length zero n = refl
-hex_length (suc k) n = let front = hex_length k (n / 16) in omega (arith, front, length-append (hex_digits k (n / 16)) (hex_digit (n % 16) ∷ []))
 
 pub said_hex : (n : ℕ) → Said 96 (hex16_of n)
 unfolding hex16_of

@@ -52,7 +52,7 @@ last_within [] h = tt
 last_within (e ∷ []) h = h.0
 last_within (e ∷ f ∷ es) h = last_within (f ∷ es) h.1
 
-next_low : (n : ℕ) → next_number n < 2 ^ 64
+pub next_low : (n : ℕ) → next_number n < 2 ^ 64
 next_low n = omega arith
 
 numbered_within : (t : ClientStep ItemOut ItemOut) → IsClientStepWithin t → IsClientStepWithin (numbered t)

@@ -35,6 +35,7 @@ use Rattle.xml_trees.specs.Attributes.{attribute}
 use Rattle.xml_trees.specs.Tidied.{text_node, texts_joined}
 use Rattle.xml_trees.specs.Trees.{Elem, Nodes, child, depth_below, joined, no_nodes, text}
 use Rattle.xml_writer.specs.Canon.{default_inside}
+use Rattle.xml_trees.proofs.TidyReads.{depth_below-text_node as run_depth}
 
 -- ---- a payload without the ids that an address gave
 
@@ -80,10 +81,6 @@ run_plain (c ∷ cs) more h k = (h, k)
 run_tags : (default run : List ℕ) (more : Nodes) → NodesFit client_tags default more → NodesFit client_tags default (joined (text_node run) more)
 run_tags default [] more k = k
 run_tags default (c ∷ cs) more k = k
-
-run_depth : (run : List ℕ) (more : Nodes) → depth_below (joined (text_node run) more) ≡ depth_below more
-run_depth [] more = refl
-run_depth (c ∷ cs) more = refl
 
 text_plain : (run : List ℕ) → IsCharacters run → ArePlainNodes (text_node run)
 text_plain [] h = tt

@@ -22,11 +22,9 @@ use Rattle.xml_trees.specs.Attributes.{Attribute, attribute}
 use Rattle.xml_trees.specs.Tidied.{text_node}
 use Rattle.xml_trees.specs.Trees.{Elem, IsTree, Nodes, child, depth_below, element, joined, name_of, namespace_of, no_nodes, text}
 use Rattle.xml_writer.specs.Canon.{declared_default, declares_default, default_inside, is_foreign, next_number, spelled_attribute, spelled_attributes, streams_namespace}
+use Rattle.base_lemmas.proofs.Bytes.{other-from_bytes_eq as differs}
 
 -- ---- words that are written out
-
-differs : (s t : List ℕ) → bytes_eq s t ≡ false → s ≢ t
-differs s t e is = false≢true (sym e ∙ (bytes_eq-Decides s t).1 is)
 
 pub word : (name : List ℕ) → is_word name ≡ true → IsWord name
 word name h =

@@ -17,7 +17,7 @@ use Rattle.im_payload.proofs.Numbers.{required_fits}
 use Rattle.im_payload.specs.Names.{binding}
 use Rattle.im_payload.specs.Readings.{where_this}
 use Rattle.im_payload.specs.declared.fault.ExtFault.{ExtFault}
-use Rattle.law_limits.proofs.Forwarding.{attribute_characters, text_characters}
+use Rattle.law_limits.proofs.Forwarding.{attribute_characters, le_self, text_characters}
 use Rattle.law_limits.proofs.Requests.{inside_client}
 use Rattle.law_limits.specs.Bounded.{client_tags}
 use Rattle.law_limits.specs.Messages.{MessageFits}
@@ -99,9 +99,6 @@ address_fits name e (Some value) address h is some =
     subst (λ o. IfSome o (Said 18426)) (sym some.2) (normal_said value some.0 (attribute_characters [] name e value h is) some.1)
 
 -- ---- messages
-
-le_self : (n : ℕ) → n ≤ n
-le_self n = omega arith
 
 id_and_payload : (e : Elem) (o : Option (List ℕ)) → IsHandled e → namespace_of e ≡ client_ns → attr_named (codes "id") e ≡ o → value_size (unwrap_or o []) + nodes_size client_ns (nodes_of e) ≤ 1048576
 id_and_payload e None h own is =

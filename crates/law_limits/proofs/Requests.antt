@@ -37,14 +37,10 @@ use Rattle.xml_trees.specs.Attributes.{attribute}
 use Rattle.xml_trees.specs.Tidied.{text_node, tidied, tidied_nodes}
 use Rattle.xml_trees.specs.Trees.{Elem, IsTree, Nodes, element, no_nodes, child}
 use Rattle.xml_writer.specs.Canon.{default_inside}
+pub use Rattle.im_forwarding.proofs.PartSteps.{client_inside as inside_client}
 
 pub stays_tree : (e : Elem) → tidied e ≡ e → IsTree e
 stays_tree e stays = subst IsTree stays (tidied_IsTree e)
-
--- the default namespace inside a stanza
-pub inside_client : (default : List ℕ) → default_inside default client_ns ≡ client_ns
-unfolding default_inside
-inside_client default = refl
 
 pub unless_said : (m : ℕ) (t : List ℕ) → Said m t → IfSome (unless_empty t) (Said m)
 unless_said m [] h = tt

@@ -47,6 +47,7 @@ use Rattle.law_limits.proofs.Numerals.{decimal_printable}
 use Rattle.law_limits.specs.Texts.{is_printable}
 use Rattle.xml_trees.specs.Readers.{text_of}
 use Rattle.xml_trees.specs.Trees.{Elem, nodes_of}
+use Rattle.law_limits.proofs.ShortReads.{encoded_long as encoded_longer}
 
 -- ---- conditions
 
@@ -113,9 +114,6 @@ first_bytes (suc n) [] h = refl
 first_bytes (suc n) (b ∷ t) h = let parts = and_parts (is_byte b) (list_all is_byte t) h in and_from _ _ parts.0 (first_bytes n t parts.1)
 
 -- ---- the client's first message
-
-encoded_longer : (bytes : List ℕ) → length bytes ≤ length (encode_of standard bytes)
-encoded_longer bytes = let long = length_of bytes in omega (arith, long)
 
 pub take_shorter : (n : ℕ) (xs : List ℕ) → length (take n xs) ≤ length xs
 take_shorter zero xs = omega arith

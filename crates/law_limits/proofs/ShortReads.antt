@@ -205,7 +205,7 @@ text_utf8 no_nodes plain = IsUtf8-nil
 text_utf8 (child e rest) plain = text_utf8 rest plain.1
 text_utf8 (text t rest) plain = IsUtf8-append t (text_of rest) plain.0.utf8 (text_utf8 rest plain.1)
 
-encoded_long : (bytes : List ℕ) → length bytes ≤ length (encode_of standard bytes)
+pub encoded_long : (bytes : List ℕ) → length bytes ≤ length (encode_of standard bytes)
 encoded_long [] = omega arith
 encoded_long (a ∷ []) = rw (one_text a) (omega arith)
 encoded_long (a ∷ b ∷ []) = rw (two_text a b) (omega arith)

@@ -48,7 +48,7 @@ pub record AreShort (attrs : List Attribute) (l : List tokens.Attribute) : Type 
   pub bytes : length (assignments l) ≤ attributes_cost attrs
   pub count : length l ≤ length attrs
 
-joined_long : (xs ys : List tokens.Attribute) → length (assignments (xs ++ ys)) ≡ length (assignments xs) + length (assignments ys)
+pub joined_long : (xs ys : List tokens.Attribute) → length (assignments (xs ++ ys)) ≡ length (assignments xs) + length (assignments ys)
 joined_long xs ys = rw (flat_map-append assignment xs ys) (length-append (assignments xs) (assignments ys))
 
 pub attributes_short : (n : ℕ) (attrs : List Attribute) → AllByRecursion (λ (a : Attribute). is_calm a.ns ≡ true) attrs → AreShort attrs (spelled_attributes n attrs)

@@ -17,19 +17,12 @@ use Rattle.law_limits.proofs.ServerLoginsKept.{all_bytes, first_bytes, take_shor
 use Rattle.law_limits.specs.Keeps.{AccountKeeps, ArchiveKeeps, ServerKeeps}
 use Rattle.law_limits.proofs.SizesOfAddresses.{domain_said, local_said}
 use Rattle.law_limits.specs.Texts.{Said}
+use Rattle.auth_primitives.proofs.ByteSteps.{IsBytes-append as bytes_append, IsBytes-cons as bytes_cons}
 
 -- ---- digests are bytes
 
-bytes_cons : (x : ℕ) (xs : List ℕ) → x < 256 → IsBytes xs → IsBytes (x ∷ xs)
-bytes_cons x xs here below zero = here
-bytes_cons x xs here below (suc i) = below i
-
 bytes_nil : IsBytes []
 bytes_nil i = lit< tt
-
-bytes_append : (xs ys : List ℕ) → IsBytes xs → IsBytes ys → IsBytes (xs ++ ys)
-bytes_append [] ys p q = q
-bytes_append (x ∷ xs) ys p q = bytes_cons x (xs ++ ys) (p 0) (bytes_append xs ys (λ i. p (suc i)) q)
 
 pub byte_at_small : (k n : ℕ) → byte_at k n < 256
 byte_at_small zero n = mod-lt n (lit< tt)

@@ -5,7 +5,7 @@ use Rattle.law_limits.specs.Texts.{text_size, value_size}
 use Rattle.xml_tokens.specs.Spelling.{spelled_text, spelled_value, text_byte, value_byte}
 
 -- the shorter and the longer of two choices
-either_short : (b : Bool) (n : ℕ) (xs ys : List ℕ) → length xs ≤ n → length ys ≤ n → length (cond b xs ys) ≤ n
+pub either_short : (b : Bool) (n : ℕ) (xs ys : List ℕ) → length xs ≤ n → length ys ≤ n → length (cond b xs ys) ≤ n
 either_short true n xs ys h k = h
 either_short false n xs ys h k = k
 

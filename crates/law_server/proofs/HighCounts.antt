@@ -39,6 +39,7 @@ use Rattle.law_server.specs.Gone.{EndsAlone, IsGone, IsLoggedIn}
 use Rattle.law_server.specs.Numbers.{HaveNumbers, Rise}
 use Rattle.xml_trees.specs.Trees.{Elem}
 use Rattle.xml_writer.specs.Items.{Closing, ItemOut}
+use Rattle.sm_resumption.proofs.StoredFacts.{at_conn as conn_is}
 
 -- ---- the acts of an element behind a login
 
@@ -176,10 +177,6 @@ others {A = A} m p ss passes = by (session_of m ss) refl
     by : (o : Option (Session A)) → session_of m ss ≡ o → session_of m (filter p ss) ≡ o
     by None is = none_some (is_numbered m) p ss is
     by (Some u) is = found_kept (is_numbered m) p ss u is (passes u is)
-
-conn_is : (k : ℕ) (o : Option ℕ) → is_some_number k o ≡ true → o ≡ Some k
-conn_is k None is = absurd (false≢true is)
-conn_is k (Some m) is = ap Some (same_from_eqb m k is)
 
 apart : (m n : ℕ) → (m == n) ≡ false → m ≡ n → ⊥
 apart m n other same = false≢true (sym other ∙ ap (λ x. x == n) same ∙ eqb_same n)

@@ -16,6 +16,7 @@ use Rattle.im_replies.specs.Streams.{error_item}
 use Rattle.im_replies.specs.declared.conditions.StreamCondition.TheVariants.{ResourceConstraint}
 use Rattle.law_server.specs.Numbers.{HaveNumbers, Rise}
 use Rattle.xml_writer.specs.Items.{Closing, ItemOut}
+use Rattle.law_server.proofs.SessionWalks.{number_either}
 
 -- ---- lists of sessions
 
@@ -41,10 +42,6 @@ pub rise_same : {A : Type 0} (f : Session A → Session A) → ((s : Session A) 
 rise_same f same from next [] rise = rise
 rise_same f same from next (s ∷ ss) rise =
     (subst (λ n. from ≤ n) (sym (same s)) rise.0, subst (λ n. Rise (n + 1) next (map f ss)) (sym (same s)) (rise_same f same (s.shown.number + 1) next ss rise.1))
-
-number_either : {A : Type 0} (b : Bool) (s t : Session A) → t.shown.number ≡ s.shown.number → (cond b t s).shown.number ≡ s.shown.number
-number_either true s t same = same
-number_either false s t same = refl
 
 rise_changed : {A : Type 0} (n : ℕ) (f : Session A → Session A) → ((s : Session A) → (f s).shown.number ≡ s.shown.number) → (from next : ℕ) (ss : List (Session A)) → Rise from next ss → Rise from next (with_session n f ss)
 rise_changed n f same from next ss rise = rise_same (λ s. cond (s.shown.number == n) (f s) s) (λ s. number_either (s.shown.number == n) s (f s) (same s)) from next ss rise

@@ -21,6 +21,7 @@ use Rattle.srv_state.specs.State.{changed, is_number}
 use Rattle.srv_state.specs.declared.connection.Connection.{Connection}
 use Rattle.srv_state.specs.declared.connection.Phase.{Phase}
 use Rattle.srv_state.specs.declared.connection.Phase.TheVariants as phase
+pub use Rattle.sm_resumption.proofs.StoredFacts.{at_conn as conn_is}
 
 -- ---- numbers of connections
 
@@ -33,10 +34,6 @@ number_apart j k apart =
       | inl same ↦ absurd (false≢true (sym apart ∙ eq-eqb j k (number_same j k same)))
       | inr other ↦ other
     ]
-
-pub conn_is : (k : ℕ) (o : Option ℕ) → is_some_number k o ≡ true → o ≡ Some k
-conn_is k None is = absurd (false≢true is)
-conn_is k (Some j) is = ap (λ (n : ℕ). Some n) (eqb-true j k is)
 
 second : (a b c : Bool) → (a && b && c) ≡ true → b ≡ true
 second true true c is = refl

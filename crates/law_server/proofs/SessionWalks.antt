@@ -31,7 +31,7 @@ Holds P h = P h.sessions h.next
 
 -- ---- lists of sessions
 
-number_either : {A : Type 0} (b : Bool) (s t : Session A) → t.shown.number ≡ s.shown.number → (cond b t s).shown.number ≡ s.shown.number
+pub number_either : {A : Type 0} (b : Bool) (s t : Session A) → t.shown.number ≡ s.shown.number → (cond b t s).shown.number ≡ s.shown.number
 number_either true s t same = same
 number_either false s t same = refl
 

@@ -9,7 +9,7 @@ use Rattle.xml_framer.proofs.Pieces.{run_append}
 use Rattle.law_xml.proofs.CountLaws.{takes}
 use Rattle.law_xml.proofs.FaultLaws.{goes}
 use Rattle.law_xml.proofs.OffsetRuns.{fault_at_token}
-use Rattle.law_xml.proofs.OneHand.{markup_held, reference_held}
+use Rattle.law_xml.proofs.OneHand.{heads, markup_held, reference_held}
 use Rattle.law_xml.proofs.OneOffset.{one_offset}
 use Rattle.law_xml.proofs.RowsDecide.{rows_of_bytes}
 use Rattle.law_xml.proofs.RunPositions.{no_fault_before, taken_pending}
@@ -27,12 +27,7 @@ use Rattle.xml_framer.specs.declared.fault.Why.TheVariants as why
 use Rattle.xml_framer.specs.declared.limits.Limits.{Limits}
 use Rattle.xml_framer.specs.declared.states.Mode.{Mode}
 use Rattle.xml_framer.specs.declared.states.Mode.TheVariants as mode
-
-heads : (x y : ℕ) (xs ys : List ℕ) → x ∷ xs ≡ y ∷ ys → x ≡ y
-heads x y xs ys e = cc
-
-some_none : (x : ℕ) (xs : List ℕ) → x ∷ xs ≡ [] → ⊥
-some_none x xs e = cc
+use Rattle.law_xml.proofs.OffsetMarks.{some_none}
 
 no_tail : (front : List ℕ) (x : ℕ) (xs : List ℕ) → [] ≡ front ++ x ∷ xs → ⊥
 no_tail [] x xs e = some_none x xs (sym e)
@@ -41,10 +36,10 @@ no_tail (y ∷ ys) x xs e = some_none y (ys ++ x ∷ xs) (sym e)
 bang_question : (xs ys : List ℕ) → 33 ∷ xs ≡ 63 ∷ ys → ⊥
 bang_question xs ys e = let f : ◌≡◌ {A = ℕ} 33 63 = heads 33 63 xs ys e in omega (arith, f)
 
-sixty : ◌≡◌ {A = ℕ} 60 38 → ⊥
+pub sixty : ◌≡◌ {A = ℕ} 60 38 → ⊥
 sixty e = omega (arith, e)
 
-thirty : ◌≡◌ {A = ℕ} 38 60 → ⊥
+pub thirty : ◌≡◌ {A = ℕ} 38 60 → ⊥
 thirty e = omega (arith, e)
 
 not_long : why.Encoding ≢ why.TooLong

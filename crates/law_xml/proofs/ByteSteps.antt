@@ -12,6 +12,7 @@ use Rattle.xml_framer.specs.States.{State, counted, gathered, turn}
 use Rattle.xml_framer.specs.declared.items.Item.{Item}
 use Rattle.xml_framer.specs.declared.limits.Limits.{Limits}
 use Rattle.xml_framer.specs.declared.states.Mode.{Mode}
+pub use Rattle.law_xml.proofs.TagRuns.{alike_after as alike_then}
 
 -- ---- room
 
@@ -62,15 +63,6 @@ pub record Kept (s t : State) (n : ℕ) : Type 0 where
 pub alike_same : (s : State) → AreAlike s s
 alike_same s = record { limits = refl; here = refl; below = refl; scopes = refl; name = refl; phase = refl; spent = refl }
 
-pub alike_then : (s t u : State) → AreAlike s t → AreAlike t u → AreAlike s u
-alike_then s t u a b = record {
-  limits = b.limits ∙ a.limits;
-  here = b.here ∙ a.here;
-  below = b.below ∙ a.below;
-  scopes = b.scopes ∙ a.scopes;
-  name = b.name ∙ a.name;
-  phase = b.phase ∙ a.phase;
-  spent = b.spent ∙ a.spent;
 }
 
 pub kept_none : (s : State) → Kept s s 0

@@ -114,7 +114,7 @@ kept_default scope d ns name attrs f plain sorted same =
       others = all_said 0 attrs plain [] scope (λ m le outer. refl);
     }
 
-declares_empty : declared_prefix (codes "xmlns") ≡ Some []
+pub declares_empty : declared_prefix (codes "xmlns") ≡ Some []
 unfolding declared_prefix
 declares_empty = refl
 

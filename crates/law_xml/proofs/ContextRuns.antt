@@ -15,7 +15,7 @@ use Rattle.xml_framer.specs.TagSteps.{covered, scope_in, tag_limits, text_joined
 use Rattle.xml_framer.specs.declared.items.Item.{Item}
 use Rattle.xml_framer.specs.declared.limits.Limits.{Limits}
 use Rattle.xml_framer.specs.declared.states.Phase.TheVariants as phase
-use Rattle.law_xml.proofs.ContextsTold.{context_of, names_of, opens_of}
+use Rattle.law_xml.proofs.ContextsTold.{context_of, count_names, names_of, opens_of, some_none}
 use Rattle.law_xml.proofs.ElementRuns.{HasRead, content_read, deeper_in, level_read}
 use Rattle.law_xml.proofs.ElementStates.{HasBegun, IsCovered, opened, room_front, room_rest, split_run}
 use Rattle.law_xml.proofs.ElementTags.{MayBegin}
@@ -26,9 +26,6 @@ use Rattle.law_xml.specs.Contexts.{AreOpen, Context, HasContext, OpensElement}
 use Rattle.law_xml.specs.Spells.{IsBegun, IsHeaderName}
 use Rattle.law_xml.specs.Standing.{StandsOutside}
 use Rattle.law_xml.specs.Within.{AreTagsWithinContent}
-
-some_none : (x : List ℕ) (xs : List (List ℕ)) → x ∷ xs ≡ [] → ⊥
-some_none x xs e = cc
 
 is_open : (o : Option OpenElement) (below : List OpenElement) (x : List ℕ) (xs : List (List ℕ)) → opens_of o below ≡ x ∷ xs → is_some o ≡ true
 is_open None below x xs e = absurd (some_none x xs (sym e))
@@ -41,10 +38,6 @@ none_open (Some o) below e = absurd (some_none o.spelled (names_of below) e)
 none_below : (o : Option OpenElement) (below : List OpenElement) → o ≡ None → IsCovered o below → below ≡ []
 none_below o below none (inl e) = absurd (true≢false (sym e ∙ ap is_some none))
 none_below o below none (inr e) = e.1
-
-count_names : (os : List OpenElement) → length (names_of os) ≡ length os
-count_names [] = refl
-count_names (o ∷ os) = let n = count_names os in omega (arith, n)
 
 count_with : (o : Option OpenElement) (below : List OpenElement) → (if is_some o then length below + 1 else 0) ≡ length (opens_of o below)
 count_with None below = refl

@@ -9,17 +9,12 @@ use Rattle.xml_framer.specs.Readings.{framed}
 use Rattle.xml_framer.specs.States.{Turn, from_start, is_text, turn}
 use Rattle.xml_framer.specs.declared.limits.Limits.{Limits}
 use Rattle.law_xml.proofs.ContextsTold.{context_of}
-use Rattle.law_xml.proofs.OneHand.{markup_held, text_read}
+use Rattle.law_xml.proofs.OneHand.{heads, markup_held, text_read}
 use Rattle.law_xml.proofs.RunPositions.{no_fault_before}
 use Rattle.law_xml.proofs.TokenStays.{Same, text_keeps, token_keeps}
 use Rattle.law_xml.specs.Offsets.{AreBefore, AreTokens, IsOpen, IsRun, has_declaration_end, is_no_markup, is_open_tag, leads_tag, open_declaration, open_section, open_tag, opening_declaration, opening_section}
 use Rattle.law_xml.specs.Texts.{has_section_end}
-
-heads : (x y : ℕ) (xs ys : List ℕ) → x ∷ xs ≡ y ∷ ys → x ≡ y
-heads x y xs ys e = cc
-
-tails : (x y : ℕ) (xs ys : List ℕ) → x ∷ xs ≡ y ∷ ys → xs ≡ ys
-tails x y xs ys e = cc
+use Rattle.law_xml.proofs.OffsetMarks.{declaration_front, tails}
 
 -- ---- the first bytes of what is open are open
 
@@ -36,11 +31,6 @@ section_front [] q h = refl
 section_front (a ∷ []) q h = refl
 section_front (a ∷ b ∷ []) q h = refl
 section_front (a ∷ b ∷ c ∷ cs) q h = let r = or_parts _ _ h in or_from _ _ r.0 (section_front (b ∷ c ∷ cs) q r.1)
-
-declaration_front : (p q : List ℕ) → has_declaration_end (p ++ q) ≡ false → has_declaration_end p ≡ false
-declaration_front [] q h = refl
-declaration_front (a ∷ []) q h = refl
-declaration_front (a ∷ b ∷ bs) q h = let r = or_parts _ _ h in or_from _ _ r.0 (declaration_front (b ∷ bs) q r.1)
 
 -- the front of a list that begins with a word
 abbrev Parts : List ℕ → List ℕ → List ℕ → List ℕ → Type 0

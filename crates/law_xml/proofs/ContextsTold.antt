@@ -52,7 +52,7 @@ none_below : (o : OpenElement) (os : List OpenElement) → TopIsNoHeader o os �
 none_below o [] h = tt
 none_below o (p ∷ ps) h = h
 
-some_none : (x : List ℕ) (xs : List (List ℕ)) → x ∷ xs ≡ [] → ⊥
+pub some_none : (x : List ℕ) (xs : List (List ℕ)) → x ∷ xs ≡ [] → ⊥
 some_none x xs e = cc
 
 no_header : (limits : Limits) (around own : Scope) (o : OpenElement) (os : List OpenElement) (level : List ℕ) (h : CoveredLevel limits around own o level) → TopIsNoHeader o os → names_of os ≡ []
@@ -60,7 +60,7 @@ no_header : (limits : Limits) (around own : Scope) (o : OpenElement) (os : List 
 no_header limits around own o [] level h top none named = top (ap namespace_of h.element_is ∙ named.0, ap name_of h.element_is ∙ named.1)
 no_header limits around own o (p ∷ ps) level h top none named = absurd (some_none p.spelled (names_of ps) none)
 
-count_names : (os : List OpenElement) → length (names_of os) ≡ length os
+pub count_names : (os : List OpenElement) → length (names_of os) ≡ length os
 count_names [] = refl
 count_names (o ∷ os) = let n = count_names os in omega (arith, n)
 

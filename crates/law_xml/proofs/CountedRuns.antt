@@ -32,6 +32,7 @@ use Rattle.xml_framer.specs.declared.states.Mode.{Mode}
 use Rattle.xml_framer.specs.declared.states.Mode.TheVariants as mode
 use Rattle.xml_framer.specs.declared.states.Phase.{Phase}
 use Rattle.xml_framer.specs.declared.states.Phase.TheVariants as phase
+use Rattle.law_xml.proofs.OpenRowLaws.{text_mode}
 
 -- ---- no footer and no declaration comes to be in hand in an element
 
@@ -398,17 +399,6 @@ between_gets : (s : State) (b : ℕ) → is_limited s.lexical.mode ≡ false →
 unfolding between
 between_gets s b other no_markup =
     rw no_markup (choose s (fails s s.positions.at why.NotWellFormed) (text_outside s b) (b == 38) (before s other) (text_gets s b other))
-
-text_mode : (m : Mode) → is_text m ≡ true → m ≡ mode.Text
-text_mode mode.Text h = refl
-text_mode mode.Reference h = absurd (false≢true h)
-text_mode mode.Opening h = absurd (false≢true h)
-text_mode mode.Bang h = absurd (false≢true h)
-text_mode mode.Question h = absurd (false≢true h)
-text_mode mode.Declaration h = absurd (false≢true h)
-text_mode mode.Tag h = absurd (false≢true h)
-text_mode mode.Footer h = absurd (false≢true h)
-text_mode mode.Section h = absurd (false≢true h)
 
 neither : (a b : Bool) → (a || not b) ≡ false → (a ≡ false) × (b ≡ true)
 neither false true h = (refl, refl)

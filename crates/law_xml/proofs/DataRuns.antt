@@ -21,6 +21,7 @@ use Rattle.xml_framer.specs.TextSteps.{between, brackets_after, character_taken,
 use Rattle.xml_framer.specs.declared.items.Item.{Item}
 use Rattle.xml_framer.specs.declared.fault.Why.TheVariants.{NotWellFormed}
 use Rattle.xml_framer.specs.declared.states.Mode.TheVariants as mode
+use Rattle.law_xml.proofs.ReadOutside.{white_low}
 
 -- ---- character data
 
@@ -175,9 +176,6 @@ module _ (s : State) (items : List Item) (o : OpenElement) (a c : ℕ) (h : IsFr
 chosen : (P : State → Type 0) (x : Bool) (s t : State) → P s → P t → P (cond x s t)
 chosen P true s t p q = p
 chosen P false s t p q = q
-
-white_low : (b : ℕ) → is_white b ≡ true → b < 128
-white_low b h = grind (arith, nat_tests)
 
 white_no_mark : (b : ℕ) → is_white b ≡ true → (eqb b 60 || eqb b 38) ≡ false
 white_no_mark b h = grind (arith, nat_tests)

@@ -9,6 +9,7 @@ use Rattle.std.specs.List.{list_all}
 use Rattle.xml_tokens.specs.Characters.{is_white}
 use Rattle.xml_tokens.specs.Declarations.{IsGood, MaySpell, is_utf8_label, is_yes_or_no}
 use Rattle.xml_tokens.specs.Tags.{IsSpelled, are_white, is_quote}
+use Rattle.law_xml.proofs.OneHand.{heads as first_is}
 
 -- a byte of ASCII other than `>` and `?`
 abbrev pub is_unmarked : ℕ → Bool
@@ -90,9 +91,6 @@ pub record Shaped (bytes : List ℕ) : Type 0 where
 begins_white : (space rest : List ℕ) → space ≢ [] → are_white space ≡ true → (w : ℕ) × (more : List ℕ) × (space ++ rest ≡ w ∷ more) × (is_white w ≡ true)
 begins_white [] rest some white = absurd (some refl)
 begins_white (w ∷ ws) rest some white = (w, ws ++ rest, refl, (and_parts (is_white w) (are_white ws) white).0)
-
-first_is : (x y : ℕ) (xs ys : List ℕ) → x ∷ xs ≡ y ∷ ys → x ≡ y
-first_is x y xs ys e = cc
 
 shaped_by : (bytes items front : List ℕ) (w : ℕ) (more : List ℕ) → bytes ≡ codes "<?xml" ++ items → items ≡ front ++ codes "?>" → are_unmarked front ≡ true → items ≡ w ∷ more → is_white w ≡ true → Shaped bytes
 shaped_by bytes items [] w more bytes_are is unmarked begins white =

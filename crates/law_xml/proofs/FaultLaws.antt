@@ -33,7 +33,7 @@ use Rattle.xml_framer.specs.declared.states.Phase.TheVariants as phase
 abbrev found_at : ℕ → Why → Option Fault
 found_at at w = Some (record { at = at; why = w })
 
-differs : (a b : ℕ) → a ≢ b → (a == b) ≡ false
+pub differs : (a b : ℕ) → a ≢ b → (a == b) ≡ false
 differs a b h = ⊎_elim (λ (same : (a == b) ≡ true). absurd (h (eqb-true a b same))) (λ other. other) (cases_Bool (a == b))
 
 pub long : (t : Turn) (b : ℕ) → t.state.fault ≡ None → is_too_long t.state b ≡ true → Decides t b t.state.positions.item_at why.TooLong
@@ -141,7 +141,7 @@ run_pending : (b : Bool) (s : State) → (if b then s else run_begun s).pending 
 run_pending true s = refl
 run_pending false s = refl
 
-run_position : (b : Bool) (s : State) → (if b then counted s else run_begun (counted s)).positions.token_at ≡ (if b then s else run_begun s).positions.token_at
+pub run_position : (b : Bool) (s : State) → (if b then counted s else run_begun (counted s)).positions.token_at ≡ (if b then s else run_begun s).positions.token_at
 run_position true s = refl
 run_position false s = refl
 

@@ -154,7 +154,7 @@ header_bytes h =
 
 -- ---- literal names
 
-plain_literal : (s : List ℕ) → is_utf8 s ≡ true → are_characters s ≡ true → IsCharacters s
+pub plain_literal : (s : List ℕ) → is_utf8 s ≡ true → are_characters s ≡ true → IsCharacters s
 plain_literal s u c = record { utf8 = IsUtf8-from_is_utf8 s u; characters = c }
 
 client_plain : IsCharacters client_namespace

@@ -44,15 +44,10 @@ use Rattle.law_xml.specs.OpenRows.{EndInText}
 use Rattle.law_xml.specs.Prefixes.{IsPrefix}
 use Rattle.law_xml.specs.StreamLimits.{IsStreamWithin}
 use Rattle.law_xml.specs.Streams.{InForce, StreamTo, position_of}
-
-heads : (x y : ℕ) (xs ys : List ℕ) → x ∷ xs ≡ y ∷ ys → x ≡ y
-heads x y xs ys e = cc
-
-tails : (x y : ℕ) (xs ys : List ℕ) → x ∷ xs ≡ y ∷ ys → xs ≡ ys
-tails x y xs ys e = cc
-
-some_none : (x : ℕ) (xs : List ℕ) → x ∷ xs ≡ [] → ⊥
-some_none x xs e = cc
+use Rattle.law_xml.proofs.FaultLaws.{differs as no_test}
+use Rattle.law_xml.proofs.OffsetMarks.{some_none, tails}
+use Rattle.law_xml.proofs.OneHand.{heads}
+use Rattle.xml_framer.proofs.PlainTags.{never as none_shown}
 
 same_offset : (m n : ℕ) → ◌≡◌ {A = Option Fault} (Some (record { at = m; why = why.TooLong })) (Some (record { at = n; why = why.TooLong })) → m ≡ n
 same_offset m n e = ap (λ (f : Fault). f.at) (one_some _ _ e)
@@ -123,11 +118,6 @@ record IsFreeHand (s : State) (b : ℕ) (p : Phase) (hand : List ℕ) : Type 0 w
   unused : s.positions.used ≡ 0
   no_limit : HasLimit p (hand ++ b ∷ []) → ⊥
 
--- a byte in an element shows nothing without a limit
-none_shown : (opens : Bool) → (opens && false) ≡ false
-none_shown true = refl
-none_shown false = refl
-
 far_parts : (s : State) (b : ℕ) → is_too_long s b ≡ true → (0 < s.positions.used) × (s.limits.bytes ≤ s.positions.used) × (shows_unlimited s b ≡ false)
 unfolding is_too_long
 far_parts s b e =
@@ -153,9 +143,6 @@ not_equal x y e is = true≢false (same x y is ∙ e)
   where
     same : (x y : ℕ) → x ≡ y → true ≡ (x == y)
     same x y is = grind (arith, is, nat_tests)
-
-no_test : (x y : ℕ) → x ≢ y → (x == y) ≡ false
-no_test x y other = ⊎_elim (λ (e : (x == y) ≡ true). absurd (other (eqb-true x y e))) (λ (e : (x == y) ≡ false). e) (cases_Bool (x == y))
 
 run_no_limit : (p : Phase) (hand : List ℕ) (b : ℕ) → IsRun hand → HasLimit p (hand ++ b ∷ []) → ⊥
 run_no_limit p [] b plain h = some_none h.second h.rest (sym (tails b 60 [] (h.second ∷ h.rest) h.hand_is))

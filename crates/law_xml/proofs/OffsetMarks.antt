@@ -34,6 +34,9 @@ use Rattle.xml_framer.specs.declared.fault.Fault.{Fault}
 use Rattle.xml_framer.specs.declared.fault.Why.TheVariants as why
 use Rattle.xml_framer.specs.declared.states.Mode.{Mode}
 use Rattle.xml_framer.specs.declared.states.Mode.TheVariants as mode
+use Rattle.law_xml.proofs.OffsetSteps.{none_some}
+use Rattle.law_xml.proofs.ReadOutside.{grown_some as held_on}
+use Rattle.law_xml.proofs.RowsTold.{least, no_quote}
 
 -- ---- what is known of a token's bytes
 
@@ -68,10 +71,7 @@ Mark mode.Question s more = (s.token ≡ 60 ∷ more) × OpensDeclaration s.toke
 Mark mode.Declaration s more = (s.token ≡ 60 ∷ more) × DeclarationIn more
 Mark mode.Section s more = SectionIn s.pending s.lexical.brackets more
 
-none_some : (f : Fault) → Some f ≡ None → ⊥
-none_some f e = cc
-
-tails : (x y : ℕ) (xs ys : List ℕ) → x ∷ xs ≡ y ∷ ys → xs ≡ ys
+pub tails : (x y : ℕ) (xs ys : List ℕ) → x ∷ xs ≡ y ∷ ys → xs ≡ ys
 tails x y xs ys e = cc
 
 pub fronts : (token more all : List ℕ) → token ≡ 60 ∷ more → token ≡ take (length token) (60 ∷ all) → all ≡ more ++ drop (length token) (60 ∷ all)
@@ -126,10 +126,6 @@ reference_marks s b more is h named =
     refers_marks reference.Malformed last = broken 38 b more (refers s reference.Malformed) _ refl
 
 -- ---- tags
-
-no_quote : (q : Option ℕ) → not (is_some q) ≡ true → q ≡ None
-no_quote None e = refl
-no_quote (Some x) e = absurd (false≢true e)
 
 tag_whole : (b : ℕ) (more : List ℕ) (q : Option ℕ) → (b == 62 && not (is_some q)) ≡ true → leads_tag more ≡ true → is_open_tag None more ≡ true → q ≡ quote_after None more → IsWhole (60 ∷ (more ++ b ∷ []))
 tag_whole b more q e leads opens quote =
@@ -236,9 +232,6 @@ question_more token b h few e =
     let len = length-append token (b ∷ []) in
     (ap (λ l. l ++ b ∷ []) h.0 ∙ ap (λ d. take n (codes "<?xml") ++ d ∷ []) is ∙ sym step ∙ ap (λ m. take m (codes "<?xml")) (sym len), omega (arith, len, small))
 
-least : (n : ℕ) → nat_lt n 5 ≡ false → 5 ≤ n
-least n e = grind (arith, nat_tests)
-
 declaration_begins : (token more : List ℕ) (b : ℕ) → token ≡ 60 ∷ more → OpensDeclaration token → nat_lt (length token) 5 ≡ false → is_white b ≡ true → DeclarationIn (more ++ b ∷ [])
 declaration_begins token more b h opens most white =
     let len : length token ≡ 5 = let l = least (length token) most in let m = opens.1 in omega (arith, l, m) in
@@ -287,7 +280,7 @@ declaration_more x b (y ∷ []) h last = rw (swapped (b == 62) (y == 63) last) r
 declaration_more x b (y ∷ z ∷ zs) h last =
     let p = or_parts (y == 63 && z == 62) (has_declaration_end (z ∷ zs)) h in rw p.0 (declaration_more y b (z ∷ zs) p.1 last)
 
-declaration_front : (xs ys : List ℕ) → has_declaration_end (xs ++ ys) ≡ false → has_declaration_end xs ≡ false
+pub declaration_front : (xs ys : List ℕ) → has_declaration_end (xs ++ ys) ≡ false → has_declaration_end xs ≡ false
 declaration_front [] ys h = refl
 declaration_front (x ∷ []) ys h = refl
 declaration_front (x ∷ y ∷ zs) ys h = let p = or_parts (x == 63 && y == 62) (has_declaration_end ((y ∷ zs) ++ ys)) h in rw p.0 (declaration_front (y ∷ zs) ys p.1)
@@ -331,7 +324,7 @@ declaration_marks s b more is h d =
 
 -- ---- sections
 
-some_none : (x : ℕ) (xs : List ℕ) → x ∷ xs ≡ [] → ⊥
+pub some_none : (x : ℕ) (xs : List ℕ) → x ∷ xs ≡ [] → ⊥
 some_none x xs e = cc
 
 zero_two : ◌≡◌ {A = ℕ} 0 2 → ⊥
@@ -541,10 +534,6 @@ abbrev pub Counted : State → ℕ → State → Type 0
 Counted s b u =
     u.fault ≡ None → is_text u.lexical.mode ≡ true → is_some u.here ≡ true
     → (is_some s.here ≡ true) × (held_after s.pending b ≡ [] → u.lexical.brackets ≡ brackets_after (if s.lexical.in_run then s.lexical.brackets else 0) b)
-
-held_on : (held : List ℕ) (b : ℕ) → held ++ b ∷ [] ≡ [] → ⊥
-held_on [] b h = some_none b [] h
-held_on (x ∷ xs) b h = some_none x (xs ++ b ∷ []) h
 
 run_brackets : (x : Bool) (s : State) → (if x then s else run_begun s).lexical.brackets ≡ (if x then s.lexical.brackets else 0)
 run_brackets true s = refl

@@ -5,7 +5,7 @@ use Rattle.std.proofs.lemmas.List.Folds.{list_all-append}
 use Rattle.std.specs.Option.{is_some}
 use Rattle.xml_tokens.specs.Utf8.{continues, held_after}
 use Rattle.law_xml.proofs.CountLaws.{takes}
-use Rattle.law_xml.proofs.FaultLaws.{broken, goes, long}
+use Rattle.law_xml.proofs.FaultLaws.{broken, goes, long, run_position}
 use Rattle.law_xml.proofs.OffsetMarks.{Mark, begins_after, counted_after, is_open, mark_after, same_count}
 use Rattle.law_xml.proofs.OffsetSteps.{text_goes, token_goes}
 use Rattle.law_xml.proofs.OffsetTags.{Spot, first_spot, named_there, quote_after_text, spot_after}
@@ -339,10 +339,6 @@ begins t b h e =
 pub goes_on : (t : Turn) (m : Mode) (b : ℕ) → rows.Takes t.state m b → is_text m ≡ false → (step t b).state.positions.token_at ≡ t.state.positions.token_at
 goes_on t m b h no_text =
     ap (λ (v : Turn). v.state.positions.token_at) (goes t m b h) ∙ (token_goes m (moved t (counted t.state)) b h.mode_is h.no_fault no_text).token_at
-
-run_position : (c : Bool) (s : State) → (if c then counted s else run_begun (counted s)).positions.token_at ≡ (if c then s else run_begun s).positions.token_at
-run_position true s = refl
-run_position false s = refl
 
 runs : (t : Turn) (b : ℕ) → rows.Takes t.state mode.Text b → (step t b).state.fault ≡ None → is_text (step t b).state.lexical.mode ≡ true
     → ((step t b).state.positions.token_at ≡ (in_run t.state).positions.token_at) × ((step t b).state.lexical.in_run ≡ true)

@@ -321,7 +321,7 @@ pick : (b at run : ℕ) (u v : State) (c : Bool) → (c ≡ true → Takes b at 
 pick b at run u v true x y = x refl
 pick b at run u v false x y = y refl
 
-none_some : (f : Fault) → Some f ≡ None → ⊥
+pub none_some : (f : Fault) → Some f ≡ None → ⊥
 none_some f e = cc
 
 -- a state in a run of text

@@ -18,7 +18,7 @@ use Rattle.xml_tokens.specs.declared.declarations.Declaration.TheVariants as dec
 use Rattle.xml_tokens.specs.declared.references.Reference.{Reference}
 use Rattle.xml_tokens.specs.declared.references.Reference.TheVariants as reference
 use Rattle.law_xml.specs.Offsets.{is_no_end, is_open_tag, is_reference, leads_tag}
-use Rattle.law_xml.proofs.OffsetSteps.{is_first}
+use Rattle.law_xml.proofs.OffsetSteps.{is_first, none_some}
 use Rattle.xml_framer.specs.ManyBytes.{quote_after}
 use Rattle.xml_framer.specs.Machine.{taken_in}
 use Rattle.xml_framer.specs.MarkupSteps.{declares, ends_in_question, in_bang, in_declaration, in_phase, in_question, section_opened}
@@ -33,6 +33,7 @@ use Rattle.xml_framer.specs.declared.states.Mode.{Mode}
 use Rattle.xml_framer.specs.declared.states.Mode.TheVariants as mode
 use Rattle.xml_framer.specs.declared.states.Phase.{Phase}
 use Rattle.xml_framer.specs.declared.states.Phase.TheVariants as phase
+use Rattle.xml_framer.proofs.PlainTags.{quote_more}
 
 -- a token has ended, unless there is a fault
 abbrev pub Closed : State → Type 0
@@ -41,9 +42,6 @@ Closed u = u.fault ≡ None → (is_text u.lexical.mode ≡ true) × (u.token �
 choose : (u v : Turn) (c : Bool) → (c ≡ true → Closed u.state) → (c ≡ false → Closed v.state) → Closed (if c then u else v).state
 choose u v true x y = x refl
 choose u v false x y = y refl
-
-none_some : (f : Fault) → Some f ≡ None → ⊥
-none_some f e = cc
 
 added_closes : (o : Option OpenElement) (t : Turn) (e : Elem) → Closed (added_to o t e).state
 added_closes None t e n = (refl, refl)
@@ -226,11 +224,7 @@ open_more : (q : Option ℕ) (more : List ℕ) (b : ℕ) → is_open_tag q more 
 open_more q [] b h last = rw last refl
 open_more q (x ∷ xs) b h last = let p = and_parts (not (x == 62 && not (is_some q))) (is_open_tag (quote_behind q x) xs) h in rw p.0 (open_more (quote_behind q x) xs b p.1 last)
 
-quote_more : (q : Option ℕ) (more : List ℕ) (b : ℕ) → quote_after q (more ++ b ∷ []) ≡ quote_behind (quote_after q more) b
-quote_more q [] b = refl
-quote_more q (x ∷ xs) b = quote_more (quote_behind q x) xs b
-
-some_more : (more : List ℕ) (b : ℕ) → is_empty (more ++ b ∷ []) ≡ false
+pub some_more : (more : List ℕ) (b : ℕ) → is_empty (more ++ b ∷ []) ≡ false
 some_more [] b = refl
 some_more (x ∷ xs) b = refl
 

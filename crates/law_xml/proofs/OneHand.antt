@@ -3,10 +3,10 @@ use Rattle.std.proofs.Common.{◌≡◌, ℕ, ⊎_elim, Bool, true, false, if◌
 use Rattle.std.proofs.lemmas.Bool.{cases_Bool, false≢true}
 use Rattle.std.specs.List.{list_all}
 use Rattle.law_xml.proofs.HandsTold.{are_kept, none_held, run_held}
-use Rattle.law_xml.proofs.OffsetMarks.{is_open}
+use Rattle.law_xml.proofs.OffsetMarks.{is_open, tails}
 use Rattle.law_xml.proofs.OffsetRuns.{Known, known_of}
 use Rattle.law_xml.proofs.OffsetTags.{named_there}
-use Rattle.law_xml.proofs.OneOffset.{Hand, from_first, hand_marked, hand_no_text, hand_rest, markup_in_hand, one_front, one_run, reference_in_hand, text_rest}
+use Rattle.law_xml.proofs.OneOffset.{Hand, before_hand as spread, from_first, hand_marked, hand_no_text, hand_rest, markup_in_hand, one_front, one_run, reference_in_hand, text_rest}
 use Rattle.law_xml.specs.Hands.{AreKept, IsHolding, IsReading, brackets_last}
 use Rattle.law_xml.specs.Offsets.{AreBefore, AreTokens, IsOpen, IsRun, character_left, first_of, is_no_end, is_reference}
 use Rattle.law_xml.specs.Streams.{position_of}
@@ -15,14 +15,8 @@ use Rattle.xml_framer.specs.Readings.{fault_of, framed}
 use Rattle.xml_framer.specs.States.{State, from_start, is_text, turn}
 use Rattle.xml_framer.specs.declared.limits.Limits.{Limits}
 
-heads : (x y : ℕ) (xs ys : List ℕ) → x ∷ xs ≡ y ∷ ys → x ≡ y
+pub heads : (x y : ℕ) (xs ys : List ℕ) → x ∷ xs ≡ y ∷ ys → x ≡ y
 heads x y xs ys e = cc
-
-tails : (x y : ℕ) (xs ys : List ℕ) → x ∷ xs ≡ y ∷ ys → xs ≡ ys
-tails x y xs ys e = cc
-
-spread : (bytes before hand : List ℕ) (h : AreBefore before) → bytes ≡ before ++ hand → bytes ≡ h.front ++ (h.text ++ hand)
-spread bytes before hand h is = is ∙ ap (λ l. l ++ hand) h.before_is ∙ append_assoc h.front h.text hand
 
 module _ (s : State) (bytes : List ℕ) (h : Known s bytes) where
   -- the token that the state has

@@ -9,18 +9,13 @@ use Rattle.law_xml.proofs.OneText.{one_section}
 use Rattle.law_xml.specs.Offsets.{AreBefore, AreTokens, IsAtToken, IsOpen, IsRun, IsToken, IsWhole, a_markup, a_reference, a_text, begins_declaration_end, character_left, has_declaration_end, is_no_end, is_no_markup, is_open_tag, leads_tag, no_token, one_more, open_declaration, open_section, open_tag, opening_declaration, opening_section, whole_declaration, whole_reference, whole_section, whole_tag}
 use Rattle.law_xml.specs.Streams.{position_of}
 use Rattle.law_xml.specs.Texts.{has_section_end}
+use Rattle.law_xml.proofs.OffsetMarks.{some_none, tails}
 
 heads : (x y : ℕ) (xs ys : List ℕ) → x ∷ xs ≡ y ∷ ys → x ≡ y
 heads x y xs ys e = cc
 
-tails : (x y : ℕ) (xs ys : List ℕ) → x ∷ xs ≡ y ∷ ys → xs ≡ ys
-tails x y xs ys e = cc
-
 both : (x y : ℕ) (xs ys : List ℕ) → x ≡ y → xs ≡ ys → x ∷ xs ≡ y ∷ ys
 both x y xs ys e f = ap (λ z. z ∷ xs) e ∙ ap (λ l. y ∷ l) f
-
-some_none : (x : ℕ) (xs : List ℕ) → x ∷ xs ≡ [] → ⊥
-some_none x xs e = cc
 
 -- ---- a tag has one first `>` outside quotes
 
@@ -311,7 +306,7 @@ data Belongs : List ℕ → ℕ → ℕ → Type 0 where
   to_amp : (bytes : List ℕ) (b n : ℕ) (front text : List ℕ) → AreTokens front → IsRun text → character_left [] text ≡ [] → bytes ≡ front ++ text → b ≡ 38 → n ≡ length bytes → Belongs bytes b n
   to_text : (bytes : List ℕ) (b n : ℕ) (front text : List ℕ) → AreTokens front → IsRun text → (is_no_markup b ≡ true) ⊎ (character_left [] text ≢ []) → bytes ≡ front ++ text → n ≡ length front → Belongs bytes b n
 
-before_hand : (bytes before token : List ℕ) (h : AreBefore before) → bytes ≡ before ++ token → bytes ≡ h.front ++ (h.text ++ token)
+pub before_hand : (bytes before token : List ℕ) (h : AreBefore before) → bytes ≡ before ++ token → bytes ≡ h.front ++ (h.text ++ token)
 before_hand bytes before token h is = is ∙ ap (λ l. l ++ token) h.before_is ∙ append_assoc h.front h.text token
 
 belongs : (bytes : List ℕ) (b : ℕ) (before token : List ℕ) → bytes ≡ before ++ token → IsToken before token b → Belongs bytes b (length before)

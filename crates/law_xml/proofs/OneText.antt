@@ -12,6 +12,7 @@ use Rattle.xml_tokens.specs.References.{each_goes_on, is_hex_digit, number_goes_
 use Rattle.xml_tokens.specs.declared.references.Reference.TheVariants.{Character, Malformed}
 use Rattle.law_xml.specs.Texts.{IsCharacterData, IsText, SpellsText, begins_section_end, data_alone, has_section_end, with_reference, with_section}
 use Rattle.xml_tokens.specs.Lines.{line_ends}
+use Rattle.xml_tokens.proofs.ValueSpellings.{goes_unended}
 
 -- ---- what runs up to the first byte that fails a test is one list
 
@@ -71,12 +72,6 @@ name_byte_unended b h = grind (arith, nat_tests)
 
 first_unended : (b : ℕ) → (eqb b 35 || is_name_start b) ≡ true → eqb b 59 ≡ false
 first_unended b h = grind (arith, nat_tests)
-
-goes_unended : (so : List ℕ) (b : ℕ) → reference_goes_on so b ≡ true → eqb b 59 ≡ false
-unfolding reference_goes_on
-goes_unended [] b h = first_unended b h
-goes_unended (x ∷ xs) b h =
-    ⊎_elim (λ n. number_unended xs b n.1) (λ n. name_byte_unended b (and_parts (is_name_byte b) _ n.1).0) (chosen (eqb x 35) _ _ true h)
 
 each_unended : (so name : List ℕ) → each_goes_on so name ≡ true → list_all (λ b. not (eqb b 59)) name ≡ true
 each_unended so [] h = refl

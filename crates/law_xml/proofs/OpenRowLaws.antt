@@ -19,12 +19,12 @@ use Rattle.xml_framer.specs.declared.states.Mode.{Mode}
 use Rattle.xml_framer.specs.declared.states.Mode.TheVariants as mode
 use Rattle.xml_framer.specs.declared.states.Phase.{Phase}
 use Rattle.xml_framer.specs.declared.states.Phase.TheVariants as phase
-use Rattle.law_xml.proofs.ByteRowLaws.{pending_is, unbroken}
+use Rattle.law_xml.proofs.ByteRowLaws.{pending_is, sixty, thirty, unbroken}
 use Rattle.law_xml.proofs.ContextRuns.{context_is}
 use Rattle.law_xml.proofs.ContextStays.{at, at_more, markup_along, markup_same, none_before, text_same}
 use Rattle.law_xml.proofs.ContextsTold.{context_in, context_of}
 use Rattle.law_xml.proofs.FooterHands.{IsFooter, footer_begins, footer_more}
-use Rattle.law_xml.proofs.OneHand.{markup_held, text_read}
+use Rattle.law_xml.proofs.OneHand.{heads, markup_held, text_read}
 use Rattle.law_xml.proofs.PrefixRuns.{known_first}
 use Rattle.law_xml.proofs.ReadCharacters.{ascii_alone}
 use Rattle.law_xml.proofs.ReadOutside.{footer_tag}
@@ -38,14 +38,9 @@ use Rattle.law_xml.specs.Offsets.{AreBefore, AreTokens, IsOpen, character_left, 
 use Rattle.law_xml.specs.OpenRows.{EndInTag, EndInText, OpenRow, OpeningByteRow, TagByteRow, TextByteRow, admits, after_end, after_less, after_tag, after_text, forbidden_character, in_section, nameless, stray_character, stray_question, stray_reference, stray_section, stray_section_end}
 use Rattle.law_xml.specs.Rows.{Row, TextRow, TokenRow, bad_footer, forbidden_in_section, forbidden_in_text, in_text_row, in_token_row, no_declaration, no_name, reference_outside, section_end_in_text, section_outside, text_outside, whole_tag_row}
 use Rattle.law_xml.specs.Streams.{position_of}
+use Rattle.law_xml.proofs.OffsetMarks.{some_none}
 
-heads : (x y : ℕ) (xs ys : List ℕ) → x ∷ xs ≡ y ∷ ys → x ≡ y
-heads x y xs ys e = cc
-
-some_none : (x : ℕ) (xs : List ℕ) → x ∷ xs ≡ [] → ⊥
-some_none x xs e = cc
-
-text_mode : (m : Mode) → is_text m ≡ true → m ≡ mode.Text
+pub text_mode : (m : Mode) → is_text m ≡ true → m ≡ mode.Text
 text_mode mode.Text e = refl
 text_mode mode.Reference e = absurd (false≢true e)
 text_mode mode.Opening e = absurd (false≢true e)
@@ -55,12 +50,6 @@ text_mode mode.Declaration e = absurd (false≢true e)
 text_mode mode.Tag e = absurd (false≢true e)
 text_mode mode.Footer e = absurd (false≢true e)
 text_mode mode.Section e = absurd (false≢true e)
-
-sixty : ◌≡◌ {A = ℕ} 60 38 → ⊥
-sixty e = omega (arith, e)
-
-thirty : ◌≡◌ {A = ℕ} 38 60 → ⊥
-thirty e = omega (arith, e)
 
 -- a part of a word that begins with 33 or 63 leads no tag
 no_lead : (k : ℕ) (word more rest : List ℕ) → k ∷ word ≡ more ++ rest → is_empty more ≡ false → leads_tag (k ∷ []) ≡ false → leads_tag more ≡ false

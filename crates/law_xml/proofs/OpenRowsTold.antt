@@ -36,12 +36,8 @@ use Rattle.law_xml.specs.OpenRows.{EndInTag, EndInText, OpenRow, TagByteRow, aft
 use Rattle.law_xml.specs.Rows.{DeclarationRow, FooterRow, QuestionRow, ReferenceRow, Row, TagRow, TextRow, TokenRow, bad_declaration, bad_footer, bad_reference, departing_declaration, departing_reference, departing_section, forbidden_in_section, forbidden_in_text, in_text_row, in_token_row, no_declaration, no_name, no_utf8, other_encoding, reference_outside, section_end_in_text, section_outside, text_outside, too_long, unknown_reference, unspaced_declaration, whole_tag_row}
 use Rattle.law_xml.specs.Standing.{StandsOutside}
 use Rattle.law_xml.specs.Streams.{position_of}
-
-heads : (x y : ℕ) (xs ys : List ℕ) → x ∷ xs ≡ y ∷ ys → x ≡ y
-heads x y xs ys e = cc
-
-some_fault : (f : Fault) → Some f ≡ None → ⊥
-some_fault f e = cc
+use Rattle.law_xml.proofs.OffsetSteps.{none_some as some_fault}
+use Rattle.law_xml.proofs.OneHand.{heads}
 
 encoding_short : why.Encoding ≢ why.TooLong
 encoding_short e = cc

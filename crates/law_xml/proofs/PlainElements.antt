@@ -35,8 +35,8 @@ use Rattle.law_xml.specs.PlainItems.{IsPlainBinding, IsPlainItem, IsPlainScope}
 use Rattle.law_xml.specs.Spells.{IsBegun, Spells, SpellsContent, SpellsHeader, SpellsTop, as_written, bind, empty, filled, text_alone, with_element, written_scope}
 use Rattle.law_xml.specs.Streams.{InForce, IsStream, SpellsEmptyHeaderIn, SpellsHeaderIn, StreamTo, declared, ended, headed, headed_and_ended, nothing, white_space}
 use Rattle.law_xml.specs.Streams as streams
-use Rattle.law_xml.proofs.CanonLaws.{canon_spelled}
-use Rattle.law_xml.proofs.HeaderLaws.{header_spelled}
+use Rattle.law_xml.proofs.CanonLaws.{canon_spelled, declares_empty as declares}
+use Rattle.law_xml.proofs.HeaderLaws.{header_spelled, plain_literal as characters_literal}
 use Rattle.law_xml.proofs.SaidCharacters.{local_is_plain, text_says_characters, value_says_characters}
 use Rattle.law_xml.proofs.SpelledAttributes.{Bounded}
 use Rattle.law_xml.proofs.SpelledNames.{differ}
@@ -53,9 +53,6 @@ chosen true x y z e = inl (refl, e)
 chosen false x y z e = inr (refl, e)
 
 -- ---- literal texts
-
-characters_literal : (s : List ℕ) → is_utf8 s ≡ true → are_characters s ≡ true → IsCharacters s
-characters_literal s u c = record { utf8 = IsUtf8-from_is_utf8 s u; characters = c }
 
 no_characters : IsCharacters []
 unfolding are_characters is_utf8 chars encode
@@ -132,10 +129,6 @@ bound_plain scope prefix ns h e =
 no_empty_prefix : (name local : List ℕ) → is_qualified name ≡ true → name ≡ 58 ∷ local → ⊥
 unfolding is_qualified
 no_empty_prefix name local q is = false≢true (ap has_parts (sym is) ∙ (and_parts (has_parts name) (is_utf8 name) q).0)
-
-declares : declared_prefix (codes "xmlns") ≡ Some []
-unfolding declared_prefix
-declares = refl
 
 -- a name without a prefix that declares nothing
 no_declaration : (a : tokens.Attribute) (local : List ℕ) → IsOther a → IsName a.name [] local → local ≢ codes "xmlns"

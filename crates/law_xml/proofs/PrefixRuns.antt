@@ -25,6 +25,7 @@ use Rattle.xml_framer.specs.declared.fault.Why.TheVariants as why
 use Rattle.xml_framer.specs.declared.limits.Limits.{Limits}
 use Rattle.xml_framer.specs.declared.states.Mode.{Mode}
 use Rattle.xml_framer.specs.declared.states.Mode.TheVariants as mode
+use Rattle.law_xml.proofs.OffsetTags.{some_more}
 
 pub none_too_soon : (limits : Limits) (bytes more : List ℕ) (now : InForce) (items : List Item) (stream : StreamTo now (bytes ++ more) items)
     → is_some (run (turn (from_start limits) []) bytes).state.fault ≡ true → ¬ (IsStreamWithin limits now (bytes ++ more) items stream)
@@ -87,10 +88,6 @@ whole_there given t bytes none whole read =
   where
     no_part : (s : State) → s.fault ≡ None → s.lexical.spent ≡ false → has_part s s.pending ≡ false → part_of s ≡ None
     no_part s none spent whole = rw (none, spent, whole) refl
-
-some_more : (hand : List ℕ) (b : ℕ) → is_empty (hand ++ b ∷ []) ≡ false
-some_more [] b = refl
-some_more (x ∷ xs) b = refl
 
 begins_more : (hand : List ℕ) (b : ℕ) → is_empty hand ≡ false → BeginsSo hand → BeginsSo (hand ++ b ∷ [])
 begins_more [] b some h = absurd (true≢false some)

@@ -33,6 +33,8 @@ use Rattle.law_xml.specs.Carries.{Carries}
 use Rattle.law_xml.proofs.RestRuns.{with_declaration}
 use Rattle.law_xml.proofs.ReadLaws.{gives_one, one_enters, read_enters}
 use Rattle.law_xml.specs.Puts.{HasPut, MayPut, OutFits, StandsAt}
+use Rattle.law_xml.proofs.ItemRuns.{quiet_there as quiet}
+use Rattle.law_xml.proofs.StreamRuns.{admits_first as admits}
 
 is_good_one : declaration_of declaration ≡ good.Good
 unfolding declaration_of has_other is_good is_utf8_label spelled_at is_qualified are_characters is_utf8 chars encode
@@ -49,14 +51,6 @@ record Declared (t : State) (p : Phase) (scope : Scope) (name : List ℕ) : Type
   run_is : run (turn t []) declaration ≡ turn following []
   stands : StandsOutside following (declared_phase p) scope name
   same_limits : following.limits ≡ t.limits
-
-quiet : (t : State) (p : Phase) (scope : Scope) (name : List ℕ) → StandsOutside t p scope name → IsQuiet t
-quiet t p scope name at =
-    let none = at.none_used in
-    record { no_fault = at.no_fault; text = at.text; no_token = at.no_token; no_pending = at.no_pending; no_quote = at.no_quote; not_spoiled = at.not_spoiled; counted = omega (arith, none); uncounted = λ e. at.none_used }
-
-admits : (o : Option OpenElement) → o ≡ None → (p q : Phase) → p ≡ q → admits_declaration q ≡ true → (not (is_some o) && admits_declaration p) ≡ true
-admits o none p q same may = rw (none, same, may) refl
 
 is_declared : (t : State) (p : Phase) (scope : Scope) (name : List ℕ) → StandsOutside t p scope name → admits_declaration p ≡ true → length declaration ≤ t.limits.bytes → Declared t p scope name
 is_declared t p scope name at may short =

@@ -5,10 +5,11 @@ use Rattle.std.proofs.lemmas.Bool.Decides.{nat_tests}
 use Rattle.std.proofs.lemmas.List.Folds.{list_all-append}
 use Rattle.std.specs.List.{list_all}
 use Rattle.std.specs.Option.{is_some, option_and_then}
-use Rattle.xml_tokens.proofs.Utf8Runs.{after_IsPending, runs_are_text}
+use Rattle.xml_tokens.proofs.Utf8Runs.{after_IsPending, nothing_is, runs_are_text}
 use Rattle.xml_tokens.specs.Characters.{are_characters, are_characters_after, ends_forbidden, is_control}
 use Rattle.xml_tokens.specs.Utf8.{IsPending, continues, ends_character, ends_forbidden_character, held_after, is_lead, is_nothing, is_second, is_tail, utf8_next, utf8_run}
 use Rattle.xml_tokens.specs.Lines.{IsCharacters}
+use Rattle.law_xml.proofs.SpelledTexts.{none_some, one_some}
 
 -- ---- UTF-8, a byte at a time
 
@@ -23,12 +24,6 @@ no_second x b h = false_from_ne_true (is_second x b) (λ e. let high = second_hi
 
 no_tail : (b : ℕ) → (b < 128) ⊎ (192 ≤ b) → is_tail b ≡ false
 no_tail b h = false_from_ne_true (is_tail b) (λ e. let high = tail_high b e in ⊎_elim (λ low. omega (arith, low, high)) (λ top. omega (arith, top, high)) h)
-
-none_some : (x : List ℕ) → None ≡ Some x → ⊥
-none_some x e = cc
-
-one_some : (x y : List ℕ) → Some x ≡ Some y → x ≡ y
-one_some x y e = cc
 
 -- a byte that is no tail begins a character
 begins : (b : ℕ) → (b < 128) ⊎ (192 ≤ b) → (held next : List ℕ) → utf8_next held b ≡ Some next → held ≡ []
@@ -62,11 +57,6 @@ ascii_alone held b low h =
 pub ascii_ends : (b : ℕ) → b < 128 → ends_character [] b ≡ true
 unfolding utf8_next
 ascii_ends b low = rw (lt-ltb b 128 low) refl
-
-nothing_is : (o : Option (List ℕ)) → is_nothing o ≡ true → o ≡ Some []
-nothing_is None e = absurd (false≢true e)
-nothing_is (Some []) e = refl
-nothing_is (Some (x ∷ xs)) e = absurd (false≢true e)
 
 -- where a character ends, none is in hand
 pub ended_after : (held : List ℕ) (b : ℕ) → ends_character held b ≡ true → held_after held b ≡ []

@@ -42,9 +42,7 @@ use Rattle.xml_framer.specs.declared.states.Mode.{Mode}
 use Rattle.xml_framer.specs.declared.states.Mode.TheVariants as mode
 use Rattle.xml_framer.specs.declared.states.Phase.{Phase}
 use Rattle.xml_framer.specs.declared.states.Phase.TheVariants as phase
-
-no_fault : (f : Fault) → Some f ≡ None → ⊥
-no_fault f e = absurd cc
+use Rattle.law_xml.proofs.OffsetSteps.{none_some as no_fault}
 
 -- a state in an element
 abbrev pub inner : State → OpenElement → Mode → State

@@ -48,15 +48,13 @@ use Rattle.xml_framer.specs.declared.states.Mode.{Mode}
 use Rattle.xml_framer.specs.declared.states.Mode.TheVariants as mode
 use Rattle.xml_framer.specs.declared.states.Phase.{Phase}
 use Rattle.xml_framer.specs.declared.states.Phase.TheVariants as phase
+use Rattle.law_xml.proofs.OffsetSteps.{none_some as no_fault}
 
-no_fault : (f : Fault) → Some f ≡ None → ⊥
-no_fault f e = absurd cc
-
-grown_some : (xs : List ℕ) (b : ℕ) → xs ++ b ∷ [] ≡ [] → ⊥
+pub grown_some : (xs : List ℕ) (b : ℕ) → xs ++ b ∷ [] ≡ [] → ⊥
 grown_some [] b e = absurd cc
 grown_some (x ∷ xs) b e = absurd cc
 
-white_low : (b : ℕ) → is_white b ≡ true → b < 128
+pub white_low : (b : ℕ) → is_white b ≡ true → b < 128
 white_low b h = grind (arith, nat_tests)
 
 token_more : (limits : Limits) (used next : ℕ) (now : InForce) (items : List Item) (bytes token : List ℕ) (position b : ℕ) → (limits.bytes < 2 ^ 64 → 0 < used → next ≡ used + 1) → TokenIn limits used now items bytes token position

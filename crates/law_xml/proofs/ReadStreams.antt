@@ -22,18 +22,12 @@ use Rattle.xml_framer.specs.declared.limits.Limits.{Limits}
 use Rattle.xml_framer.specs.declared.states.Mode.{Mode}
 use Rattle.xml_framer.specs.declared.states.Mode.TheVariants as mode
 use Rattle.xml_framer.specs.declared.states.Phase.TheVariants as phase
-
-no_fault : (f : Fault) → Some f ≡ None → ⊥
-no_fault f e = absurd cc
+use Rattle.law_xml.proofs.OffsetSteps.{none_some as no_fault}
+use Rattle.xml_framer.proofs.PlainTags.{never as none_shown}
 
 -- a state of which this element and this token are in hand
 abbrev with_hand : State → Option OpenElement → Mode → State
 with_hand s o m = record s { here = o; lexical = record s.lexical { mode = m } }
-
--- a byte in an element shows nothing without a limit
-none_shown : (opens : Bool) → (opens && false) ≡ false
-none_shown true = refl
-none_shown false = refl
 
 -- there is room for the byte, which is counted
 abbrev HasRoom : State → ℕ → ℕ → Type 0

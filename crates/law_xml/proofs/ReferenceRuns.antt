@@ -16,6 +16,7 @@ use Rattle.xml_framer.specs.States.{OpenElement, State, counted, gathered, token
 use Rattle.xml_framer.specs.TextSteps.{in_reference, in_text, inside, refers}
 use Rattle.xml_framer.specs.declared.items.Item.{Item}
 use Rattle.xml_framer.specs.declared.states.Mode.TheVariants as mode
+use Rattle.xml_tokens.proofs.ValueSpellings.{goes_unended as goes_no_end}
 
 -- ---- a byte of its name
 
@@ -32,10 +33,6 @@ reference_ends : (so_far : List ℕ) → reference_goes_on so_far 59 ≡ false
 unfolding reference_goes_on
 reference_ends [] = refl
 reference_ends (x ∷ xs) = ⊎_elim (λ (number : eqb x 35 ≡ true). rw number (number_ends xs)) (λ (other : eqb x 35 ≡ false). rw other refl) (cases_Bool (eqb x 35))
-
-goes_no_end : (so_far : List ℕ) (b : ℕ) → reference_goes_on so_far b ≡ true → eqb b 59 ≡ false
-goes_no_end so_far b h =
-    false_from_ne_true (eqb b 59) (λ e. absurd (true≢false (sym (subst (λ x. reference_goes_on so_far x ≡ true) (eqb-true b 59 e) h) ∙ reference_ends so_far)))
 
 gathers : (s : State) (b : ℕ) → eqb b 59 ≡ false → reference_goes_on s.token b ≡ true → in_reference s b ≡ gathered s b
 unfolding in_reference

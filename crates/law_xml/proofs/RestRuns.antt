@@ -12,14 +12,7 @@ use Rattle.xml_framer.specs.States.{State, Turn, turn}
 use Rattle.xml_framer.specs.declared.fault.Fault.{Fault}
 use Rattle.xml_framer.specs.declared.items.Item.{Item}
 use Rattle.law_xml.specs.Items.{GivesOne, IsFront, IsRest}
-
--- a fault would stay
-no_fault_before : (t : Turn) (bs : List ℕ) → (run t bs).state.fault ≡ None → t.state.fault ≡ None
-no_fault_before t bs e = was t.state.fault refl
-  where
-    was : (o : Option Fault) → t.state.fault ≡ o → o ≡ None
-    was None is = refl
-    was (Some f) is = absurd (true≢false (sym (ap is_some (ap (λ (u : Turn). u.state.fault) (stays t bs f is) ∙ is)) ∙ ap is_some e))
+use Rattle.law_xml.proofs.RunPositions.{no_fault_before}
 
 pub as_rest : (lost : Bool) (s : State) (bytes : List ℕ) → IsRest lost s bytes → IsRest true s bytes
 as_rest false s bytes r = inl r

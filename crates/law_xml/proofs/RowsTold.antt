@@ -36,12 +36,10 @@ use Rattle.xml_framer.specs.declared.states.Mode.{Mode}
 use Rattle.xml_framer.specs.declared.states.Mode.TheVariants as mode
 use Rattle.xml_framer.specs.declared.states.Phase.{Phase}
 use Rattle.xml_framer.specs.declared.states.Phase.TheVariants as phase
+use Rattle.law_xml.proofs.OffsetSteps.{none_some}
 
 abbrev pub fault_at : ℕ → Why → Option Fault
 fault_at at w = Some (record { at = at; why = w })
-
-none_some : (f : Fault) → Some f ≡ None → ⊥
-none_some f e = cc
 
 pub one_some : (f g : Fault) → Some f ≡ Some g → f ≡ g
 one_some f g e = cc
@@ -73,10 +71,10 @@ same_why s b start.NotWellFormed = refl
 same_why s b start.TooManyAttributes = refl
 same_why s b start.LongNamespace = refl
 
-least : (n : ℕ) → nat_lt n 5 ≡ false → 5 ≤ n
+pub least : (n : ℕ) → nat_lt n 5 ≡ false → 5 ≤ n
 least n e = grind (arith, nat_tests)
 
-no_quote : (q : Option ℕ) → not (is_some q) ≡ true → q ≡ None
+pub no_quote : (q : Option ℕ) → not (is_some q) ≡ true → q ≡ None
 no_quote None e = refl
 no_quote (Some x) e = absurd (true≢false (sym e))
 

@@ -21,6 +21,7 @@ use Rattle.law_xml.specs.Spells.{bind}
 use Rattle.xml_tokens.specs.Lines.{IsCharacters}
 use Rattle.xml_trees.proofs.AttributeOrder.{has_name-order}
 use Rattle.law_xml.proofs.SpelledNames.{apart_by_local, apart_by_prefix, differ, name_no_colon, name_qualified, numbered_differ, numbered_plain, numbered_prefix, prefixed_qualified, xml_plain, xmlns_plain}
+use Rattle.xml_tokens.proofs.TagWords.{none-from_is_empty as empty_is, some-from_is_empty as some_is}
 
 -- ---- attribute by attribute
 
@@ -43,13 +44,6 @@ foreign_attribute : (n : ℕ) (a : Attribute) (more : List Attribute) → is_emp
     → spelled_attributes n (a ∷ more) ≡ declaration n a ∷ prefixed n a ∷ spelled_attributes (n + 1) more
 unfolding spelled_attribute next_number
 foreign_attribute n a more e x = rw (e, x) refl
-
-empty_is : (ns : List ℕ) → is_empty ns ≡ true → ns ≡ []
-empty_is [] e = refl
-empty_is (b ∷ bs) e = absurd (false≢true e)
-
-some_is : (ns : List ℕ) → is_empty ns ≡ false → ns ≢ []
-some_is ns e none = false≢true (sym e ∙ ap is_empty none)
 
 pub by_attributes : (P : ℕ → List Attribute → List tokens.Attribute → Type 0)
     → ((n : ℕ) → P n [] [])

@@ -75,7 +75,7 @@ white_read s before bytes p scope name at white =
 
 -- ---- declarations
 
-admits_first : (o : Option OpenElement) → o ≡ None → (p q : Phase) → p ≡ q → admits_declaration q ≡ true → (not (is_some o) && admits_declaration p) ≡ true
+pub admits_first : (o : Option OpenElement) → o ≡ None → (p q : Phase) → p ≡ q → admits_declaration q ≡ true → (not (is_some o) && admits_declaration p) ≡ true
 admits_first o none p q same admits = rw (none, same, admits) refl
 
 declaration_read : (s : State) (before : List Item) (bytes : List ℕ) (p : Phase) (scope : Scope) (name : List ℕ) → StandsOutside s p scope name → admits_declaration p ≡ true → declaration_of bytes ≡ declaration.Good → length bytes ≤ s.limits.bytes
@@ -168,7 +168,7 @@ no_part_there s p scope name at = rw (at.no_fault, at.outside, at.text, at.no_pe
 
 -- ---- a stream
 
-stands_first : (limits : Limits) → StandsOutside (from_start limits) phase.First [] []
+pub stands_first : (limits : Limits) → StandsOutside (from_start limits) phase.First [] []
 stands_first limits =
     record {
       no_fault = refl;

@@ -15,12 +15,9 @@ use Rattle.xml_framer.specs.States.{OpenElement, State, admits_declaration, gath
 use Rattle.xml_framer.specs.TagSteps.{header_why, is_header, is_spelled, is_too_deep, largest_limits, misplaced_why, says_stream, scope_in, start_why, tag_here}
 use Rattle.xml_framer.specs.declared.fault.Why.{Why}
 use Rattle.law_xml.proofs.ContextRuns.{count_opens, none_open}
-use Rattle.law_xml.proofs.ContextsTold.{context_of, names_of, opens_of}
+use Rattle.law_xml.proofs.ContextsTold.{context_of, names_of, opens_of, some_none}
 use Rattle.law_xml.specs.OpenRows.{TagByteRow, admits, are_none, behind_footer, header_due, is_past_depth, start_past_depth, top_past_depth, why_at, why_misplaced, why_of_header, wrong_end, wrong_first_header, wrong_next_header, wrong_start, wrong_top}
 use Rattle.law_xml.specs.Rows.{WholeTagRow, after_footer, bad_first_header, bad_next_header, bad_start, bad_top, deep_start, deep_top, no_header_declared, other_end}
-
-some_none : (x : List ℕ) (xs : List (List ℕ)) → x ∷ xs ≡ [] → ⊥
-some_none x xs e = cc
 
 heads : (x y : List ℕ) (xs ys : List (List ℕ)) → x ∷ xs ≡ y ∷ ys → x ≡ y
 heads x y xs ys e = cc

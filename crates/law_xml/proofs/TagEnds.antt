@@ -6,6 +6,7 @@ use Rattle.std.specs.List.{list_all}
 use Rattle.xml_tokens.proofs.TagLaws.{qualified_all, qualified_begins}
 use Rattle.xml_tokens.specs.Characters.{is_name_start, is_white}
 use Rattle.xml_tokens.specs.Tags.{Attribute, AreAttributes, IsEndTag, IsSpelled, IsStartTag, IsTag, Tag, are_white, end_tag, is_empty, is_open, is_qualified_byte, is_quote, quote_behind, start_tag, tag_end}
+use Rattle.xml_tokens.proofs.TagWords.{none-from_is_empty as nothing_in}
 
 -- behind a quote, if one is open, the first `>` outside quotes is the last byte
 abbrev ends_last : Option ℕ → List ℕ → Bool
@@ -13,10 +14,6 @@ ends_last quote [] = false
 ends_last quote (b ∷ bs) = cond (not (is_open quote) && eqb b 62) (is_empty bs) (ends_last (quote_behind quote b) bs)
 
 -- ---- two lists that end so
-
-nothing_in : (bs : List ℕ) → is_empty bs ≡ true → bs ≡ []
-nothing_in [] h = refl
-nothing_in (b ∷ bs) h = absurd (false≢true h)
 
 one_end : (quote : Option ℕ) (a b x y : List ℕ) → ends_last quote a ≡ true → ends_last quote b ≡ true → a ++ x ≡ b ++ y → a ≡ b
 one_end quote [] b x y p q e = absurd (false≢true p)

@@ -31,6 +31,7 @@ use Rattle.xml_framer.specs.TextSteps.{between, in_text, inside}
 use Rattle.xml_framer.specs.declared.items.Item.{Item}
 use Rattle.xml_framer.specs.declared.states.Mode.{Mode}
 use Rattle.xml_framer.specs.declared.states.Mode.TheVariants as mode
+use Rattle.xml_tokens.proofs.TagLaws.{start_no_slash as no_slash}
 
 -- ---- a tag in hand
 
@@ -338,9 +339,6 @@ module _ (s : State) (items : List Item) (bytes : List ℕ) (quiet : IsQuiet s) 
       sized x xs = omega (arith, length-append xs (62 ∷ []))
 
 -- ---- start tags and end tags
-
-no_slash : (first : ℕ) → is_name_start first ≡ true → eqb first 47 ≡ false
-no_slash first h = grind (arith, nat_tests)
 
 name_begins : (s : State) (first : ℕ) → is_name_start first ≡ true → BeginsTag s first
 name_begins s first h = record {

@@ -22,9 +22,7 @@ use Rattle.law_xml.specs.Fitting.{Fits, HeaderFits}
 use Rattle.law_xml.specs.Plain.{IsPlain, IsPlainHeader}
 use Rattle.law_xml.specs.WrittenStreams.{ItemFits, MayFollow}
 use Rattle.law_xml.proofs.SpelledNames.{differ}
-
-literal : (s : List ℕ) → is_utf8 s ≡ true → are_characters s ≡ true → IsCharacters s
-literal s u c = record { utf8 = IsUtf8-from_is_utf8 s u; characters = c }
+use Rattle.law_xml.proofs.HeaderLaws.{plain_literal as literal}
 
 abbrev opening : Header
 opening = record { ns = streams_namespace; name = codes "stream"; content = client_namespace; to = Some (codes "b.c"); from = None; id = None; version = Some (codes "1.0"); lang = None }

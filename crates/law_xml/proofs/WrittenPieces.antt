@@ -19,7 +19,7 @@ use Rattle.law_xml.specs.Standing.{Gives, StandsOutside}
 use Rattle.law_xml.specs.Streams.{position_of}
 use Rattle.law_xml.specs.WrittenStreams.{ItemFits, MayFollow, MayStand, phase_after, read_item, read_items, whole_items, written_item, written_items}
 use Rattle.law_xml.proofs.RunPositions.{no_fault_before}
-use Rattle.law_xml.proofs.StreamRuns.{position_there}
+use Rattle.law_xml.proofs.StreamRuns.{position_there, stands_first}
 use Rattle.law_xml.proofs.WrittenFits.{written_element_is_read}
 use Rattle.law_xml.proofs.WrittenHeaders.{first_header_is_read, footer_is_read, next_header_is_read}
 use Rattle.law_xml.proofs.WrittenRuns.{AreLimits, IsAfterHeader, is_after}
@@ -133,10 +133,6 @@ pieces_from limits p s said offset (i ∷ more) n limited after same stands at m
     one_more s said offset i more n at
     (next_item s said p i (subst AreLimits (sym same) limited) after stands may.0 (subst (λ l. ItemFits l i) (sym same) fits.0))
     (λ t items k there limits_are at_position. pieces_from limits (phase_after i) t items (offset + length (written_item i)) more k limited (is_after i) (limits_are ∙ same) there at_position may.1 fits.1)
-
-stands_first : (limits : Limits) → StandsOutside (from_start limits) phase.First [] []
-stands_first limits =
-    record { no_fault = refl; outside = refl; none_open = refl; text = refl; no_quote = refl; not_spoiled = refl; no_token = refl; no_pending = refl; none_used = refl; phase_is = refl; scope_is = refl; name_is = refl }
 
 all_pieces : (limits : Limits) (items : List Item) (n : ℕ) → AreLimits limits → MayFollow phase.First items → AllByRecursion (ItemFits limits) items → Pieces (from_start limits) [] 0 items n
 all_pieces limits [] n limited may fits = subst (λ l. Gave (from_start limits) [] l []) (sym (none_taken n)) (nothing_more (from_start limits) [] refl)

@@ -8,10 +8,7 @@ use Rattle.net_owner.specs.Feeds.{are_pieces, bytes_in, bytes_of, is_piece}
 use Rattle.net_owner.specs.declared.item.Item.{Item}
 use Rattle.net_owner.specs.declared.item.What.{What}
 use Rattle.net_owner.specs.declared.item.What.TheVariants as what
-
-and_left : (a b : Bool) → (a && b) ≡ true → (a ≡ true) × (b ≡ true)
-and_left true b e = (refl, e)
-and_left false b e = absurd (true≢false (sym e))
+use Rattle.net_owner.proofs.WholeFeeds.{and_left}
 
 module _ {P : Type 0} where
   -- the bytes of each piece

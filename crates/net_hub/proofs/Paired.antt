@@ -9,16 +9,13 @@ use Rattle.net_owner.specs.declared.owner.Owner.{Owner}
 use Rattle.net_hub.specs.declared.recorder.Recorder.{Recorder}
 use Rattle.net_hub.specs.Sendings.{numbers_of}
 use Rattle.net_hub.specs.declared.sender.Sender.{Sender}
+use Rattle.net_hub.proofs.Served.{some_then as map_some}
 
 -- what a list that was mapped has at a place
 pub at_map : {A : Type 0} (f : A → ℕ) (xs : List A) (i n : ℕ) → get_elem? (map f xs) i ≡ some n → (x : A) × (get_elem? xs i ≡ some x) × (n ≡ f x)
 at_map f [] i n e = absurd (some-ne-none n (sym e))
 at_map f (x ∷ xs) zero n e = (x, refl, sym (some-injective (f x) n e))
 at_map f (x ∷ xs) (suc i) n e = at_map f xs i n e
-
-map_some : {A : Type 0} (P Q : A → Type 0) (o : Option A) → ((a : A) → P a → Q a) → IfSome o P → IfSome o Q
-map_some P Q None f h = tt
-map_some P Q (Some a) f h = f a h
 
 module _ {R I O P T : Type 0} (told : I → IncomingView) (out : O → OutgoingView) (numbers : T → List ℕ) where
   pub paired : (h : Owner R I P T) (senders : List (Sender O)) → numbers h.taker ≡ numbers_of out senders → IsHeld told numbers h → ArePaired told out h.positions.items senders

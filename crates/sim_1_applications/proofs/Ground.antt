@@ -24,6 +24,7 @@ use Rattle.sim_1_applications.specs.Stanzas.{Submission, messages}
 use Rattle.sim_1_applications.proofs.Owners.{Differ, line_of, name_is, name_tells, names_of}
 use Rattle.sim_1_applications.proofs.SaidLines.{IsFound, said_found}
 use Rattle.sim_1_applications.specs.Reported.{AreDeviceLines, history_at, name_at, said_line, said_of, take_of}
+use Rattle.sim_1_applications.proofs.Stamps.{all_both as all_two}
 
 pub record Ground (keep : ℕ) (version : Version) (owned : List Owned) (accounts : List (List ℕ)) (w : sessions.AppWorld) (report : ReportView) : Type 0 where
   pub some : 1 ≤ keep
@@ -52,10 +53,6 @@ by_device P many (t ∷ takes) each within =
     rest : (i : ℕ) (b : Bool) → AllByRecursion (P i) (cond b (t ∷ filter (is_of i) takes) (filter (is_of i) takes)) → AllByRecursion (P i) (filter (is_of i) takes)
     rest i true all = all.1
     rest i false all = all
-
-all_two : (P Q R : sessions.Take → Type 0) → ((t : sessions.Take) → P t → Q t → R t) → (ts : List sessions.Take) → AllByRecursion P ts → AllByRecursion Q ts → AllByRecursion R ts
-all_two P Q R each [] first second = tt
-all_two P Q R each (t ∷ ts) first second = (each t first.0 second.0, all_two P Q R each ts first.1 second.1)
 
 unsaid : (Q : Submission → Type 0) (ts : List sessions.Take) → AllByRecursion Q (map said_in ts) → AllByRecursion (λ t. Q t.said) ts
 unsaid Q [] all = tt

@@ -19,6 +19,7 @@ use Rattle.sim_1_applications.proofs.Lists.{all_append, all_rest}
 use Rattle.sim_1_applications.proofs.Logs.{broken_after, run_after, logged_grows}
 use Rattle.sim_1_applications.proofs.Pages.{Quiet, page_quiet}
 use Rattle.sim_1_applications.proofs.Answered.{IsNext, Next, next_answer, Kind, AResult, AnEnd, NoPlace, kind_of, numbers_of, end_of, reads_result, page_result, page_restart, lost_position, reads_restart, ended, TakenThen, taken_then, end_is_read, page_end}
+use Rattle.sim_1_applications.proofs.Legal.{off as not_false}
 
 -- both
 pub record ReadKept (keep first last : ℕ) (d : Device) : Type 0 where
@@ -134,10 +135,6 @@ pub log_grown : (b : Bool) (broken : List (List ℕ)) (run results : List ℕ) �
 log_grown true broken run results =
     ap (λ l. l ++ results) (flat_map-append (λ r. r) broken (run ∷ []) ∙ ap (λ l. flat_map (λ r. r) broken ++ l) (append-nil run))
 log_grown false broken run results = sym (append_assoc (flat_map (λ r. r) broken) run results)
-
-not_false : (b : Bool) → not b ≡ true → b ≡ false
-not_false true e = absurd (let bad : ⊥ = cc in bad)
-not_false false e = refl
 
 held_filtered : (log results : List ℕ) (last : ℕ) (hs : List ℕ) → AllByRecursion (λ h. (is_number_among h log ≡ false) × (1 ≤ h) × (h ≤ last)) hs →
     AllByRecursion (λ h. (is_number_among h (log ++ results) ≡ false) × (1 ≤ h) × (h ≤ last)) (filter (λ h. not (is_number_among h results)) hs)

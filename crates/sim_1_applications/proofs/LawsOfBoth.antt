@@ -53,7 +53,7 @@ use Rattle.sim_1_applications.proofs.Moments.{passed_at}
 use Rattle.sim_1_applications.proofs.Owners.{Differ, LineAt, name_is, name_tells, names_are, names_of}
 use Rattle.sim_1_applications.proofs.PageLaws.{pages_right}
 use Rattle.sim_1_applications.proofs.Shown.{last_newest, shown_at}
-use Rattle.sim_1_applications.proofs.TakenLaws.{device_epochs, device_numbered, each_device, takes_exist, takes_submitted}
+use Rattle.sim_1_applications.proofs.TakenLaws.{device_epochs, device_numbered, each_device, moments_from, takes_exist, takes_submitted}
 use Rattle.sim_1_applications.proofs.Rendered.{history_few, history_follows}
 use Rattle.sim_1_applications.specs.Reported.{account_line, history_at, name_at, take_of}
 use Rattle.sim_1_applications.specs.Runs.{IsRunOf, begins, moves_of, owned_of, steps_in}
@@ -163,12 +163,6 @@ moment_taken take = take.moment
 stamps_are : (n : ℕ) (takes : List Take) → map stamp_of (map entry_line (numbered_from n (map entry_of takes))) ≡ map moment_taken takes
 stamps_are n [] = refl
 stamps_are n (take ∷ takes) = ap (λ rest. take.moment ∷ rest) (stamps_are (n + 1) takes)
-
-moments_from : (low now : ℕ) (ts : List sessions.Take) → AreMoments low now ts → AllByRecursion (λ t. low ≤ t.moment) ts × EachPair (λ (a b : sessions.Take). a.moment ≤ b.moment) ts
-moments_from low now [] known = (tt, tt)
-moments_from low now (t ∷ ts) known =
-    let rest = moments_from t.moment now ts known.1 in
-    ((known.0, AllByRecursion-weaker (λ u. t.moment ≤ u.moment) (λ u. low ≤ u.moment) (λ u is. let first = known.0 in omega arith) ts rest.0), rest)
 
 stamps_rise : (s : WireView) (worlds : List ReportWorld) (r : ReportView) (run : IsRunOf s worlds r) (name : List ℕ) → IsNonDecreasing (map stamp_of (map entry_line (history_at (owned_of s) run.last.takes name)))
 stamps_rise s worlds r run name =

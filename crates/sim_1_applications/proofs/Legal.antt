@@ -46,7 +46,7 @@ both : (b c : Bool) → (b && c) ≡ true → (b ≡ true) × (c ≡ true)
 both true c e = (refl, e)
 both false c e = absurd (let bad : ⊥ = cc in bad)
 
-off : (b : Bool) → not b ≡ true → b ≡ false
+pub off : (b : Bool) → not b ≡ true → b ≡ false
 off true e = absurd (let bad : ⊥ = cc in bad)
 off false e = refl
 

@@ -13,6 +13,7 @@ use Rattle.sim_1_applications.specs.Events as events
 use Rattle.sim_1_applications.specs.Events.AppEvent.{At, Tick}
 use Rattle.sim_1_applications.specs.Histories.{asked_of, state_after, states_of}
 use Rattle.sim_1_applications.specs.Kept.{AreTiles, Read, Taken, end_of}
+use Rattle.sim_1_applications.proofs.Rendered.{tiles_within as tiles_low}
 
 -- a state that the run passes on its way to the last one
 pub record Passed (v last : AppWorld) : Type 0 where
@@ -58,15 +59,6 @@ pub record TileKnown (high : ℕ) (t : Tile) : Type 0 where
   pub answered : t.began ≤ t.given
   pub over : t.given ≤ t.last
   pub within : t.last ≤ high
-
-tiles_low : (keep n low high : ℕ) (ts : List Tile) → AreTiles keep n low high ts → low ≤ high
-tiles_low keep n low high [] known = known
-tiles_low keep n low high (t ∷ ts) known =
-    let rest = tiles_low keep (end_of keep n t) t.last high ts known.1 in
-    let a = known.0.asked in
-    let b = known.0.answered in
-    let c = known.0.over in
-    omega arith
 
 pub tile_known : (keep n low high : ℕ) (ts : List Tile) (k : ℕ) (t : Tile) → AreTiles keep n low high ts → slice_get ts k ≡ Some t → TileKnown high t
 tile_known keep n low high [] k t known at = absurd (none-some t at)

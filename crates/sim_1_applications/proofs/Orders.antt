@@ -8,13 +8,8 @@ use Rattle.sim_1_applications.specs.Kept.{AreNumbered, ArePast, IsNumbered, acce
 use Rattle.sim_1_applications.specs.Laws.{EachPair, Precedes, IsOnceInOrder}
 use Rattle.sim_1_applications.proofs.Lists.{all_append, all_weaker, all_filter}
 use Rattle.sim_1_applications.proofs.Numbered.{messages_append, numbered_front}
+use Rattle.sim_1_applications.proofs.SaidLines.{numbered_all as above}
 
--- of this epoch, above n
-above : (e n : ℕ) (ms : List Submission) → AreNumbered e n ms → AllByRecursion (λ m. (m.epoch ≡ e) × (n < m.n)) ms
-above e n [] known = tt
-above e n (m ∷ ms) known = (
-  (known.0, let is = known.1 in omega arith),
-  all_weaker (λ k. (k.epoch ≡ e) × (suc n < k.n)) (λ k. (k.epoch ≡ e) × (n < k.n)) ms (λ k a. (a.0, let b = a.1 in omega arith)) (above e (suc n) ms known.2),
 )
 
 pairs_filter : {A : Type 0} (R : A → A → Type 0) (p : A → Bool) (xs : List A) → EachPair R xs → EachPair R (filter p xs)

@@ -201,7 +201,7 @@ id_not_among h (e ∷ es) small few none =
     ap (λ b. b || is_among (id_of h) (map id_of_entry es)) (ids_differ h e.number small few.0 parts.0) ∙ id_not_among h es small few.1 parts.1
 
 -- each number up to the last has its id in the history
-id_from : (s k : ℕ) (es : List EntryView) → FollowFrom s es → s ≤ k → k < s + length es → is_among (id_of k) (map id_of_entry es) ≡ true
+pub id_from : (s k : ℕ) (es : List EntryView) → FollowFrom s es → s ≤ k → k < s + length es → is_among (id_of k) (map id_of_entry es) ≡ true
 id_from s k [] follow low high = absurd (omega arith)
 id_from s k (e ∷ es) follow low high =
     elim (cases_Bool (bytes_eq (id_of k) (id_of e.number))) [

@@ -13,11 +13,7 @@ use Rattle.sim_1_applications.proofs.Worlds.{get_each, same_position, was_device
 use Rattle.sim_1_applications.specs.Counts.{MayAsk}
 use Rattle.sim_1_applications.proofs.Reactions.{reacts, Reacts, Stays, Asks}
 use Rattle.sim_1_applications.proofs.Requests.{asked_served}
-
--- what is heard leaves what the client reads
-pub reading_hears : (takes : List Take) (full : List ℕ) (ts : List Take) (j : ℕ) (d : Device) → (events.hear_all takes full ts j d).reading ≡ d.reading
-reading_hears takes full [] j d = refl
-reading_hears takes full (t ∷ ts) j d = reading_hears takes full ts j (events.hear takes full t j d)
+pub use Rattle.sim_1_applications.proofs.TileRuns.{same_hear_all as reading_hears}
 
 -- what a device becomes at an event: what its own act and hearing make of it, or hearing alone
 pub data Becomes (w : AppWorld) (event : events.AppEvent) (i : ℕ) (d e : Device) : Type 0 where

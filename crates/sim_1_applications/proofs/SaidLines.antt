@@ -62,7 +62,7 @@ said_parts mark s low =
     said_append s.acked mark s.up_got s.up_rest ∙ (let e : s.acked - length s.up_got ≡ 0 = omega arith in ap (λ k. said_among s.acked mark s.up_got ++ said_among k mark s.up_rest) e)
 
 -- numbers in a row
-numbered_all : (e n : ℕ) (ms : List Submission) → AreNumbered e n ms → AllByRecursion (λ m. (m.epoch ≡ e) × (n < m.n)) ms
+pub numbered_all : (e n : ℕ) (ms : List Submission) → AreNumbered e n ms → AllByRecursion (λ m. (m.epoch ≡ e) × (n < m.n)) ms
 numbered_all e n [] known = tt
 numbered_all e n (m ∷ ms) known = (
   (known.0, let is = known.1 in omega arith),

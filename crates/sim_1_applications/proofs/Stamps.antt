@@ -71,7 +71,7 @@ other_key t u apart =
           ])
     ]
 
-all_both : (P Q R : sessions.Take → Type 0) → ((x : sessions.Take) → P x → Q x → R x) → (xs : List sessions.Take) → AllByRecursion P xs → AllByRecursion Q xs → AllByRecursion R xs
+pub all_both : (P Q R : sessions.Take → Type 0) → ((x : sessions.Take) → P x → Q x → R x) → (xs : List sessions.Take) → AllByRecursion P xs → AllByRecursion Q xs → AllByRecursion R xs
 all_both P Q R each [] first second = tt
 all_both P Q R each (x ∷ xs) first second = (each x first.0 second.0, all_both P Q R each xs first.1 second.1)
 

@@ -14,6 +14,7 @@ use Rattle.sim_1_applications.proofs.Numbered.{messages_append, numbered_front}
 use Rattle.sim_1_applications.proofs.Runs.{taken_along, taken_beginning}
 use Rattle.sim_1_applications.specs.Counts.{IsNumberedWithin, said_by, sessions_of}
 use Rattle.sim_1_applications.proofs.Said.{messages_few}
+use Rattle.mam_archive.proofs.NumberedEntries.{at_position as there_is}
 
 -- Of one session.
 
@@ -81,11 +82,6 @@ filter_few p (x ∷ xs) = chosen (p x) (filter_few p xs)
     chosen : (b : Bool) → length (filter p xs) ≤ length xs → length (cond b (x ∷ filter p xs) (filter p xs)) ≤ suc (length xs)
     chosen true few = omega arith
     chosen false few = omega arith
-
-there_is : {A : Type 0} (i : ℕ) (xs : List A) → i < length xs → (x : A) × (slice_get xs i ≡ Some x)
-there_is i [] low = absurd (omega arith)
-there_is zero (x ∷ xs) low = (x, refl)
-there_is (suc i) (x ∷ xs) low = there_is i xs (omega arith)
 
 -- a device said no more than all
 pub said_few : (i : ℕ) (all : List events.AppEvent) → length (said_by i all) ≤ length (spoken_in all)

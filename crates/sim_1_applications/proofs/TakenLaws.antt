@@ -87,7 +87,7 @@ history_is keep owned accounts w report g =
     (AllByRecursion-weaker (λ t. IsTakeLine owned report t.device t) (λ t. timed_take report (line_by (Two keep) owned t) ≡ take_of owned t) (timed_back keep owned report) w.takes (take_lines keep (Two keep) owned accounts w report g))
 
 -- moments
-moments_from : (low now : ℕ) (ts : List sessions.Take) → AreMoments low now ts → AllByRecursion (λ t. low ≤ t.moment) ts × EachPair (λ (a b : sessions.Take). a.moment ≤ b.moment) ts
+pub moments_from : (low now : ℕ) (ts : List sessions.Take) → AreMoments low now ts → AllByRecursion (λ t. low ≤ t.moment) ts × EachPair (λ (a b : sessions.Take). a.moment ≤ b.moment) ts
 moments_from low now [] known = (tt, tt)
 moments_from low now (t ∷ ts) known =
     let rest = moments_from t.moment now ts known.1 in

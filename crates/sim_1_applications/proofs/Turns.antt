@@ -10,6 +10,7 @@ use Rattle.sim_1_applications.proofs.TileRuns.{read_moves}
 use Rattle.sim_1_applications.specs.Counts.{IsTurn, MayAsk}
 use Rattle.sim_1_applications.proofs.Rises.{asked_moves, rises, there_after}
 use Rattle.sim_1_applications.proofs.Unanswered.{once}
+pub use Rattle.sim_1_applications.proofs.TileRuns.{read_along}
 
 -- where no request may be put, none is
 pub never_asks : (all : List events.AppEvent) (w last : AppWorld) (i : ℕ) (d e : Device) → AllByRecursion (λ event. MayAsk i event → ⊥) all → events.Reaches all w last →
@@ -29,10 +30,6 @@ turn (event ∷ all) w last i d e taken read (inr none) led there here =
     let rest = never_asks all led.0 last i one.0 e none led.2 one.1 here in
     let high = first.1 in
     omega arith
-
-pub read_along : (all : List events.AppEvent) (w last : AppWorld) → events.Reaches all w last → Taken w → Read w → Read last
-read_along [] w last led taken read = subst Read (sym led) read
-read_along (event ∷ all) w last led taken read = read_along all led.0 last led.2 (taken_moves event w led.0 led.1 taken) (read_moves event w led.0 led.1 taken read)
 
 -- events, and then others
 pub reaches_both : (first second : List events.AppEvent) (w last : AppWorld) → events.Reaches (first ++ second) w last → (mid : AppWorld) × events.Reaches first w mid × events.Reaches second mid last

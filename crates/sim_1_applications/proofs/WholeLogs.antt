@@ -24,7 +24,7 @@ use Rattle.sim_1_applications.specs.Devices as sessions
 use Rattle.sim_1_applications.specs.Devices.{log_of}
 use Rattle.sim_1_applications.specs.Events.{is_number_among}
 use Rattle.sim_1_applications.proofs.LogLaws.{Logged, rendered, rising, runs_right}
-use Rattle.sim_1_applications.proofs.Rendered.{number_of, numbers_follow, run_numbers, turns_of}
+use Rattle.sim_1_applications.proofs.Rendered.{id_from, number_of, numbers_follow, run_numbers, turns_of}
 use Rattle.sim_1_applications.specs.Reported.{held_line, pages_of}
 use Rattle.sim_1_applications.proofs.Prefixes.{prefix_run, tiles_one, unbroken_turns}
 
@@ -77,21 +77,6 @@ not_among h n (suc k) none low =
   where
     beyond : (a b : ℕ) → b < a → a ≢ suc b → suc b < a
     beyond a b low2 apart2 = omega arith
-
-id_from : (s k : ℕ) (es : List EntryView) → FollowFrom s es → s ≤ k → k < s + length es → is_among (id_of k) (map id_of_entry es) ≡ true
-id_from s k [] follow low high = absurd (omega arith)
-id_from s k (e ∷ es) follow low high =
-    elim (cases_Bool (bytes_eq (id_of k) (id_of e.number))) [
-      | inl hit ↦ ap (λ b. b || is_among (id_of k) (map id_of_entry es)) hit
-      | inr miss ↦
-          let number : e.number ≡ s = follow.0 in
-          let other : k ≢ s = λ same. false≢true (sym miss ∙ (bytes_eq-Decides (id_of k) (id_of e.number)).1 (ap id_of (same ∙ sym number))) in
-          let above : suc s ≤ k = beyond s k low other in
-          ap (λ b. b || is_among (id_of k) (map id_of_entry es)) miss ∙ id_from (suc s) k es follow.1 above (omega arith)
-    ]
-  where
-    beyond : (a b : ℕ) → a ≤ b → b ≢ a → suc a ≤ b
-    beyond a b below differs = omega arith
 
 abbrev line_of_id : EntryLineView → List ℕ
 line_of_id e = e.id

@@ -19,6 +19,7 @@ use Rattle.im_replies.specs.declared.conditions.StreamCondition.{StreamCondition
 use Rattle.im_replies.specs.declared.conditions.StreamCondition.TheVariants.{ResourceConstraint}
 use Rattle.law_limits.proofs.Lists.{each_append, each_changed, each_drop, each_filter}
 use Rattle.xml_writer.specs.Items.{Closing, ItemOut}
+use Rattle.sim_3_images.proofs.Waiting.{either_sessions as either_answers}
 
 -- ---- what is said
 
@@ -101,10 +102,6 @@ less_answers (Some t) ss h = each_filter SessionAnswers _ ss h
 bound_answers : (n account k : ℕ) (resource : List ℕ) (ss : List (Session ItemOut)) → AllByRecursion SessionAnswers ss → AllByRecursion SessionAnswers (bound n account resource k ss)
 bound_answers n account k resource ss h =
     each_append SessionAnswers (less (session_named account resource ss) ss) (fresh n account resource k ∷ []) (less_answers (session_named account resource ss) ss h) (tt, tt)
-
-either_answers : (b : Bool) (ss ts : List (Session ItemOut)) → AllByRecursion SessionAnswers ss → AllByRecursion SessionAnswers ts → AllByRecursion SessionAnswers (cond b ss ts)
-either_answers true ss ts h k = h
-either_answers false ss ts h k = k
 
 resumed_answers : (n k : ℕ) (o : Option (Session ItemOut)) (ss : List (Session ItemOut)) → AllByRecursion SessionAnswers ss → AllByRecursion SessionAnswers (after_resume n k o ss)
 resumed_answers n k None ss h = h

@@ -10,6 +10,7 @@ use Rattle.srv_state.specs.State.{is_number}
 use Rattle.srv_state.specs.declared.connection.Connection.{Connection}
 use Rattle.sim_3_images.proofs.Lookups.{found_after_other_value, found_after_removal, found_beside_inserted, number_is, other_number, self_is}
 use Rattle.sim_3_images.specs.Stands.{Conns, Differ}
+use Rattle.base_lemmas.proofs.Options.{some-none as none_is_not}
 
 pub not_itself : (k m : ℕ) → is_number k m ≡ false → m ≢ k
 not_itself k m e same = true_is_not (sym (self_is k) ∙ ap (is_number k) (sym same) ∙ e)
@@ -71,9 +72,6 @@ absent n (e ∷ es) all =
   where
     too_great : (n m : ℕ) → m ≤ n → n + 1 ≡ m → ⊥
     too_great n m below same = omega (arith, below, same)
-
-none_is_not : {T : Type 0} (x : T) → Some x ≡ None → ⊥
-none_is_not x e = cc
 
 pub differ_inserted : (k : ℕ) (c : Connection) (es : Conns) → lookup (is_number k) es ≡ None → Differ es → Differ (insert_entry nat_cmp es k c)
 differ_inserted k c [] none d = (refl, tt)

@@ -14,6 +14,7 @@ use Rattle.base64.specs.GeneralPurpose.{IsBytes, encode_of}
 use Rattle.auth_scram.specs.Classes as class
 use Rattle.auth_scram.specs.Exchange.{base64_of, client_final_without_proof, client_first_message, is_printable_ascii, server_final_message, server_first_message, with_proof}
 use Rattle.auth_scram.specs.Grammar.{escaped, escaped_byte, is_nonce}
+use Rattle.base_lemmas.proofs.Utf8.{IsAscii-one as one_byte}
 
 bytes_from : (t : List ℕ) → IsAscii t → IsBytes t
 bytes_from t h i = let low = h i in omega (arith, low)
@@ -37,10 +38,6 @@ nonce_ascii [] h = IsAscii-nil
 nonce_ascii (b ∷ bs) h = ascii_by class.is_printable class_low (b ∷ bs) h
 
 -- ---- names
-
-one_byte : (b : ℕ) → b < 128 → IsAscii (b ∷ [])
-one_byte b low zero = low
-one_byte b low (suc i) = IsAscii-nil i
 
 escaped_byte_ascii : (b : ℕ) → b < 128 → IsAscii (escaped_byte b)
 escaped_byte_ascii b low = either (b == 44) (codes "=2C") _ (literal (codes "=2C") refl) (either (b == 61) (codes "=3D") (b ∷ []) (literal (codes "=3D") refl) (one_byte b low))

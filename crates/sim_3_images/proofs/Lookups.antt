@@ -13,6 +13,8 @@ use Rattle.std.specs.declared.cmp.Ordering.{Ordering}
 use Rattle.std.specs.declared.cmp.Ordering.TheVariants.{Equal, Greater, Less}
 use Rattle.srv_state.specs.State.{is_number}
 use Rattle.cmd_network.specs.Positions.{changed_at}
+pub use Rattle.law_server.proofs.Frames.{equal_is}
+pub use Rattle.law_server.proofs.Seats.{number_same as number_is}
 
 -- ---- places
 
@@ -59,14 +61,6 @@ none_at_end (y ∷ l) = none_at_end l
 
 pub self_is : (k : ℕ) → is_number k k ≡ true
 self_is k = ap is_eq (tied_itself nat_cmp_total k)
-
-pub equal_is : (o : Ordering) → is_eq o ≡ true → o ≡ Equal
-equal_is Less e = absurd (true≢false (sym e))
-equal_is Equal e = refl
-equal_is Greater e = absurd (true≢false (sym e))
-
-pub number_is : (j k : ℕ) → is_number j k ≡ true → j ≡ k
-number_is j k e = exact_unsigned j k (equal_is (nat_cmp j k) e)
 
 pub other_number : (j k : ℕ) → j ≢ k → is_number j k ≡ false
 other_number j k other = by (is_number j k) refl

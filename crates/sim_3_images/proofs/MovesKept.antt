@@ -31,11 +31,9 @@ use Rattle.cmd_world.specs.Worlds.{ByteWorld, client_entropy, number_at}
 use Rattle.sim_3_images.proofs.OwnersKept.{owners_kept}
 use Rattle.sim_3_images.proofs.Ends.{Onward, changed_on, closed_there, emitted_on, left_closes, left_opens, cut_opens, length_more, more_on, set_closed, set_on, then_on, where_on, changed_flows, cut_flows, emitted_flows, left_flows, more_flows, put_up_flows, set_flows, where_flows}
 use Rattle.sim_3_images.specs.Kept.{IsFlowing, IsNewest, IsWorldKept, is_open_at, owned_by}
+use Rattle.sim_3_images.proofs.RelayableItems.{unlike as no_way}
 
 -- ---- one device
-
-no_way : (b : Bool) → b ≡ false → b ≡ true → ⊥
-no_way b isnt is = false≢true (sym isnt ∙ is)
 
 -- it stays, or is as far with its connections
 pub same_newest : (wires later : List Wire) (d new : DeviceState) → Onward wires later → new.newest ≡ d.newest → new.here ≡ d.here → IsNewest wires d → IsNewest later new

@@ -11,6 +11,7 @@ use Rattle.sm_live.specs.Rule.{IsRule, RisesTo}
 use Rattle.sm_live.specs.Sessions.{Session, fresh, is_at, is_named, is_numbered, session_at, session_named, session_of, with_session}
 use Rattle.sm_resumption.specs.Rows.{is_some_number}
 use Rattle.srv_route.proofs.Rising.{rises_filter}
+pub use Rattle.sm_resumption.proofs.RowFacts.{option_map_some as was_found}
 
 -- ---- what is found
 
@@ -87,10 +88,6 @@ found_mapped p g (s ∷ ss) same =
       | inl here ↦ let there = same s ∙ here in rw (there, here) refl
       | inr other ↦ let apart = same s ∙ other in rw (apart, other) (found_mapped p g ss same)
     ]
-
-pub was_found : {A B : Type 0} (g : A → B) (o : Option A) (b : B) → option_map g o ≡ Some b → (a : A) × (o ≡ Some a) × (g a ≡ b)
-was_found g None b is = absurd (let no_way : ⊥ = cc in no_way)
-was_found g (Some a) b is = (a, refl, same_Some (g a) b is)
 
 pub either : {T : Type 0} (P : T → Type 0) (b : Bool) (x y : T) → P x → P y → P (cond b x y)
 either P true x y first second = first

@@ -11,7 +11,7 @@ use Rattle.xml_writer.specs.Items.{ItemOut}
 pub moment_answers : (now : ℕ) (h : ServerState ItemOut) → ServerStateAnswers h → ServerStateAnswers (at_moment now h)
 moment_answers now h k = each_filter SessionAnswers _ h.sessions k
 
-either_sessions : (b : Bool) (x y : List (Session ItemOut)) → AllByRecursion SessionAnswers x → AllByRecursion SessionAnswers y → AllByRecursion SessionAnswers (cond b x y)
+pub either_sessions : (b : Bool) (x y : List (Session ItemOut)) → AllByRecursion SessionAnswers x → AllByRecursion SessionAnswers y → AllByRecursion SessionAnswers (cond b x y)
 either_sessions true x y h k = h
 either_sessions false x y h k = k
 

@@ -31,10 +31,7 @@ use Rattle.sim_4_links_follow.proofs.Changes.{under_position}
 use Rattle.sim_4_links_follow.proofs.PromptMoves.{silent_as}
 use Rattle.cmd_network.specs.Positions.{changed_at, changed_where}
 use Rattle.xml_writer.specs.Items.{ItemOut}
-
-first_of : (a b : Bool) → a && b ≡ true → a ≡ true
-first_of true b e = refl
-first_of false b e = absurd (let no_way : ⊥ = cc in no_way)
+use Rattle.sim_4_links_follow.proofs.Listening.{first_true as first_of}
 
 -- a pipe of which the end is due is empty and has ended
 pub due_empty : (p : ItemPipe) → is_end_due p ≡ true → p.items ≡ []

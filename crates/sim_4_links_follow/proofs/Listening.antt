@@ -81,7 +81,7 @@ each_chosen P q (x ∷ xs) all =
       | inr other ↦ rw other (each_chosen P q xs all.1)
     ]
 
-first_true : (a b : Bool) → a && b ≡ true → a ≡ true
+pub first_true : (a b : Bool) → a && b ≡ true → a ≡ true
 first_true true b is = refl
 first_true false b is = absurd (let no_way : ⊥ = cc in no_way)
 

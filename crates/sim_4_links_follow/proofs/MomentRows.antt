@@ -18,10 +18,7 @@ use Rattle.sim_4_links_follow.proofs.Removed.{seat_left}
 use Rattle.sim_4_links_follow.proofs.Placed.{keeps_all}
 use Rattle.sim_4_links_follow.proofs.Servings.{IsLive, live_of}
 use Rattle.xml_writer.specs.Items.{ItemOut}
-
-first_true : (a b : Bool) → a && b ≡ true → a ≡ true
-first_true true b is = refl
-first_true false b is = absurd (let no_way : ⊥ = cc in no_way)
+use Rattle.sim_4_links_follow.proofs.Listening.{first_true}
 
 is_off : (o : Option ℕ) → is_none o ≡ true → o ≡ None
 is_off None is = refl

@@ -59,6 +59,7 @@ use Rattle.xml_trees.specs.Trees.{Elem, name_of, namespace_of}
 use Rattle.sim_4_links_follow.proofs.Placed.{shown_at}
 use Rattle.sim_4_links_follow.proofs.Servings.{known_altered}
 use Rattle.xml_writer.specs.Items.{ItemOut, Whole}
+use Rattle.sm_acks.proofs.Senders.{counted_more as wraps}
 
 -- ---- pipes into which a turn puts
 
@@ -128,9 +129,6 @@ plain_stanza e stanza =
     subst (λ ns. (bytes_eq ns streams_ns && bytes_eq m (codes "error")) ≡ false) (sym same) refl
 
 -- ---- a stanza that comes
-
-wraps : (n : ℕ) → (n % 2 ^ 32 + 1) % 2 ^ 32 ≡ (n + 1) % 2 ^ 32
-wraps n = omega arith
 
 counted_own : (o : Own ItemOut) (s : SessionView ItemOut) → IsOwn o s → IsOwn (record o { handled = o.handled + 1 }) (with_waiting s (counted_in s.waiting))
 counted_own o s old = record {

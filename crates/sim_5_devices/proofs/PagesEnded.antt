@@ -15,6 +15,7 @@ use Rattle.mam_pages.specs.declared.fin.Fin.{Fin}
 use Rattle.sim_1_applications.specs.Answers.{last_in}
 use Rattle.sim_5_devices.proofs.Entries.{same_ids}
 use Rattle.sim_5_devices.proofs.Lives.{same_again}
+pub use Rattle.law_client.proofs.KeptLogs.{fin_is as after_is}
 
 -- ---- ids of numbers behind another
 
@@ -71,9 +72,6 @@ pub end_is_well : (log : LogView) (page : OpenPage) (fin : Fin) (complete : Bool
 end_is_well log page fin complete whole last none goes =
     let same : same_id fin.last (last_id page.results) ≡ true = ap (λ o. same_id o (last_id page.results)) last ∙ same_id_again (last_id page.results) in
     rw (same, none) (ap (λ c. advance_of c page) whole ∙ rw goes refl)
-
-pub after_is : (log : LogView) (page : OpenPage) (fin : Fin) → log.page ≡ Some page → after_fin log fin ≡ with_page log page fin
-after_is log page fin is = ap (λ o. elim o as (λ _. LogView) [ None ↦ log | Some page ↦ with_page log page fin ]) is
 
 some_or_whole : (n : ℕ) (complete : Bool) → (complete ≡ false → 1 ≤ n) → (nat_lt n 1 && not complete) ≡ false
 some_or_whole n true some = elim (cases_Bool (nat_lt n 1)) [ inl few ↦ rw few refl | inr many ↦ rw many refl ]

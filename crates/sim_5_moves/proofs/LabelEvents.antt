@@ -14,6 +14,7 @@ use Rattle.sim_1_applications.specs.Stanzas.Down.{Live}
 use Rattle.sim_1_applications.specs.Stanzas.Up.{Message}
 use Rattle.sim_5_moves.proofs.ReplyEvents.{session_steps_ended}
 use Rattle.sim_5_moves.specs.Handled.{IsHeardOf, IsRepliedTo, IsTakenOf, IsToldOf}
+use Rattle.sim_5_moves.proofs.MessageEvents.{none_put}
 
 -- ---- who hears behind drifts
 
@@ -41,10 +42,6 @@ heard_present t j e is = go e.sessions.row refl (sure (is_present e.sessions.row
     go NoRow same so = absurd (let no_way : ⊥ = cc in no_way)
     go Unread same so = absurd (let no_way : ⊥ = cc in no_way)
     go Present same so = refl
-
--- nothing is put
-none_put : (s : Sessions) → put_down [] s ≡ s
-none_put s = ap (λ l. record s { now = record s.now { down_rest = l } }) (append-nil s.now.down_rest)
 
 module _ {A : Type 0} (r : Stanzas A) where
   -- ---- a device beside

@@ -17,7 +17,7 @@ use Rattle.sim_5_moves.proofs.FullQueues.{Full, full_from}
 use Rattle.sim_5_moves.specs.Handled.{AreHandled, IsTakenOf, IsToldOf, take_at, takes_with}
 
 -- nothing is put
-none_put : (s : Sessions) → put_down [] s ≡ s
+pub none_put : (s : Sessions) → put_down [] s ≡ s
 none_put s = ap (λ l. record s { now = record s.now { down_rest = l } }) (append-nil s.now.down_rest)
 
 pub there_too : {A B : Type 0} (xs : List A) (ys : List B) (j : ℕ) (a : A) → length xs ≡ length ys → slice_get xs j ≡ Some a → (b : B) × (slice_get ys j ≡ Some b)

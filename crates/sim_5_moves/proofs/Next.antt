@@ -33,6 +33,7 @@ use Rattle.sim_1_applications.specs.Devices.{Sessions}
 use Rattle.sim_1_applications.specs.Stanzas.{Down as DownStanza}
 use Rattle.sim_5_moves.specs.Going.{AllBuilt}
 use Rattle.xml_writer.specs.Items.{ItemOut}
+use Rattle.sim_5_moves.proofs.UpBuilt.{all_after}
 
 -- what the links say: the client's session, and what the server put in it
 pub record IsNextStanza (v : View ItemOut) (d : ItemDevice) (z : ItemOut) : Type 0 where
@@ -98,10 +99,6 @@ pub record IsNextRead (o : Owned) (history : List EntryView) (z : ItemOut) (d : 
   pub rest : List DownStanza
   pub first : d.now.down_rest ≡ down_stanza z ∷ rest
   pub built : IsDown o history z
-
-all_after : (P : ItemOut → Type 0) (got : List ItemOut) (z : ItemOut) (rest : List ItemOut) → All P (got ++ z ∷ rest) → P z
-all_after P [] z rest all = All-head P z rest all
-all_after P (g ∷ got) z rest all = all_after P got z rest (All-tail P g (got ++ z ∷ rest) all)
 
 all_at : (P : ItemOut → Type 0) (got : List ItemOut) (z : ItemOut) (rest put : List ItemOut) → put ≡ got ++ z ∷ rest → All P put → P z
 all_at P got z rest put is all = all_after P got z rest (subst (All P) is all)

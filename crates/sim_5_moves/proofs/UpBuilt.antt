@@ -25,7 +25,7 @@ use Rattle.xml_writer.specs.Items.{ItemOut}
 may_take : (z : ItemOut) (s next : Seen ItemOut) (p : ℕ) (e : Option (LinkEvent ItemOut)) → e ≡ Some (Handled p z) → IsSeenAs e s next → May (Handled p z) s
 may_take z s next p e is so = (let at = subst (λ e. IsSeenAs e s next) is so in at.0)
 
-all_after : (P : ItemOut → Type 0) (got : List ItemOut) (z : ItemOut) (rest : List ItemOut) → All P (got ++ z ∷ rest) → P z
+pub all_after : (P : ItemOut → Type 0) (got : List ItemOut) (z : ItemOut) (rest : List ItemOut) → All P (got ++ z ∷ rest) → P z
 all_after P [] z rest all = All-head P z rest all
 all_after P (g ∷ got) z rest all = all_after P got z rest (All-tail P g (got ++ z ∷ rest) all)
 

@@ -16,11 +16,9 @@ use Rattle.sim_1_applications.specs.Stanzas.{Carbons, Message, Presence, Query, 
 use Rattle.cmd_report.specs.declared.report.SaidMark.{SaidMark}
 use Rattle.sim_1_applications.specs.Reported.{said_among}
 use Rattle.sim_7_schedules.specs.Messages.{Told, of_epoch, told, told_said}
+use Rattle.sm_resumption.proofs.RowFacts.{eqb_other as other_test}
 
 -- ---- one list
-
-other_test : (k e : ℕ) → k ≢ e → (k == e) ≡ false
-other_test k e apart = elim (eqb_tells k e) [ inl same ↦ absurd (apart same.1) | inr other ↦ other.0 ]
 
 all_of : (e : ℕ) (xs : List Told) → AllByRecursion (λ (x : Told). x.epoch ≡ e) xs → of_epoch e xs ≡ xs
 all_of e [] all = refl

@@ -28,6 +28,7 @@ use Rattle.cmd_world.specs.Worlds.{ByteWorld, number_at}
 use Rattle.sim_3_images.specs.Kept.{IsFlowing, IsWorldKept}
 use Rattle.sim_5_moves.specs.Running.{DeviceSimulates}
 use Rattle.xml_writer.specs.Items.{ItemOut}
+use Rattle.xml_trees.proofs.AttributeOrder.{nothing_left as none_long}
 
 -- ---- lists
 
@@ -49,10 +50,6 @@ one_of P (y ∷ xs) (suc i) x all at = one_of P xs i x all.1 at
 none_mapped : {A B : Type 0} (f : A → B) (xs : List A) → map f xs ≡ [] → xs ≡ []
 none_mapped f [] is = refl
 none_mapped f (x ∷ xs) is = absurd (let bad : ⊥ = cc in bad)
-
-none_long : {A : Type 0} (xs : List A) → length xs ≡ 0 → xs ≡ []
-none_long [] is = refl
-none_long (x ∷ xs) is = absurd (omega (arith, is))
 
 empty_is : (p : Pipe) → is_empty p ≡ true → p.bytes ≡ []
 empty_is p is = none_long p.bytes (eqb-true (length p.bytes) 0 is)

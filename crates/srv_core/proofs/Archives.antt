@@ -9,9 +9,7 @@ use Rattle.srv_login.specs.declared.account.Account.{Account}
 use Rattle.srv_core.specs.Configs.{archives_of, empty_kept}
 use Rattle.srv_state.specs.Seen.{kept_of}
 use Rattle.srv_state.specs.State.{Kept}
-
-pub seen_at : (archives : List ArchiveView) (position : ℕ) → option_map kept_of (slice_get archives position) ≡ slice_get (map kept_of archives) position
-seen_at archives position = sym (slice_get-map kept_of archives position)
+pub use Rattle.srv_handlers.proofs.ArchiveSteps.{seen_at}
 
 -- an archive more, of the next account
 pub one_more : (domain : List ℕ) (keep : ℕ) (made : List ArchiveView) (archive : ArchiveView) (account : Account) (rest : List Account) (due : List Kept)

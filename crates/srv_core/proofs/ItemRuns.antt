@@ -9,6 +9,7 @@ use Rattle.srv_core.specs.Table.{after_item, after_items, at_open}
 use Rattle.srv_core.specs.Taken.{HasTaken, Seen, Went}
 use Rattle.srv_state.specs.declared.connection.Connection.{Connection}
 use Rattle.xml_writer.specs.Items.{ItemOut, written_item}
+pub use Rattle.xml_trees.proofs.AttributeOrder.{nothing_left}
 
 pub items_append : {A : Type 0} (say : ItemOut → A) (k : ℕ) (a b : List Item) (s : Step A) → after_items say k (a ++ b) s ≡ after_items say k b (after_items say k a s)
 items_append say k [] b s = refl
@@ -31,10 +32,6 @@ stopped k all given left s t u went same stays = record {
 pub all_done : (k : ℕ) (all given left : List Item) (s t : Seen) → Went k given left s t → left ≡ [] → all ≡ given → t ≡ after_items written_item k all s
 all_done k all given left s t went none same =
     went.step ∙ ap (λ l. after_items written_item k l s) (sym (append-nil went.done) ∙ ap (λ l. went.done ++ l) (sym none) ∙ sym went.whole ∙ sym same)
-
-pub nothing_left : {A : Type 0} (l : List A) → length l ≡ 0 → l ≡ []
-nothing_left [] h = refl
-nothing_left (x ∷ xs) h = absurd (omega arith)
 
 -- an item of a connection that isn't open
 pub shut_stays : {A : Type 0} (say : ItemOut → A) (k : ℕ) (i : Item) (s : Step A) → conn_at k s.server_state ≡ None → after_item say k i s ≡ s

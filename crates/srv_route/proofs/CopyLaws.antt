@@ -102,7 +102,7 @@ not_copied {A = A} d m sender sessions is =
     planned_has_all m sender sessions (λ p. (sent_in p ≡ []) × (received_in p ≡ [])) (λ condition. (refused_sent {A = A} condition m.kind, refused_received {A = A} condition m.kind))
     (λ account deliver. (rw is refl, rw is refl)) d
 
-private_in : (archived private : Bool) → private ≡ true → (archived && not private) ≡ false
+pub private_in : (archived private : Bool) → private ≡ true → (archived && not private) ≡ false
 private_in true true is = refl
 private_in false private is = refl
 private_in true false is = absurd (false≢true is)

@@ -9,7 +9,7 @@ use Rattle.sm_live.specs.Rule.{RisesTo}
 use Rattle.sm_live.specs.Sessions.{Session, is_named, is_numbered, is_of, number_of, session_named, session_of, sessions_of}
 use Rattle.sm_live.specs.declared.told.SessionInfo.{SessionInfo}
 use Rattle.srv_route.proofs.Chosen.{AreFound, all_found}
-use Rattle.srv_route.proofs.CopyLaws.{refused_received, refused_sent}
+use Rattle.srv_route.proofs.CopyLaws.{private_in as unwanted, refused_received, refused_sent}
 use Rattle.srv_route.proofs.PlanCases.{planned_has}
 use Rattle.srv_route.specs.Destinations.{Destination}
 use Rattle.srv_route.specs.Messages.{is_copied}
@@ -93,11 +93,6 @@ times_two n a b (t ∷ ts) differ =
                 ]
           ]
     ]
-
--- who has the message gets no copy
-unwanted : (b there : Bool) → there ≡ true → (b && not there) ≡ false
-unwanted true there is = rw is refl
-unwanted false there is = refl
 
 times_having : {A : Type 0} (n : ℕ) (having : List ℕ) (ts : List (Session A)) → list_any (λ x. x == n) having ≡ true → times n (filter (λ t. wants_copy having t.shown) ts) ≡ 0
 times_having n having [] there = refl

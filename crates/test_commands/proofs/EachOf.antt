@@ -5,6 +5,7 @@ use Rattle.std.proofs.lemmas.Option.{none-some, same_Some}
 use Rattle.std.specs.List.{slice_get}
 use Rattle.std.specs.List.Sorted.{IsNonDecreasing}
 use Rattle.cmd_report.specs.Lawful.{EachPair}
+pub use Rattle.cmd_direct.proofs.LawLists.{pairs_not_falling as not_falling}
 
 -- each element, at its place from n on
 abbrev pub EachAt : {A : Type 0} → (ℕ → A → Type 0) → ℕ → List A → Type 0
@@ -30,11 +31,3 @@ one_move P (v ∷ []) each zero x y at_x at_y = absurd (none-some y at_y)
 one_move P (v ∷ []) each (suc i) x y at_x at_y = absurd (none-some x at_x)
 one_move P (v ∷ w ∷ ws) each zero x y at_x at_y = rw (← same_Some v x at_x, ← same_Some w y at_y) each.0
 one_move P (v ∷ w ∷ ws) each (suc i) x y at_x at_y = one_move P (w ∷ ws) each.1 i x y at_x at_y
-
--- numbers of which none is above a later one don't fall
-pub not_falling : (numbers : List ℕ) → EachPair (λ a b. a ≤ b) numbers → IsNonDecreasing numbers
-not_falling [] pairs i j d before within = absurd (omega arith)
-not_falling (first ∷ numbers) pairs zero zero d before within = omega arith
-not_falling (first ∷ numbers) pairs zero (suc j) d before within = All-from_recursion (λ b. first ≤ b) numbers pairs.0 j d (omega arith)
-not_falling (first ∷ numbers) pairs (suc i) zero d before within = absurd (omega arith)
-not_falling (first ∷ numbers) pairs (suc i) (suc j) d before within = not_falling numbers pairs.1 i j d (omega arith) (omega arith)

@@ -20,6 +20,7 @@ use Rattle.xml_framer.specs.declared.items.Item.{Item}
 use Rattle.xml_framer.specs.declared.states.Lexical.{Lexical}
 use Rattle.xml_framer.specs.declared.states.Mode.{Mode}
 use Rattle.xml_framer.specs.declared.states.Mode.TheVariants as mode
+pub use Rattle.xml_tokens.proofs.TagWords.{none-from_is_empty as empty_is}
 
 -- ---- what a plain byte is not
 
@@ -178,10 +179,6 @@ none_is (Some x) e = absurd (true≢false e)
 text_is : (m : Mode) → is_text m ≡ true → m ≡ mode.Text
 text_is mode.Text e = refl
 text_is m e = absurd (true≢false (sym e))
-
-pub empty_is : (bs : List ℕ) → is_empty bs ≡ true → bs ≡ []
-empty_is [] e = refl
-empty_is (b ∷ bs) e = absurd (true≢false (sym e))
 
 pub record TakesText (s : State) : Type 0 where
   pub no_fault : s.fault ≡ None
