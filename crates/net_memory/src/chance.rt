@@ -48,7 +48,6 @@ impl Entropy for MemoryEntropy {
 
     ghost faults = { λ s. s.faults };
 
-    #[tactic(auto, using(crate::proofs::Tellings::repeated_more))]
     fn fill(&mut self, out: &mut [u8; 24]) -> Result<(), Failed>
         ensures drawn { OnOk result (self.new.drawn ≡ self.old.drawn ++ out.new) }
         ensures none { OnErr result (self.new.drawn ≡ self.old.drawn) }

@@ -18,7 +18,11 @@ since_more told_first drawn_first told drawn told_new drawn_new moments bytes P 
   such = f since.moments since.bytes since.such;
 }
 
--- the same of what follows from it
-pub since_then : {told_first drawn_first told drawn : List ℕ} (P Q : List ℕ → List ℕ → Type 0) → ((ms bs : List ℕ) → P ms bs → Q ms bs)
-    → ToldSince told_first drawn_first told drawn P → ToldSince told_first drawn_first told drawn Q
-since_then P Q f since = record { moments = since.moments; bytes = since.bytes; told = since.told; drawn = since.drawn; such = f since.moments since.bytes since.such }
+module _ {told_first drawn_first told drawn : List ℕ} (P Q : List ℕ → List ℕ → Type 0) where
+  -- the same lists, and what else is so of them
+  pub since_such : (since : ToldSince told_first drawn_first told drawn P) → Q since.moments since.bytes → ToldSince told_first drawn_first told drawn Q
+  since_such since is = record { moments = since.moments; bytes = since.bytes; told = since.told; drawn = since.drawn; such = is }
+
+  -- what follows from it
+  pub since_then : ((ms bs : List ℕ) → P ms bs → Q ms bs) → ToldSince told_first drawn_first told drawn P → ToldSince told_first drawn_first told drawn Q
+  since_then f since = since_such since (f since.moments since.bytes since.such)
