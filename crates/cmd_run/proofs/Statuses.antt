@@ -17,6 +17,7 @@ use Rattle.cmd_sync.specs.ScriptReading.{script_reading}
 use Rattle.cmd_sync.specs.Scripts.{ScriptView}
 use Rattle.net_hub.specs.Served.{HasServed}
 use Rattle.net_hub.specs.GivenLinks.{AreFewer}
+use Rattle.net_traits.specs.ToldSince.{ToldSince}
 use Rattle.cmd_run.proofs.Dialers.{link_not_quiet, not_risen}
 use Rattle.cmd_run.proofs.Unread.{unread_entropy, unread_link, unread_peer, unread_worker}
 use Rattle.cmd_run.specs.Dealings.{Dealings, DoorView}
@@ -109,10 +110,11 @@ summed_up command known left rose dealt Written result number size answer zero e
     (report, right, of, sym text_is ∙ sum, subst Written text_is out)
 
 served_accounts : (connections : ℕ) (accounts : List ℕ) (dealt : Dealings) (old new : Option DoorView) (text : List ℕ)
-    → IsSomeAnd old (λ o. IsSomeAnd new (λ n. HasServed accounts connections dealt.before.moment dealt.before.drawn o.given n.given text)) → SaysAccounts accounts
+    → IsSomeAnd old (λ o. IsSomeAnd new (λ n.
+    ToldSince dealt.before.told dealt.before.drawn dealt.following.told dealt.following.drawn (λ told drawn. HasServed accounts connections told drawn o.given n.given text))) → SaysAccounts accounts
 served_accounts connections accounts dealt None new text served = absurd served
 served_accounts connections accounts dealt (Some o) None text served = absurd served
-served_accounts connections accounts dealt (Some o) (Some n) text served = (served.file, served.right, served.whole)
+served_accounts connections accounts dealt (Some o) (Some n) text served = let is = served.such in (is.file, is.right, is.whole)
 
 served_accepted : (connections : ℕ) (input : List ℕ) (dealt : Dealings) (text : List ℕ) → IsServed (Some input) connections dealt text → SaysAccounts input
 served_accepted connections input dealt text (accounts, is, served) =

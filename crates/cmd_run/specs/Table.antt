@@ -29,6 +29,7 @@ use Rattle.cmd_sync.specs.ScriptReading.{script_reading}
 use Rattle.cmd_sync.specs.declared.script_fault.ScriptFault.TheVariants as scripts
 use Rattle.net_hub.specs.Served.{HasServed}
 use Rattle.net_hub.specs.GivenLinks.{AreFewer}
+use Rattle.net_traits.specs.ToldSince.{ToldSince}
 use Rattle.cmd_sync.specs.Syncs.{IsSynced, IsUnsynced}
 use Rattle.cmd_sync.specs.declared.failure.PeerFailure.{PeerFailure}
 use Rattle.cmd_sync.specs.declared.sync_fault.SyncFault.{SyncFault}
@@ -125,12 +126,13 @@ IsSummedUp number size text =
     × (text ≡ summary_of (generated number size) report)
 
 -- The text is the journal of a server that served so many connections at the same time, and the input, where it is known, is the
--- text of its accounts.
+-- text of its accounts. The moments of its events and the bytes drawn for them are all that were told and drawn in the call.
 abbrev pub IsServed : Option (List ℕ) → ℕ → Dealings → List ℕ → Type 0
 IsServed known connections dealt text =
     (accounts : List ℕ) × IfSome known (λ input. input ≡ accounts)
     × IsSomeAnd dealt.before.door (λ old. IsSomeAnd dealt.following.door (λ new.
-    HasServed accounts connections dealt.before.moment dealt.before.drawn old.given new.given text))
+    ToldSince dealt.before.told dealt.before.drawn dealt.following.told dealt.following.drawn (λ told drawn.
+    HasServed accounts connections told drawn old.given new.given text)))
 
 -- some accounts have this text
 abbrev pub SaysAccounts : List ℕ → Type 0
@@ -146,7 +148,7 @@ IsAccountsRefusal known text =
 abbrev pub HasSynced : Option (List ℕ) → Dealings → List ℕ → Type 0
 HasSynced known dealt text =
     (script : List ℕ) × IfSome known (λ input. input ≡ script)
-    × IsSynced script dealt.before.drawn dealt.before.dialer dealt.following.dialer text
+    × IsSynced script dealt.before.drawn dealt.following.drawn dealt.before.dialer dealt.following.dialer text
 
 -- The text names the first bad line of the input and its reason, and the input, where it is known, is no script's text.
 abbrev pub IsScriptRefusal : Option (List ℕ) → List ℕ → Type 0
@@ -158,7 +160,7 @@ IsScriptRefusal known text =
 abbrev pub IsStopped : Option (List ℕ) → Dealings → SyncFault → Type 0
 IsStopped known dealt fault =
     (script : List ℕ) × IfSome known (λ input. input ≡ script)
-    × IsUnsynced script dealt.before.drawn dealt.before.dialer dealt.following.dialer fault
+    × IsUnsynced script dealt.before.drawn dealt.following.drawn dealt.before.dialer dealt.following.dialer fault
 
 -- A case for each command: the text where it was done. `known` is the input where it is known.
 abbrev pub IsDone : Command → Option (List ℕ) → Dealings → List ℕ → Type 0

@@ -29,8 +29,8 @@ impl<D: Halves, L: Dialer, C: Clock, E: Entropy, P: Spawner> Surroundings
     ghost view = { λ s. record {
       door = door_view D.faults D.handed D.given s.door;
       dialer = record { faults = L.faults s.dialer; ends = L.ends s.dialer; handed = L.handed s.dialer; given = L.given s.dialer };
-      moment = C.moment s.clock;
-      drawn = E.bytes s.entropy;
+      told = C.told s.clock;
+      drawn = E.drawn s.entropy;
       draws = E.faults s.entropy;
       starts = P.faults s.spawner;
       started = P.started s.spawner;
