@@ -1,10 +1,11 @@
-use Rattle.std.proofs.Common.{[], ◌∷◌, refl, rules}
+use Rattle.std.proofs.Common.{[], ◌∷◌, refl, rules, subst, sym}
 use Rattle.cmd_journal.specs.Journals.{Connect}
 use Rattle.net_owner.proofs.HeldHalves.{first_same}
 use Rattle.net_hub.proofs.MoreEvents.{bares_more, is_moment_told}
 use Rattle.net_hub.proofs.taking.RecorderTaker.connect.Goals as goal
 use Rattle.net_hub.specs.Records.{IsKept}
 use Rattle.net_traits.proofs.ToldSince.{since_more}
+use Rattle.net_traits.specs.ToldSince.{ToldSince}
 
 pub begin-requires-clause-kept : goal.begin-requires-clause-kept
 begin-requires-clause-kept g c = c.requires.right
@@ -25,3 +26,7 @@ returns-clause-right g c = λ told drawn since.
 
 pub returns-in-Err-clause-halves : goal.returns-in-Err-clause-halves
 returns-in-Err-clause-halves g c = first_same _ _ refl
+
+pub returns-in-Err-clause-right : goal.returns-in-Err-clause-right
+returns-in-Err-clause-right g c = λ told drawn since.
+    subst (λ now. ToldSince told drawn (g.C.Clock.told c.args.clock.now) now (λ ms bs. IsKept g.O.Outgoing.told ms bs c.args.self.now)) (sym c.in-Err.ensures.none) since
