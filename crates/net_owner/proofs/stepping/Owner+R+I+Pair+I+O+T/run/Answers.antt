@@ -8,4 +8,4 @@ pub returns-then-all_ended-clause-closed : goal.returns-then-all_ended-clause-cl
 returns-then-all_ended-clause-closed g c = c.loop.invariant.going.here.last c.if-self.true
 
 pub step-requires-clause-right : goal.step-requires-clause-right
-step-requires-clause-right g c = let right = c.loop.invariant.right in (right.moments, right.bytes, right.such)
+step-requires-clause-right g c κs within = let right = c.loop.invariant.right in (right.moments, right.bytes, right.such)
