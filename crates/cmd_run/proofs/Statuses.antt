@@ -277,9 +277,10 @@ module _ (command : Command) (before now given input : List ℕ) (ahead left : O
       → IsAnswer command input dealt outcome text × (reads (Some command) ≡ true → IsReadWhole input None left)
   answer_for outcome text due =
       let whole = due.1 e in
-      let same = same_input before now given input ahead is grown whole.all in
-      (subst (λ bytes. IsAnswer command bytes dealt outcome text) same due.0,
-      λ r. record { all = tt; ended = whole.ended; short = subst (λ bytes. length bytes ≤ MOST_BYTES_READ) same whole.short })
+      let same = same_input before now given input ahead is grown whole.all in (
+        subst (λ bytes. IsAnswer command bytes dealt outcome text) same due.0,
+        λ r. record { all = tt; ended = whole.ended; short = subst (λ bytes. length bytes ≤ MOST_BYTES_READ) same whole.short },
+      )
 
   -- what is due of what was given is due of the input
   due_for : (outcome : Outcome) (text : List ℕ) → IsDueOf command given ahead left rose dealt outcome text → IsDueOf command input None left rose dealt outcome text
