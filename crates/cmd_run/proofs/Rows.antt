@@ -1,5 +1,5 @@
 -- What the clauses `answered` and `exactly` of `run` say of each status and command, one by one.
-use Rattle.std.proofs.Common.{◌≡◌, ◌≢◌, Bool, true, false, ℕ, ◌++◌, ◌<◌, ◌≤◌, subst, List, length, Option, Some, None, Err, IfSome, IsOk, IsTrue, ◌⊎◌, inl, inr, refl, ◌∙◌, sym, arith}
+use Rattle.std.proofs.Common.{◌≡◌, ◌≢◌, Bool, true, false, ℕ, ◌<◌, ◌≤◌, subst, List, length, Option, Some, None, Err, IfSome, IsOk, IsTrue, ◌⊎◌, inl, inr, refl, ◌∙◌, sym, arith}
 use Rattle.std.proofs.lemmas.Bool.Decides.{eqb_tells, nat_tests}
 use Rattle.std.specs.Io.KnownBytes.{IsAtEnd}
 use Rattle.base_io.specs.declared.whole_reads.TheConstants.{MOST_BYTES_READ}

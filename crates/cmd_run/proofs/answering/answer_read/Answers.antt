@@ -1,5 +1,5 @@
 use Rattle.std.proofs.Common.{refl}
-use Rattle.cmd_run.proofs.Inputs.{due_of_fault, due_of_long, due_of_read}
+use Rattle.cmd_run.proofs.Inputs.{due_of_read}
 use Rattle.cmd_run.proofs.answering.answer_read.Goals as goal
 
 pub returns-in-Ok-clause-due : goal.returns-in-Ok-clause-due
