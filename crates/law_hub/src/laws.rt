@@ -1,5 +1,5 @@
 //! The laws.
-ghost use Rattle.std.specs.Prelude.{◌≡◌, ℕ, List, Ok, Option};
+ghost use Rattle.std.specs.Prelude.{◌≡◌, ℕ, List, Ok};
 ghost use Rattle.net_hub.specs.Served.{HasServed};
 ghost use Rattle.law_hub.specs.Carried.{ArePutAgain, IsOutOf};
 ghost use Rattle.cmd_journal.specs.Journals.{Says};
@@ -12,11 +12,11 @@ ghost use Rattle.law_hub.specs.Again.{EndsAlike, IsRerunOf, rerun_input};
 /// from: these accounts, and exactly these events, and so it is read. What `rerun_bytes` answers of it ends with the archives
 /// that the journal ends with, byte for byte.
 pub fn journal_is_rerun()
-    ensures says { (accounts : List ℕ) (n : ℕ) (told : Option ℕ) (drawn : Option (List ℕ)) (old new : List LinkView) (journal : List ℕ) (served : HasServed accounts n told drawn old new journal)
+    ensures says { (accounts : List ℕ) (n : ℕ) (told drawn : List ℕ) (old new : List LinkView) (journal : List ℕ) (served : HasServed accounts n told drawn old new journal)
         → Says (rerun_input accounts journal) (record { accounts = served.file; events = served.is.events }) }
-    ensures read { (accounts : List ℕ) (n : ℕ) (told : Option ℕ) (drawn : Option (List ℕ)) (old new : List LinkView) (journal : List ℕ) (served : HasServed accounts n told drawn old new journal)
+    ensures read { (accounts : List ℕ) (n : ℕ) (told drawn : List ℕ) (old new : List LinkView) (journal : List ℕ) (served : HasServed accounts n told drawn old new journal)
         → rerun_reading (rerun_input accounts journal) ≡ Ok (record { accounts = served.file; events = served.is.events }) }
-    ensures ends { (accounts : List ℕ) (n : ℕ) (told : Option ℕ) (drawn : Option (List ℕ)) (old new : List LinkView) (journal again : List ℕ)
+    ensures ends { (accounts : List ℕ) (n : ℕ) (told drawn : List ℕ) (old new : List LinkView) (journal again : List ℕ)
         → HasServed accounts n told drawn old new journal → IsRerunOf (rerun_input accounts journal) again → EndsAlike journal again }
 {}
 
@@ -25,8 +25,8 @@ pub fn journal_is_rerun()
 /// from its link, and what is put out again are those that were written on it; where a write failed, it begins with those.
 /// Each connection is gone in the journal, and nothing is put out for one that was not served.
 pub fn rerun_puts_the_same()
-    ensures puts { (accounts : List ℕ) (n : ℕ) (told : Option ℕ) (drawn : Option (List ℕ)) (old new : List LinkView) (journal again : List ℕ) (served : HasServed accounts n told drawn old new journal)
+    ensures puts { (accounts : List ℕ) (n : ℕ) (told drawn : List ℕ) (old new : List LinkView) (journal again : List ℕ) (served : HasServed accounts n told drawn old new journal)
         → IsRerunOf (rerun_input accounts journal) again → IsOutOf (run_of_file served.file served.is.events).outs again }
-    ensures carried { (accounts : List ℕ) (n : ℕ) (told : Option ℕ) (drawn : Option (List ℕ)) (old new : List LinkView) (journal again : List ℕ)
+    ensures carried { (accounts : List ℕ) (n : ℕ) (told drawn : List ℕ) (old new : List LinkView) (journal again : List ℕ)
         → HasServed accounts n told drawn old new journal → IsRerunOf (rerun_input accounts journal) again → ArePutAgain n old new journal again }
 {}
