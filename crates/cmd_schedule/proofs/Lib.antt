@@ -5,6 +5,7 @@ pub mod Cuts
 pub mod DeclaredPositions
 pub mod Found
 pub mod Headings
+pub mod LineLists
 pub mod Lists
 pub mod Moments
 pub mod Numbers

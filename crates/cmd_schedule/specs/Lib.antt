@@ -3,6 +3,7 @@ pub use Rattle.base_io.specs.Names
 pub mod Schedules
 pub mod Grammar
 pub mod WireGrammar
+pub mod LineLists
 pub mod Kinds
 pub mod Contents
 -- What reading answers.

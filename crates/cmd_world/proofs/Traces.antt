@@ -1,5 +1,5 @@
 -- A schedule's lines may all be followed: the clock stays below 2 ^ 64, and accounts stay as they are.
-use Rattle.std.proofs.Common.{◌≡◌, ◌≤◌, ◌+◌, ◌*◌, ◌==◌, ℕ, zero, suc, Bool, true, false, cond, List, [], ◌∷◌, ◌++◌, length, Option, Some, None, ap, refl, sym, subst, ◌∙◌, arith}
+use Rattle.std.proofs.Common.{◌≡◌, ◌≤◌, ◌+◌, ◌==◌, ℕ, zero, suc, Bool, true, false, cond, List, [], ◌∷◌, ◌++◌, length, Option, Some, None, ap, refl, sym, subst, ◌∙◌, arith}
 use Rattle.std.proofs.lemmas.Bool.{and_parts, leb-true}
 use Rattle.std.specs.Prelude.{IfOk, IsTrue, ◌&&◌, Result, nat_le, slice_get, slice_set}
 use Rattle.cmd_network.specs.Devices.{DeviceState}
@@ -9,7 +9,9 @@ use Rattle.cmd_report.specs.Reports.{ReportView}
 use Rattle.cmd_schedule.specs.Contents.{accounts_of}
 use Rattle.cmd_schedule.specs.Grammar.{is_name, is_text}
 use Rattle.cmd_schedule.specs.Schedules.{WireView, wire_steps_of}
-use Rattle.cmd_schedule.specs.WireGrammar.{AreRunnable, AreWireLines, IsWireSchedule, WireAbove, above_by, may_run, nothing_above}
+use Rattle.cmd_schedule.proofs.LineLists.{listed}
+use Rattle.cmd_schedule.specs.LineLists.{AreListed, IsLineList, ticked_in, ticked_of}
+use Rattle.cmd_schedule.specs.WireGrammar.{AreRunnable, IsWireSchedule, WireAbove, above_by, may_run, nothing_above}
 use Rattle.cmd_schedule.specs.declared.schedule.Count.{Count}
 use Rattle.cmd_schedule.specs.declared.schedule.Count.TheVariants.{All}
 use Rattle.cmd_schedule.specs.declared.schedule.Step.{Step}
@@ -138,39 +140,37 @@ by_move : (f : ℕ → Move) (o : Option ℕ) (w : ByteWorld) → ((position : �
 by_move f None w each = stays w
 by_move f (Some position) w each = each position
 
-passes_common : (s : Step) (n : ℕ) (above : WireAbove) (w : ByteWorld) → IsTrue (may_run above (wire.Common s)) → Passes 1000000000 (all_moved (common_moves w.names n s) w) w
-passes_common (step.Account name) n above w may = passes 1000000000 w w (stays w)
-passes_common (step.Device name account) n above w may = passes 1000000000 w w (stays w)
-passes_common (step.Say device to text) n above w may =
-    passes 1000000000 _ w (by_move (λ position. moves.Say position n to text false) (position_of device w.names) w (λ position. stays_said position n to text false (slice_get w.devices position) w))
-passes_common (step.Private device to text) n above w may =
-    passes 1000000000 _ w (by_move (λ position. moves.Say position n to text true) (position_of device w.names) w (λ position. stays_said position n to text true (slice_get w.devices position) w))
-passes_common (step.Catchup device most) n above w may =
-    passes 1000000000 _ w (by_move (λ position. moves.CatchUp position n most) (position_of device w.names) w (λ position. stays_caught_up position n most (slice_get w.devices position) w))
-passes_common (step.Tick milliseconds) n above w may =
-    let few : milliseconds ≤ 1000000000 = leb-true milliseconds MOST_TICK may in
-    record { moment = omega (arith, few); accounts = refl }
+passes_common : (s : Step) (n : ℕ) (w : ByteWorld) → Passes (ticked_of (wire.Common s)) (all_moved (common_moves w.names n s) w) w
+passes_common (step.Account name) n w = passes 0 w w (stays w)
+passes_common (step.Device name account) n w = passes 0 w w (stays w)
+passes_common (step.Say device to text) n w =
+    passes 0 _ w (by_move (λ position. moves.Say position n to text false) (position_of device w.names) w (λ position. stays_said position n to text false (slice_get w.devices position) w))
+passes_common (step.Private device to text) n w =
+    passes 0 _ w (by_move (λ position. moves.Say position n to text true) (position_of device w.names) w (λ position. stays_said position n to text true (slice_get w.devices position) w))
+passes_common (step.Catchup device most) n w =
+    passes 0 _ w (by_move (λ position. moves.CatchUp position n most) (position_of device w.names) w (λ position. stays_caught_up position n most (slice_get w.devices position) w))
+passes_common (step.Tick milliseconds) n w = record { moment = omega arith; accounts = refl }
 
-passes_line : (s : WireStep) (n : ℕ) (above : WireAbove) (w : ByteWorld) → IsTrue (may_run above s) → Passes 1000000000 (all_moved (step_moves w.names (length w.wires) n s) w) w
-passes_line (wire.Common s) n above w may = passes_common s n above w may
-passes_line (wire.Dial device) n above w may =
-    passes 1000000000 _ w (by_move moves.Dial (position_of device w.names) w (λ position. stays_dialed position (slice_get w.devices position) w))
-passes_line (wire.Forget device) n above w may =
-    passes 1000000000 _ w (by_move moves.Forget (position_of device w.names) w (λ position. stays_forgot position (slice_get w.devices position) w))
-passes_line (wire.Close device) n above w may =
-    passes 1000000000 _ w (by_move moves.Close (position_of device w.names) w (λ position. stays_closed position (slice_get w.devices position) w))
-passes_line (wire.Up k count) n above w may =
-    passes 1000000000 _ w (by_move (λ position. moves.Up position count) (position_under k) w (λ position. stays_up position count w))
-passes_line (wire.Down k count) n above w may =
-    passes 1000000000 _ w (by_move (λ position. moves.Down position count) (position_under k) w (λ position. stays_down position count (slice_get w.wires position) w))
-passes_line (wire.Cut k up down) n above w may =
-    passes 1000000000 _ w (by_move (λ position. moves.Cut position up down) (position_under k) w (λ position. record { moment = refl; accounts = refl }))
-passes_line (wire.Pass k times) n above w may = passes 1000000000 _ w (stays_passes_where times (position_under k) w)
-passes_line (wire.Run times) n above w may = passes 1000000000 _ w (stays_rounds times (length w.wires) w)
+passes_line : (s : WireStep) (n : ℕ) (w : ByteWorld) → Passes (ticked_of s) (all_moved (step_moves w.names (length w.wires) n s) w) w
+passes_line (wire.Common s) n w = passes_common s n w
+passes_line (wire.Dial device) n w =
+    passes 0 _ w (by_move moves.Dial (position_of device w.names) w (λ position. stays_dialed position (slice_get w.devices position) w))
+passes_line (wire.Forget device) n w =
+    passes 0 _ w (by_move moves.Forget (position_of device w.names) w (λ position. stays_forgot position (slice_get w.devices position) w))
+passes_line (wire.Close device) n w =
+    passes 0 _ w (by_move moves.Close (position_of device w.names) w (λ position. stays_closed position (slice_get w.devices position) w))
+passes_line (wire.Up k count) n w =
+    passes 0 _ w (by_move (λ position. moves.Up position count) (position_under k) w (λ position. stays_up position count w))
+passes_line (wire.Down k count) n w =
+    passes 0 _ w (by_move (λ position. moves.Down position count) (position_under k) w (λ position. stays_down position count (slice_get w.wires position) w))
+passes_line (wire.Cut k up down) n w =
+    passes 0 _ w (by_move (λ position. moves.Cut position up down) (position_under k) w (λ position. record { moment = refl; accounts = refl }))
+passes_line (wire.Pass k times) n w = passes 0 _ w (stays_passes_where times (position_under k) w)
+passes_line (wire.Run times) n w = passes 0 _ w (stays_rounds times (length w.wires) w)
 
 -- ---- what is asked of a line
 
-may_ask : (s : Step) (above : WireAbove) (w : ByteWorld) → IsTrue (may_run above (wire.Common s)) → w.moment ≤ 100000000000000 → MayAsk s w
+may_ask : (s : Step) (above : WireAbove) (w : ByteWorld) → IsTrue (may_run above (wire.Common s)) → w.moment ≤ 253402207200000 → MayAsk s w
 may_ask (step.Account name) above w may early = tt
 may_ask (step.Device name account) above w may early = tt
 may_ask (step.Say device to text) above w may early =
@@ -185,7 +185,7 @@ may_ask (step.Tick milliseconds) above w may early =
     let few : milliseconds ≤ 1000000000 = leb-true milliseconds MOST_TICK may in
     omega (arith, few, early)
 
-may_step : (s : WireStep) (above : WireAbove) (w : ByteWorld) → IsTrue (may_run above s) → w.moment ≤ 100000000000000 → MayStep s w
+may_step : (s : WireStep) (above : WireAbove) (w : ByteWorld) → IsTrue (may_run above s) → w.moment ≤ 253402207200000 → MayStep s w
 may_step (wire.Common s) above w may early = may_ask s above w may early
 may_step (wire.Dial device) above w may early = tt
 may_step (wire.Forget device) above w may early = tt
@@ -196,41 +196,51 @@ may_step (wire.Cut k up down) above w may early = tt
 may_step (wire.Pass k times) above w may early = tt
 may_step (wire.Run times) above w may early = tt
 
-may_all : (lines : List WireLine) (above : WireAbove) (n : ℕ) (w : ByteWorld) → AreWireLines above n lines → w.moment ≤ 1000000000 * n → MayAllStep lines w
-may_all [] above n w are early = tt
-may_all (line ∷ lines) above n w are early =
-    let may = are.2 in
-    let next = passes_line line.step line.number above w may in (
-      may_step line.step above w may (omega (arith, early, are.1)),
-      may_all lines (above_by line.step above) (n + 1) (stepped line w) are.4 (omega (arith, early, next.moment)),
+may_all : (lines : List WireLine) (above : WireAbove) (w : ByteWorld) → AreListed above lines → w.moment + ticked_in lines ≤ 253402207200000 → MayAllStep lines w
+may_all [] above w are early = tt
+may_all (line ∷ lines) above w are early =
+    let next = passes_line line.step line.number w in
+    let soon : w.moment + (ticked_of line.step + ticked_in lines) ≤ 253402207200000 = early in (
+      may_step line.step above w are.1 (omega (arith, soon)),
+      may_all lines (above_by line.step above) (stepped line w) are.3 (omega (arith, soon, next.moment)),
     )
 
--- ---- a schedule
+-- ---- a list of lines
 
-runnable : (lines : List WireLine) (above : WireAbove) (n : ℕ) → AreWireLines above n lines → AreRunnable above (wire_steps_of lines)
-runnable [] above n are = tt
-runnable (line ∷ lines) above n are = (are.2, runnable lines (above_by line.step above) (n + 1) are.4)
+runnable : (lines : List WireLine) (above : WireAbove) → AreListed above lines → AreRunnable above (wire_steps_of lines)
+runnable [] above are = tt
+runnable (line ∷ lines) above are = (are.1, runnable lines (above_by line.step above) are.3)
 
-pub may_run_all : (schedule : WireView) → IsWireSchedule schedule → AreRunnable nothing_above (wire_steps_of schedule.lines)
-may_run_all schedule is = runnable schedule.lines nothing_above 2 is.lines
+pub may_run_all : (schedule : WireView) → IsLineList schedule → AreRunnable nothing_above (wire_steps_of schedule.lines)
+may_run_all schedule is = runnable schedule.lines nothing_above is.lines
 
 pub numbered_start : (schedule : WireView) (w : ByteWorld) → w ≡ world_at_start schedule → IsNumbered w
 numbered_start schedule w same = subst IsNumbered (sym same) (tt, tt)
 
-pub may_follow : (schedule : WireView) (w : ByteWorld) → IsWireSchedule schedule → w ≡ world_at_start schedule → MayAllStep schedule.lines w
+pub may_follow : (schedule : WireView) (w : ByteWorld) → IsLineList schedule → w ≡ world_at_start schedule → MayAllStep schedule.lines w
 may_follow schedule w is same =
-    subst (MayAllStep schedule.lines) (sym same) (may_all schedule.lines nothing_above 2 (world_at_start schedule) is.lines (omega arith))
+    subst (MayAllStep schedule.lines) (sym same) (may_all schedule.lines nothing_above (world_at_start schedule) is.lines (let ticked : ticked_in schedule.lines ≤ 253402207200000 = is.ticked in omega (arith, ticked)))
 
-accounts_stay : (lines : List WireLine) (above : WireAbove) (n : ℕ) (w : ByteWorld) → AreWireLines above n lines → (all_stepped lines w).accounts ≡ w.accounts
-accounts_stay [] above n w are = refl
-accounts_stay (line ∷ lines) above n w are =
-    accounts_stay lines (above_by line.step above) (n + 1) (stepped line w) are.4 ∙ (passes_line line.step line.number above w are.2).accounts
+accounts_stay : (lines : List WireLine) (w : ByteWorld) → (all_stepped lines w).accounts ≡ w.accounts
+accounts_stay [] w = refl
+accounts_stay (line ∷ lines) w = accounts_stay lines (stepped line w) ∙ (passes_line line.step line.number w).accounts
 
-pub few_accounts : (schedule : WireView) (w : ByteWorld) → IsWireSchedule schedule → w ≡ all_stepped schedule.lines (world_at_start schedule) → length w.accounts ≤ 100
+pub few_accounts : (schedule : WireView) (w : ByteWorld) → IsLineList schedule → w ≡ all_stepped schedule.lines (world_at_start schedule) → length w.accounts ≤ 100
 few_accounts schedule w is same =
-    let accounts : w.accounts ≡ accounts_of (common_steps schedule) = ap (λ (v : ByteWorld). v.accounts) same ∙ accounts_stay schedule.lines nothing_above 2 (world_at_start schedule) is.lines in
+    let accounts : w.accounts ≡ accounts_of (common_steps schedule) = ap (λ (v : ByteWorld). v.accounts) same ∙ accounts_stay schedule.lines (world_at_start schedule) in
     let few : length (accounts_of (common_steps schedule)) ≤ 100 = are_few (accounts_of (common_steps schedule)) (are_accounts schedule (may_run_all schedule is)) in
     rw accounts few
+
+-- ---- a schedule
+
+pub may_run_schedule : (schedule : WireView) → IsWireSchedule schedule → AreRunnable nothing_above (wire_steps_of schedule.lines)
+may_run_schedule schedule is = may_run_all schedule (listed schedule is)
+
+pub may_follow_schedule : (schedule : WireView) (w : ByteWorld) → IsWireSchedule schedule → w ≡ world_at_start schedule → MayAllStep schedule.lines w
+may_follow_schedule schedule w is same = may_follow schedule w (listed schedule is) same
+
+pub few_in_schedule : (schedule : WireView) (w : ByteWorld) → IsWireSchedule schedule → w ≡ all_stepped schedule.lines (world_at_start schedule) → length w.accounts ≤ 100
+few_in_schedule schedule w is same = few_accounts schedule w (listed schedule is) same
 
 -- ---- the report
 

@@ -27,7 +27,7 @@ fn step_all(world: &mut World, lines: &[WireLine]) -> Result<(), NoMemory>
 
 /// The report of the world in which a wire schedule ends: its server and clients, byte by byte. `NoMemory` comes only where
 /// memory runs out, and every schedule has its report.
-#[tactic(auto, using(crate::proofs::Traces::may_run_all, crate::proofs::Traces::numbered_start, crate::proofs::Traces::may_follow, crate::proofs::Traces::few_accounts))]
+#[tactic(auto, using(crate::proofs::Traces::may_run_schedule, crate::proofs::Traces::numbered_start, crate::proofs::Traces::may_follow_schedule, crate::proofs::Traces::few_in_schedule))]
 pub fn wire_report(alloc: Global, schedule: &WireSchedule) -> Result<Report, NoMemory>
     requires { IsWireSchedule schedule.now }
     ensures { IfOk result (λ report. report ≡ report_of (world_of schedule.now)) }

@@ -7,3 +7,6 @@ pub mod Marks
 pub mod Worlds
 pub mod DirectWorlds
 pub mod RunWorlds
+-- the clock and the pages of a direct run
+pub mod DirectClocks
+pub mod DirectPages

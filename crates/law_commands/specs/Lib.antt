@@ -10,3 +10,5 @@ pub use Rattle.xml_check.specs.Checked
 pub mod Checks
 -- law: what the worlds of a run have to do with its report
 pub mod OfWorlds
+-- law: the moments and the sizes of pages of a direct run
+pub mod DirectRuns

@@ -102,10 +102,6 @@ body_bounded (element ns name attrs kids) h is =
           (subst (λ c. element_size client_ns (body_elem (body_of (element ns name attrs kids))) ≤ element_size client_ns (element client_ns c attrs kids)) (sym called) shorter);
     }
 
-kept_bodies : (b : Bool) (e : Elem) (bodies : List Elem) → map body_of (cond b (e ∷ bodies) bodies) ≡ cond b (body_of e ∷ map body_of bodies) (map body_of bodies)
-kept_bodies true e bodies = refl
-kept_bodies false e bodies = refl
-
 pub bodies_bounded : (ks : Nodes) (origin : List ℕ) (m : ℕ) → ArePlainNodes ks → AreBounded client_ns 1 m (origin_node origin) → AreBounded client_ns 1 (nodes_size client_ns ks + m) (entry_nodes (bodies_of ks) origin)
 bodies_bounded no_nodes origin m h k = nodes_more client_ns 1 1 m (nodes_size client_ns no_nodes + m) (origin_node origin) k (omega arith) (omega arith)
 bodies_bounded (child e rest) origin m h k =

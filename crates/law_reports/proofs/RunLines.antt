@@ -1,5 +1,5 @@
 -- What the lines of a wire schedule say, and what became of them in a run.
-use Rattle.std.proofs.Common.{◌≡◌, ℕ, suc, ◌+◌, ◌≤◌, Bool, true, false, List, [], ◌∷◌, length, ◌⊎◌, inl, inr, IsTrue, sym, ap, subst, arith}
+use Rattle.std.proofs.Common.{◌≡◌, ℕ, suc, ◌+◌, ◌<◌, ◌≤◌, ◌^◌, Bool, true, false, List, [], ◌∷◌, length, ◌⊎◌, inl, inr, IsTrue, sym, ap, subst, arith}
 use Rattle.std.proofs.lemmas.Bool.{and_parts}
 use Rattle.std.proofs.lemmas.List.{length-append}
 use Rattle.std.specs.Bool.{MatchBool}
@@ -14,7 +14,8 @@ use Rattle.cmd_schedule.proofs.Lists.{all_append}
 use Rattle.cmd_schedule.specs.Contents.{account_name, device_name}
 use Rattle.cmd_schedule.specs.Grammar.{Declared, is_name, is_text, may_stand}
 use Rattle.cmd_schedule.specs.Schedules.{common_at}
-use Rattle.cmd_schedule.specs.WireGrammar.{AreWireLines, WireAbove, above_by, may_run}
+use Rattle.cmd_schedule.specs.LineLists.{AreListed}
+use Rattle.cmd_schedule.specs.WireGrammar.{WireAbove, above_by, may_run}
 use Rattle.cmd_schedule.specs.declared.schedule.Line.{Line}
 use Rattle.cmd_schedule.specs.declared.schedule.Step.{Step}
 use Rattle.cmd_schedule.specs.declared.schedule.Step.TheVariants.{Account, Device, Say, Private, Catchup, Tick}
@@ -39,7 +40,7 @@ told_by above (Catchup device most) may = tt
 told_by above (Tick ms) may = tt
 
 pub record IsLineRight (line : Line) : Type 0 where
-  pub low : line.number ≤ 100000
+  pub low : line.number < 2 ^ 32
   pub account : AllByRecursion IsNamed (account_name line.step)
   pub device : AllByRecursion IsNamed (device_name line.step)
   pub told : IsTold line.step
@@ -47,25 +48,25 @@ pub record IsLineRight (line : Line) : Type 0 where
 abbrev pub common_lines : List WireLine → List Line
 common_lines lines = flat_map (λ (line : WireLine). common_at line.number line.step) lines
 
-wire_line_right : (above : WireAbove) (n : ℕ) (step : WireStep) → n ≤ 100000 → IsTrue (may_run above step) → AllByRecursion IsLineRight (common_at n step)
+wire_line_right : (above : WireAbove) (n : ℕ) (step : WireStep) → n < 2 ^ 32 → IsTrue (may_run above step) → AllByRecursion IsLineRight (common_at n step)
 wire_line_right above n (Common step) few may =
     (record { low = few; account = named_account above.names step may; device = named_device above.names step may; told = told_by above.names step may }, tt)
 wire_line_right above n step few may = tt
 
-pub wire_lines_right : (above : WireAbove) (n : ℕ) (lines : List WireLine) → AreWireLines above n lines → AllByRecursion IsLineRight (common_lines lines)
-wire_lines_right above n [] are = tt
-wire_lines_right above n (line ∷ lines) are =
+pub wire_lines_right : (above : WireAbove) (lines : List WireLine) → AreListed above lines → AllByRecursion IsLineRight (common_lines lines)
+wire_lines_right above [] are = tt
+wire_lines_right above (line ∷ lines) are =
     all_append IsLineRight (common_at line.number line.step) (common_lines lines)
-    (wire_line_right above line.number line.step (omega (arith, are.0, are.1)) are.2) (wire_lines_right (above_by line.step above) (n + 1) lines are.4)
+    (wire_line_right above line.number line.step are.0 are.1) (wire_lines_right (above_by line.step above) lines are.3)
 
 common_few : (n : ℕ) (step : WireStep) → length (common_at n step) ≤ 1
 common_few n (Common step) = omega arith
 common_few n step = omega arith
 
-pub wire_lines_few : (above : WireAbove) (n : ℕ) (lines : List WireLine) → n ≤ 100001 → AreWireLines above n lines → length (common_lines lines) + n ≤ 100001
-wire_lines_few above n [] low are = omega arith
-wire_lines_few above n (line ∷ lines) low are =
-    let rest = wire_lines_few (above_by line.step above) (n + 1) lines (omega (arith, are.1)) are.4 in
+pub wire_lines_few : (lines : List WireLine) → length (common_lines lines) ≤ length lines
+wire_lines_few [] = omega arith
+wire_lines_few (line ∷ lines) =
+    let rest = wire_lines_few lines in
     omega (arith, rest, common_few line.number line.step, length-append (common_at line.number line.step) (common_lines lines))
 
 -- ---- what became of them
@@ -76,7 +77,7 @@ IsSchedules said = (is_name said.to ≡ true) × (is_text said.text ≡ true)
 
 pub record IsCome (many : ℕ) (said : List SaidLine) (refused : List RefusedLine) : Type 0 where
   pub each : AllByRecursion IsSchedules said
-  pub numbers : AllByRecursion (λ (r : RefusedLine). r.line ≤ 100000) refused
+  pub numbers : AllByRecursion (λ (r : RefusedLine). r.line < 2 ^ 32) refused
   pub few : length said ≤ many
 
 come_later : (many : ℕ) (said : List SaidLine) (refused : List RefusedLine) → IsCome many said refused → IsCome (suc many) said refused
@@ -93,7 +94,7 @@ come_said to text Others many (x ∷ others) refused named written begins follow
       few = omega (arith, rest.few);
     }
 
-come_refused : (number : ℕ) (Others : List RefusedLine → Type 0) (many : ℕ) (said : List SaidLine) (refused : List RefusedLine) → number ≤ 100000 →
+come_refused : (number : ℕ) (Others : List RefusedLine → Type 0) (many : ℕ) (said : List SaidLine) (refused : List RefusedLine) → number < 2 ^ 32 →
     BeginsRefused number Others refused → ((others : List RefusedLine) → Others others → IsCome many said others) → IsCome (suc many) said refused
 come_refused number Others many said [] low begins following = absurd begins
 come_refused number Others many said (x ∷ others) low begins following =
@@ -101,7 +102,7 @@ come_refused number Others many said (x ∷ others) low begins following =
     record { each = rest.each; numbers = (omega (arith, begins.0, low), rest.numbers); few = omega (arith, rest.few) }
 
 message_come : (hit : Bool) (number : ℕ) (to text : List ℕ) (Behind : List SaidLine → List RefusedLine → Type 0) (many : ℕ) (said : List SaidLine) (refused : List RefusedLine) →
-    number ≤ 100000 → (is_name to ≡ true) × (is_text text ≡ true) →
+    number < 2 ^ 32 → (is_name to ≡ true) × (is_text text ≡ true) →
     MatchBool hit (BeginsSaid to text (λ others. Behind others refused) said ⊎ BeginsRefused number (Behind said) refused) (Behind said refused) →
     ((ss : List SaidLine) (rs : List RefusedLine) → Behind ss rs → IsCome many ss rs) → IsCome (suc many) said refused
 message_come true number to text Behind many said refused low told come following =
@@ -111,7 +112,7 @@ message_come true number to text Behind many said refused low told come followin
     ]
 message_come false number to text Behind many said refused low told come following = come_later many said refused (following said refused come)
 
-catchup_come : (hit : Bool) (number : ℕ) (Behind : List SaidLine → List RefusedLine → Type 0) (many : ℕ) (said : List SaidLine) (refused : List RefusedLine) → number ≤ 100000 →
+catchup_come : (hit : Bool) (number : ℕ) (Behind : List SaidLine → List RefusedLine → Type 0) (many : ℕ) (said : List SaidLine) (refused : List RefusedLine) → number < 2 ^ 32 →
     MatchBool hit (Behind said refused ⊎ BeginsRefused number (Behind said) refused) (Behind said refused) →
     ((ss : List SaidLine) (rs : List RefusedLine) → Behind ss rs → IsCome many ss rs) → IsCome (suc many) said refused
 catchup_come true number Behind many said refused low come following =
@@ -122,7 +123,7 @@ catchup_come true number Behind many said refused low come following =
 catchup_come false number Behind many said refused low come following = come_later many said refused (following said refused come)
 
 outcome_come : (device : List ℕ) (step : Step) (number : ℕ) (Behind : List SaidLine → List RefusedLine → Type 0) (many : ℕ) (said : List SaidLine) (refused : List RefusedLine) →
-    number ≤ 100000 → IsTold step → IsOutcome device step number Behind said refused → ((ss : List SaidLine) (rs : List RefusedLine) → Behind ss rs → IsCome many ss rs) →
+    number < 2 ^ 32 → IsTold step → IsOutcome device step number Behind said refused → ((ss : List SaidLine) (rs : List RefusedLine) → Behind ss rs → IsCome many ss rs) →
     IsCome (suc many) said refused
 outcome_come device (Say name to text) number Behind many said refused low told come following = message_come (bytes_eq device name) number to text Behind many said refused low told come following
 outcome_come device (Private name to text) number Behind many said refused low told come following = message_come (bytes_eq device name) number to text Behind many said refused low told come following
@@ -135,7 +136,7 @@ pub outcomes_come : (device : List ℕ) (lines : List Line) (said : List SaidLin
     IsCome (length lines) said refused
 outcomes_come device [] said refused right are = record {
   each = subst (AllByRecursion IsSchedules) (sym are.0) tt;
-  numbers = subst (AllByRecursion (λ (r : RefusedLine). r.line ≤ 100000)) (sym are.1) tt;
+  numbers = subst (AllByRecursion (λ (r : RefusedLine). r.line < 2 ^ 32)) (sym are.1) tt;
   few = omega (arith, ap length are.0);
 }
 outcomes_come device (line ∷ lines) said refused right are =

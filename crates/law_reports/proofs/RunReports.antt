@@ -50,7 +50,7 @@ pub record IsOwner (o : Owned) : Type 0 where
   pub account : is_name o.account ≡ true
 
 lines_right : (s : WireView) (worlds : List ReportWorld) (r : ReportView) → IsRunOf s worlds r → AllByRecursion IsLineRight (seen_of s).lines
-lines_right s worlds r run = wire_lines_right nothing_above 2 s.lines run.right.lines
+lines_right s worlds r run = wire_lines_right nothing_above s.lines run.right.lines
 
 accounts_named : (s : WireView) (worlds : List ReportWorld) (r : ReportView) → IsRunOf s worlds r → AllByRecursion IsNamed (accounts_of (steps_in s))
 accounts_named s worlds r run =
@@ -88,12 +88,12 @@ pub record IsKnownLine (d : DeviceView) : Type 0 where
   pub account : is_name d.account ≡ true
   pub epoch : d.epoch < 2 ^ 64
   pub said : AllByRecursion IsKnownSaid d.said
-  pub refused : AllByRecursion (λ (r : RefusedLine). r.line ≤ 100000) d.refused
+  pub refused : AllByRecursion (λ (r : RefusedLine). r.line < 2 ^ 32) d.refused
 
 abbrev AreEpochs : DeviceView → Type 0
 AreEpochs d = AllByRecursion (λ (said : SaidLine). (1 ≤ said.epoch) × (said.epoch ≤ d.epoch)) d.said
 
-known_said : (epoch many : ℕ) → epoch < 2 ^ 64 → many ≤ 100000 → (said : SaidLine) → IsSchedules said × ((said.n ≤ many) × ((1 ≤ said.epoch) × (said.epoch ≤ epoch))) → IsKnownSaid said
+known_said : (epoch many : ℕ) → epoch < 2 ^ 64 → many < 2 ^ 32 → (said : SaidLine) → IsSchedules said × ((said.n ≤ many) × ((1 ≤ said.epoch) × (said.epoch ≤ epoch))) → IsKnownSaid said
 known_said epoch many low few said is = record {
   to = is.0.0;
   text = is.0.1;
@@ -101,9 +101,9 @@ known_said epoch many low few said is = record {
   n = omega (arith, is.1.0, few);
 }
 
-known_line : (many : ℕ) → many ≤ 100000 → (d : DeviceView) → (o : Owned) → o ≡ record { device = d.name; account = d.account } → IsOwner o → IsCome many d.said d.refused → AreSubmissions d.said → AreEpochs d → IsNumber d.epoch → IsKnownLine d
+known_line : (many : ℕ) → many < 2 ^ 32 → (d : DeviceView) → (o : Owned) → o ≡ record { device = d.name; account = d.account } → IsOwner o → IsCome many d.said d.refused → AreSubmissions d.said → AreEpochs d → IsNumber d.epoch → IsKnownLine d
 known_line many few d o same owner come numbered epochs low =
-    let short : length d.said ≤ 100000 = omega (arith, come.few, few) in
+    let short : length d.said < 2 ^ 32 = omega (arith, come.few, few) in
     let numbers = numbers_few d.said numbered in
     record {
       name = subst (λ (p : Owned). is_name p.device ≡ true) same owner.device;
@@ -121,7 +121,8 @@ owner_of d = record { device = d.name; account = d.account }
 known_lines : (s : WireView) (worlds : List ReportWorld) (r : ReportView) → IsRunOf s worlds r → HasNumbers r → AllByRecursion IsKnownLine r.devices
 known_lines s worlds r run has =
     let many = length (seen_of s).lines in
-    let few : many ≤ 100000 = omega (arith, wire_lines_few nothing_above 2 s.lines (omega arith) run.right.lines) in
+    let short : length s.lines ≤ 4294967294 = run.right.few in
+    let few : many < 2 ^ 32 = omega (arith, wire_lines_few s.lines, short) in
     let g = ground_of s worlds r run in
     let owners : AllByRecursion (λ d. IsOwner (owner_of d)) r.devices =
     all_unmap IsOwner owner_of r.devices (subst (AllByRecursion IsOwner) (sym (of_schedule s worlds r run).devices) (owners_right s worlds r run)) in
@@ -230,7 +231,7 @@ device_right d is = record {
     to = visible_field said.to (name_visible said.to known.to);
     text = text_on_line said.text known.text;
   }) d.said is.0.said;
-  refused = AllByRecursion-weaker (λ (r : RefusedLine). r.line ≤ 100000) (λ (r : RefusedLine). IsNumber r.line) (λ r low. omega (arith, low)) d.refused is.0.refused;
+  refused = AllByRecursion-weaker (λ (r : RefusedLine). r.line < 2 ^ 32) (λ (r : RefusedLine). IsNumber r.line) (λ r low. omega (arith, low)) d.refused is.0.refused;
   pages = is.1.0.pages;
   underway = is.1.1;
   logged = is.1.0.logged;

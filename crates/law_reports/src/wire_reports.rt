@@ -8,7 +8,7 @@ ghost use Rattle.cmd_report_reader.specs.Readable.{IsReadable};
 ghost use Rattle.cmd_schedule.specs.Schedules.{WireView};
 ghost use Rattle.sim_1_applications.specs.Runs.{IsRunOf};
 
-/// A law: the report of each run of a wire schedule, of both versions, can be read, where what a run doesn't bound has 64
+/// A law: the report of each run of a list of lines, of both versions, can be read, where what a run doesn't bound has 64
 /// bits: the clock, epochs, the requests under way and the connections' lines.
 pub fn runs_are_readable()
     ensures { (s : WireView) (worlds : List ReportWorld) (r : ReportView) (run : IsRunOf s worlds r) → run.last.clock < 2 ^ 64 → HasNumbers r → IsReadable r }

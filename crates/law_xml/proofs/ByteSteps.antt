@@ -63,8 +63,6 @@ pub record Kept (s t : State) (n : ℕ) : Type 0 where
 pub alike_same : (s : State) → AreAlike s s
 alike_same s = record { limits = refl; here = refl; below = refl; scopes = refl; name = refl; phase = refl; spent = refl }
 
-}
-
 pub kept_none : (s : State) → Kept s s 0
 kept_none s = record { alike = alike_same s; item_at = refl; used = omega arith; counted = λ h. h; uncounted = λ h. h }
 

@@ -61,18 +61,6 @@ digit_unended b h = grind (arith, nat_tests)
 hex_digit_unended : (b : ℕ) → is_hex_digit b ≡ true → eqb b 59 ≡ false
 hex_digit_unended b h = grind (arith, nat_tests)
 
-number_unended : (xs : List ℕ) (b : ℕ) → number_goes_on xs b ≡ true → eqb b 59 ≡ false
-number_unended [] b h = grind (arith, nat_tests)
-number_unended (x ∷ xs) b h =
-    ⊎_elim (λ hex. let d : is_hex_digit b ≡ true = hex.1 in hex_digit_unended b d) (λ dec. let d : is_digit b ≡ true = dec.1 in digit_unended b d)
-    (chosen (eqb x 120) (is_hex_digit b) (is_digit b) true h)
-
-name_byte_unended : (b : ℕ) → is_name_byte b ≡ true → eqb b 59 ≡ false
-name_byte_unended b h = grind (arith, nat_tests)
-
-first_unended : (b : ℕ) → (eqb b 35 || is_name_start b) ≡ true → eqb b 59 ≡ false
-first_unended b h = grind (arith, nat_tests)
-
 each_unended : (so name : List ℕ) → each_goes_on so name ≡ true → list_all (λ b. not (eqb b 59)) name ≡ true
 each_unended so [] h = refl
 each_unended so (b ∷ bs) h =

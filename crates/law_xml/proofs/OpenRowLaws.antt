@@ -51,11 +51,6 @@ text_mode mode.Tag e = absurd (false≢true e)
 text_mode mode.Footer e = absurd (false≢true e)
 text_mode mode.Section e = absurd (false≢true e)
 
--- a part of a word that begins with 33 or 63 leads no tag
-no_lead : (k : ℕ) (word more rest : List ℕ) → k ∷ word ≡ more ++ rest → is_empty more ≡ false → leads_tag (k ∷ []) ≡ false → leads_tag more ≡ false
-no_lead k word [] rest e some h = absurd (true≢false some)
-no_lead k word (x ∷ xs) rest e some h = subst (λ d. leads_tag (d ∷ xs) ≡ false) (heads k x word (xs ++ rest) e) h
-
 -- ---- the kind of a token
 
 -- where no more than the `<` is there
@@ -134,9 +129,6 @@ tag_begins None m s used items bytes h is outer = (subst (λ n. Hand None n s us
 pub footer_outside : (o : Option OpenElement) (m : Mode) (s : State) (used : ℕ) (items : List Item) (bytes : List ℕ) → Hand o m s used items bytes → m ≡ mode.Footer → is_some o ≡ false
 footer_outside None m s used items bytes h is = refl
 footer_outside (Some o) m s used items bytes h is = absurd (subst (λ n. Hand (Some o) n s used items bytes) is h).2
-
-one_context : (limits other : Limits) (c d : Context) (bytes : List ℕ) → limits ≡ other → c ≡ d → HasContext limits c bytes → HasContext other d bytes
-one_context limits other c d bytes e f h = subst (λ l. HasContext l d bytes) e (subst (λ x. HasContext limits x bytes) f h)
 
 module _ (limits : Limits) (few_bytes : limits.bytes < 2 ^ 64) (few : limits.attributes < 2 ^ 32) (short : limits.namespace_bytes < 2 ^ 32) where
   pub read_at : (bytes : List ℕ) → fault_of limits bytes ≡ None → Read limits (framed limits bytes) bytes

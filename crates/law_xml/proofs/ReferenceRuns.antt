@@ -29,11 +29,6 @@ number_ends (x ∷ xs) = same (eqb x 120)
     same true = refl
     same false = refl
 
-reference_ends : (so_far : List ℕ) → reference_goes_on so_far 59 ≡ false
-unfolding reference_goes_on
-reference_ends [] = refl
-reference_ends (x ∷ xs) = ⊎_elim (λ (number : eqb x 35 ≡ true). rw number (number_ends xs)) (λ (other : eqb x 35 ≡ false). rw other refl) (cases_Bool (eqb x 35))
-
 gathers : (s : State) (b : ℕ) → eqb b 59 ≡ false → reference_goes_on s.token b ≡ true → in_reference s b ≡ gathered s b
 unfolding in_reference
 gathers s b other h = rw (other, h) refl

@@ -1,7 +1,7 @@
 //! Links over TCP.
 ghost use Rattle.std.specs.Prelude.{◌≡◌, ◌<◌, None, length, IfOk};
 ghost use Rattle.std.specs.Io.{ReadsAtMost, WritesAtMost};
-ghost use Rattle.std.specs.Io.KnownBytes.{ReadConsumes};
+ghost use Rattle.std.specs.Io.KnownBytes.{ReadConsumes, WriteAppends};
 ghost use Rattle.base_io.specs.Counts.{HasCause};
 ghost use Rattle.net_traits.specs.Links.{ReadsStay, WritesStay, counted_if, is_end};
 ghost use Rattle.net_tcp.specs.Returns.{told_link};
@@ -69,6 +69,7 @@ fn read_from<S: Read>(stream: &mut S, buf: &mut [u8]) -> Result<usize, Failed>
 fn write_to<S: Write>(stream: &mut S, bytes: &[u8]) -> Result<usize, Failed>
     ensures bound { WritesAtMost result bytes.now }
     ensures some { IfOk result (λ n. 0 < length bytes.now → 0 < n) }
+    ensures writer { WriteAppends (S.contents stream.old) (S.contents stream.new) result bytes.now }
 {
     for _ in 0..u64::MAX {
         match stream.write(bytes) {
@@ -95,7 +96,15 @@ impl<S: Read + Write + OpenStream> Link for TcpLink<S> {
         read
     }
 
-    fn write(&mut self, bytes: &[u8]) -> Result<usize, Failed> {
+    fn write(&mut self, bytes: &[u8]) -> Result<usize, Failed>
+        ensures bound { WritesAtMost result bytes.now }
+        ensures written { WriteAppends (told_link self.old.counts).written (told_link self.new.counts).written result bytes.now }
+        ensures silent { (told_link self.old.counts).written ≡ None → (told_link self.new.counts).written ≡ None }
+        ensures some { IfOk result (λ n. 0 < length bytes.now → 0 < n) }
+        ensures cause { HasCause (told_link self.old.counts).write_faults (told_link self.new.counts).write_faults result }
+        ensures reads { ReadsStay (told_link self.old.counts) (told_link self.new.counts) }
+        ensures writer { WriteAppends (S.contents self.old.stream) (S.contents self.new.stream) result bytes.now }
+    {
         let written = write_to(&mut self.stream, bytes);
         match written {
             Ok(n) => self.counts.written.note(&bytes[..n]),

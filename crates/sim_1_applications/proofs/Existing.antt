@@ -13,7 +13,8 @@ use Rattle.cmd_report.specs.Worlds.{ReportWorld}
 use Rattle.cmd_report.specs.declared.report.RefusedLine.{RefusedLine}
 use Rattle.cmd_schedule.specs.Contents.{Owned, accounts_of}
 use Rattle.cmd_schedule.specs.Schedules.{WireView, keep_of}
-use Rattle.cmd_schedule.specs.WireGrammar.{IsWireSchedule, nothing_above}
+use Rattle.cmd_schedule.specs.LineLists.{IsLineList}
+use Rattle.cmd_schedule.specs.WireGrammar.{nothing_above}
 use Rattle.sim_1_applications.proofs.Later.{later_along}
 use Rattle.sim_1_applications.specs.Devices as sessions
 use Rattle.sim_1_applications.specs.Devices.{Device, Tile, epoch_of}
@@ -117,11 +118,11 @@ report_by s runs last = record {
   devices = lines_by (keep_of s.version) (history_at (owned_of s) last.takes) (λ name. refused_by name runs) (owned_of s) last.devices;
 }
 
-pub reported : (s : WireView) (runs : List LineRun) (last : sessions.AppWorld) → IsWireSchedule s → map (λ (r : LineRun). r.line) runs ≡ s.lines → AllByRecursion (IsLineDone (owned_of s)) runs →
+pub reported : (s : WireView) (runs : List LineRun) (last : sessions.AppWorld) → IsLineList s → map (λ (r : LineRun). r.line) runs ≡ s.lines → AllByRecursion (IsLineDone (owned_of s)) runs →
     Reaches (flat_map (λ (move : List AppEvent). move) (moves_of runs)) (begins s) last → length last.takes ≤ 4294967295 →
     IsRunOf s (map (shown_by (owned_of s)) (states_of (begins s) (moves_of runs))) (report_by s runs last)
 reported s runs last right lines done reaches few =
-    let differ = names_differ (steps_in s) (wire_stand [] nothing_above 2 s.lines refl right.lines) in
+    let differ = names_differ (steps_in s) (wire_stand [] nothing_above s.lines refl right.lines) in
     let later = later_along (flat_map (λ (move : List AppEvent). move) (moves_of runs)) (begins s) last reaches in
     let history = history_at (owned_of s) last.takes in
     record {
@@ -144,6 +145,6 @@ reported s runs last right lines done reaches few =
     }
 
 -- and so there are some
-pub some_report : (s : WireView) (runs : List LineRun) (last : sessions.AppWorld) → IsWireSchedule s → map (λ (r : LineRun). r.line) runs ≡ s.lines → AllByRecursion (IsLineDone (owned_of s)) runs →
+pub some_report : (s : WireView) (runs : List LineRun) (last : sessions.AppWorld) → IsLineList s → map (λ (r : LineRun). r.line) runs ≡ s.lines → AllByRecursion (IsLineDone (owned_of s)) runs →
     Reaches (flat_map (λ (move : List AppEvent). move) (moves_of runs)) (begins s) last → length last.takes ≤ 4294967295 → (worlds : List ReportWorld) × (r : ReportView) × IsRunOf s worlds r
 some_report s runs last right lines done reaches few = (map (shown_by (owned_of s)) (states_of (begins s) (moves_of runs)), report_by s runs last, reported s runs last right lines done reaches few)

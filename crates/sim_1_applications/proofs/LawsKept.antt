@@ -51,7 +51,7 @@ keeps_some One may = omega arith
 keeps_some (Two keep) may = leb-true 1 keep (and_parts _ _ may).0
 
 pub standing : (s : WireView) (worlds : List ReportWorld) (r : ReportView) → IsRunOf s worlds r → AreStanding [] (steps_in s)
-standing s worlds r run = wire_stand [] nothing_above 2 s.lines refl run.right.lines
+standing s worlds r run = wire_stand [] nothing_above s.lines refl run.right.lines
 
 home_at : (owned : List Owned) (i : ℕ) (o : Owned) → slice_get owned i ≡ Some o → slice_get (new_devices (map (λ (p : Owned). p.account) owned)) i ≡ Some (new_device o.account)
 home_at [] i o at = absurd (none-some o at)

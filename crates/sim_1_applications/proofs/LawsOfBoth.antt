@@ -32,7 +32,8 @@ use Rattle.cmd_schedule.proofs.StandingSteps.{home_in, homes_are, homes_exist}
 use Rattle.cmd_schedule.specs.Contents.{Owned, accounts_of, device_name, devices_of}
 use Rattle.cmd_schedule.specs.Grammar.{is_name, may_stand}
 use Rattle.cmd_schedule.specs.Schedules.{WireView, common_at, keep_of, seen_of, steps_of}
-use Rattle.cmd_schedule.specs.WireGrammar.{AreWireLines, WireAbove, above_by, may_run, nothing_above}
+use Rattle.cmd_schedule.specs.LineLists.{AreListed}
+use Rattle.cmd_schedule.specs.WireGrammar.{WireAbove, above_by, may_run, nothing_above}
 use Rattle.cmd_schedule.specs.declared.schedule.Line.{Line}
 use Rattle.cmd_schedule.specs.declared.schedule.Step.{Step}
 use Rattle.cmd_schedule.specs.declared.schedule.Step.TheVariants.{Device}
@@ -76,11 +77,11 @@ named_one : (above : WireAbove) (step : WireStep) (number : ℕ) (later : List L
 named_one above (Common step) number later may others = all_append (λ name. is_name name ≡ true) (device_name step) (devices_of (steps_of later)) (named_step above step may) others
 named_one above step number later may others = others
 
-wire_named : (above : WireAbove) (n : ℕ) (lines : List WireLine) → AreWireLines above n lines →
+wire_named : (above : WireAbove) (lines : List WireLine) → AreListed above lines →
     AllByRecursion (λ name. is_name name ≡ true) (devices_of (steps_of (flat_map (λ (line : WireLine). common_at line.number line.step) lines)))
-wire_named above n [] known = tt
-wire_named above n (line ∷ lines) known =
-    named_one above line.step line.number (flat_map (λ (l : WireLine). common_at l.number l.step) lines) known.2 (wire_named (above_by line.step above) (n + 1) lines known.4)
+wire_named above [] known = tt
+wire_named above (line ∷ lines) known =
+    named_one above line.step line.number (flat_map (λ (l : WireLine). common_at l.number l.step) lines) known.1 (wire_named (above_by line.step above) lines known.3)
 
 name_has : (P : List ℕ → Type 0) (owned : List Owned) (i : ℕ) → AllByRecursion P (names_of owned) → i < length owned → P (name_at owned i)
 name_has P [] i all within = absurd (omega arith)
@@ -211,7 +212,7 @@ takes_known s worlds r run counted =
     let within = takes_within (keep_of s.version) s.version owned (accounts_of (steps_in s)) run.last r g in
     let plain : AllByRecursion (λ name. list_all is_name_byte name ≡ true) (names_of owned) =
     subst (AllByRecursion (λ name. list_all is_name_byte name ≡ true)) (sym (names_are (steps_in s)))
-    (AllByRecursion-weaker (λ name. is_name name ≡ true) (λ name. list_all is_name_byte name ≡ true) (λ name is. name_bytes name is) (devices_of (steps_in s)) (wire_named nothing_above 2 s.lines run.right.lines)) in
+    (AllByRecursion-weaker (λ name. is_name name ≡ true) (λ name. list_all is_name_byte name ≡ true) (λ name is. name_bytes name is) (devices_of (steps_in s)) (wire_named nothing_above s.lines run.right.lines)) in
     let many = g.many in
     let apart = takes_apart (length owned) run.last.takes within (λ i low.
     let d = at_position i run.last.devices (omega arith) in (once_in_order run.last g.taken i d.0 d.1).rise) in

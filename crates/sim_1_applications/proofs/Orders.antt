@@ -10,8 +10,6 @@ use Rattle.sim_1_applications.proofs.Lists.{all_append, all_weaker, all_filter}
 use Rattle.sim_1_applications.proofs.Numbered.{messages_append, numbered_front}
 use Rattle.sim_1_applications.proofs.SaidLines.{numbered_all as above}
 
-)
-
 pairs_filter : {A : Type 0} (R : A → A → Type 0) (p : A → Bool) (xs : List A) → EachPair R xs → EachPair R (filter p xs)
 pairs_filter R p [] known = tt
 pairs_filter R p (x ∷ xs) known = chosen (p x) (pairs_filter R p xs known.1)

@@ -1,5 +1,5 @@
 -- Of a wire schedule, the steps that direct schedules have too stand where they may.
-use Rattle.std.proofs.Common.{◌≡◌, ℕ, ◌+◌, List, [], ◌∷◌, ◌++◌, IsTrue, refl, sym, ap, ◌∙◌, subst, arith}
+use Rattle.std.proofs.Common.{◌≡◌, ℕ, List, [], ◌∷◌, ◌++◌, IsTrue, refl, sym, ap, ◌∙◌, subst, arith}
 use Rattle.std.proofs.lemmas.List.{append-nil}
 use Rattle.std.specs.List.{flat_map}
 use Rattle.cmd_schedule.proofs.Prefixes.{accounts_push, devices_push}
@@ -7,7 +7,8 @@ use Rattle.cmd_schedule.proofs.StandingSteps.{AreStanding, Stands, declared_of, 
 use Rattle.cmd_schedule.specs.Contents.{accounts_of, devices_of}
 use Rattle.cmd_schedule.specs.Grammar.{Declared, declared_by, may_stand}
 use Rattle.cmd_schedule.specs.Schedules.{common_at, steps_of}
-use Rattle.cmd_schedule.specs.WireGrammar.{AreWireLines, WireAbove, above_by, may_run}
+use Rattle.cmd_schedule.specs.LineLists.{AreListed}
+use Rattle.cmd_schedule.specs.WireGrammar.{WireAbove, above_by, may_run}
 use Rattle.cmd_schedule.specs.declared.schedule.Line.{Line}
 use Rattle.cmd_schedule.specs.declared.schedule.Step.{Step}
 use Rattle.cmd_schedule.specs.declared.schedule.Step.TheVariants.{Account, Device, Say, Private, Catchup, Tick}
@@ -48,9 +49,9 @@ step_stands before above (Common step) number later names may following =
 step_stands before above step number later names may following =
     subst (λ steps. AreStanding steps (steps_of later)) (append-nil before) (following [] (names ∙ ap declared_of (sym (append-nil before))))
 
-pub wire_stand : (before : List Step) (above : WireAbove) (n : ℕ) (lines : List WireLine) → above.names ≡ declared_of before → AreWireLines above n lines →
+pub wire_stand : (before : List Step) (above : WireAbove) (lines : List WireLine) → above.names ≡ declared_of before → AreListed above lines →
     AreStanding before (steps_of (flat_map (λ (line : WireLine). common_at line.number line.step) lines))
-wire_stand before above n [] names known = tt
-wire_stand before above n (line ∷ lines) names known =
-    step_stands before above line.step line.number (flat_map (λ (l : WireLine). common_at l.number l.step) lines) names known.2
-    (λ more next. wire_stand (before ++ more) (above_by line.step above) (n + 1) lines next known.4)
+wire_stand before above [] names known = tt
+wire_stand before above (line ∷ lines) names known =
+    step_stands before above line.step line.number (flat_map (λ (l : WireLine). common_at l.number l.step) lines) names known.1
+    (λ more next. wire_stand (before ++ more) (above_by line.step above) lines next known.3)

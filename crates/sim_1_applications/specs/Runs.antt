@@ -10,7 +10,7 @@ use Rattle.cmd_report.specs.declared.report.RefusedLine.{RefusedLine}
 use Rattle.cmd_report.specs.declared.report.RefusedWhy.{RefusedWhy}
 use Rattle.cmd_schedule.specs.Contents.{Owned, accounts_of, owned_in}
 use Rattle.cmd_schedule.specs.Schedules.{WireView, keep_of, seen_of, steps_of}
-use Rattle.cmd_schedule.specs.WireGrammar.{IsWireSchedule}
+use Rattle.cmd_schedule.specs.LineLists.{IsLineList}
 use Rattle.cmd_schedule.specs.declared.schedule.Step.{Step}
 use Rattle.cmd_schedule.specs.declared.schedule.Step.TheVariants.{Say, Private, Catchup}
 use Rattle.cmd_schedule.specs.declared.schedule.WireLine.{WireLine}
@@ -87,10 +87,10 @@ pub record IsReportOf (schedule : WireView) (runs : List LineRun) (last : sessio
   pub devices : AreDeviceLines (keep_of schedule.version) (history_at (owned_of schedule) last.takes) (owned_of schedule) last.devices report.devices
   pub refused : AllByRecursion (λ d. d.refused ≡ refused_by d.name runs) report.devices
 
--- The report is that of a run of the wire schedule over sessions that may stop at any time; and these were the worlds
+-- The report is that of a run of the list of lines over sessions that may stop at any time; and these were the worlds
 -- before the first move and after each move.
 pub record IsRunOf (schedule : WireView) (worlds : List ReportWorld) (report : ReportView) : Type 0 where
-  pub right : IsWireSchedule schedule
+  pub right : IsLineList schedule
   pub runs : List LineRun
   pub of_lines : map (λ (r : LineRun). r.line) runs ≡ schedule.lines
   pub done : AllByRecursion (IsLineDone (owned_of schedule)) runs

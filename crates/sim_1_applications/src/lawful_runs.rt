@@ -11,7 +11,7 @@ ghost use Rattle.cmd_report.specs.LawfulRuns.{IsLawfulKeeping};
 ghost use Rattle.cmd_report.specs.Reports.{ReportView};
 ghost use Rattle.cmd_report.specs.Worlds.{ReportWorld};
 ghost use Rattle.cmd_schedule.specs.Schedules.{WireView, seen_of};
-ghost use Rattle.cmd_schedule.specs.WireGrammar.{IsWireSchedule};
+ghost use Rattle.cmd_schedule.specs.LineLists.{IsLineList};
 ghost use Rattle.cmd_schedule.specs.declared.schedule.Version.TheVariants.{Two};
 ghost use Rattle.sim_1_applications.specs.Answers.{page_answer_of};
 ghost use Rattle.sim_1_applications.specs.Devices as sessions;
@@ -20,7 +20,7 @@ ghost use Rattle.sim_1_applications.specs.Events.{AppEvent, Reaches};
 ghost use Rattle.sim_1_applications.specs.Pages.{IsGiven, stanzas_of};
 ghost use Rattle.sim_1_applications.specs.Runs.{IsLineDone, IsRunOf, LineRun, begins, moves_of, owned_of};
 
-/// A law: the report of each run of a wire schedule of version 2, over sessions that may stop at any time, keeps the five
+/// A law: the report of each run of a list of lines of version 2, over sessions that may stop at any time, keeps the five
 /// laws of that version. What the archives keep is the newest of what was taken; each message is taken at most once and in
 /// order; what is acknowledged was taken; each log is runs of its account's history, broken only where entries were
 /// purged; and the pages of a log are tiles of it, each as fresh as its archive.
@@ -29,10 +29,10 @@ pub fn sessions_are_lawful()
         IsLawfulKeeping keep worlds (seen_of s) r }
 {}
 
-/// A law: each run of a wire schedule has worlds and a report, so that laws of these speak of something. A run is what
+/// A law: each run of a list of lines has worlds and a report, so that laws of these speak of something. A run is what
 /// each line led to, in moves that reach a state.
 pub fn runs_are_reported()
-    ensures { (s : WireView) (runs : List LineRun) (last : sessions.AppWorld) → IsWireSchedule s → map (λ (r : LineRun). r.line) runs ≡ s.lines →
+    ensures { (s : WireView) (runs : List LineRun) (last : sessions.AppWorld) → IsLineList s → map (λ (r : LineRun). r.line) runs ≡ s.lines →
         AllByRecursion (IsLineDone (owned_of s)) runs → Reaches (flat_map (λ (move : List AppEvent). move) (moves_of runs)) (begins s) last →
         length last.takes ≤ 4294967295 → (worlds : List ReportWorld) × (r : ReportView) × IsRunOf s worlds r }
 {}

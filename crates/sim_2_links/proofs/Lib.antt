@@ -58,3 +58,4 @@ pub mod WithPremises
 pub mod WorkedLate
 pub mod WorkedPages
 pub mod Epochs
+pub mod Onward

@@ -18,3 +18,4 @@ pub mod Numbers
 pub mod Sums
 pub mod Paging
 pub mod Newest
+pub mod Onward

@@ -16,6 +16,6 @@ pub use links::{
     counts_are_at_most_the_puts, counts_are_too_high_only_after_a_newer_connection,
     counts_are_too_high_only_where_the_client_left, empty_pipes_leave_nothing_outstanding,
     moves_are_events_of_sessions, numbers_rise_with_epochs, runs_with_premises_are_runs,
-    sessions_are_acknowledged_delivery, the_clients_queue_stays_short,
+    sessions_are_acknowledged_delivery, sessions_go_on, the_clients_queue_stays_short,
     what_is_under_way_is_in_the_pipes, words_come_where_they_are_expected, wrong_ends_are_refused,
 };

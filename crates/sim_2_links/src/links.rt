@@ -20,6 +20,7 @@ ghost use Rattle.sim_2_links.specs.EndMoves.{IsTooHigh};
 ghost use Rattle.sim_2_links.specs.Events.{Follows, IsSeenAs, LinkEvent, seen};
 ghost use Rattle.sim_2_links.specs.Machine.{LinkMove, LinkMoves, LinkReached, LinkReaches, nothing_yet};
 ghost use Rattle.sim_2_links.specs.Newest.{newest};
+ghost use Rattle.sim_2_links.specs.Onward.{AreOnward};
 ghost use Rattle.sim_2_links.specs.Numbers.{IsRising};
 ghost use Rattle.sim_2_links.specs.Sums.{said_in, served_in};
 ghost use Rattle.sim_2_links.specs.Telling.{Tells};
@@ -38,6 +39,12 @@ pub fn sessions_are_acknowledged_delivery<A>()
     ensures acked { (v : View A) → LinkReached v → (p : ℕ) (s : Session A) → v.sessions p ≡ Some s → (s.up.acked ≤ length s.up.got) × (s.down.acked ≤ length s.down.got) }
     ensures server { (v : View A) → LinkReached v → (r : Row A) → v.row ≡ Some r → (s : Session A) × (v.sessions r.number ≡ Some s) × IsServerEnd r s }
     ensures client { (v : View A) → LinkReached v → (o : Own A) → v.own ≡ Some o → (s : Session A) × (v.sessions o.number ≡ Some s) × IsClientEnd o s }
+{}
+
+/// As the device goes on, each session that it ever had is there under its number still, and keeps the epoch that it has.
+/// Each of its directions comes from what it was to what it is by moves of acknowledged delivery.
+pub fn sessions_go_on<A>()
+    ensures { (moves : List (LinkMove A)) (v next : View A) → LinkReached v → LinkReaches moves v next → AreOnward v.sessions next.sessions }
 {}
 
 /// What is under way in a session is what stands in the pipes: up on the connection on which the server counts it, down

@@ -15,7 +15,7 @@ use Rattle.cmd_report.specs.Addresses.{domain}
 use Rattle.cmd_network.specs.Starting.{accounts_at_start}
 use Rattle.cmd_schedule.specs.Contents.{Owned, accounts_of, owned_in}
 use Rattle.cmd_schedule.specs.Schedules.{WireView, keep_of}
-use Rattle.cmd_schedule.specs.WireGrammar.{IsWireSchedule}
+use Rattle.cmd_schedule.specs.LineLists.{IsLineList}
 use Rattle.sim_3_images.proofs.Within.{start_within}
 use Rattle.sim_3_images.specs.Unbound.{IsOrdered}
 use Rattle.cmd_network.specs.Positions.{position_under}
@@ -26,7 +26,7 @@ none_under : (o : Option ℕ) → option_and_then (slice_get {X = ItemWire} []) 
 none_under None = refl
 none_under (Some position) = refl
 
-module _ (schedule : WireView) (position : ℕ) (o : Owned) (logins : ℕ → Login) (is : IsWireSchedule schedule) (there : IsDeviceAt schedule position o) where
+module _ (schedule : WireView) (position : ℕ) (o : Owned) (logins : ℕ → Login) (is : IsLineList schedule) (there : IsDeviceAt schedule position o) where
   first_ordered : IsOrdered {A = ItemOut} (items_at_start schedule).server
   first_ordered = (start_within domain (accounts_at_start (accounts_of (common_steps schedule))) (keep_of schedule.version)).ordered
 

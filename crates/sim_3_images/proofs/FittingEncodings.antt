@@ -23,7 +23,7 @@ use Rattle.sim_3_items.specs.ItemPipes.{ItemWire}
 use Rattle.sim_3_items.specs.ItemWorlds.{ItemDevice, ItemWorld, read_of}
 use Rattle.cmd_schedule.specs.Contents.{Owned, owned_in}
 use Rattle.cmd_schedule.specs.Schedules.{WireView}
-use Rattle.cmd_schedule.specs.WireGrammar.{IsWireSchedule}
+use Rattle.cmd_schedule.specs.LineLists.{IsLineList}
 use Rattle.law_limits.proofs.MomentsKept.{fresh_kept}
 use Rattle.cmd_world.specs.Histories.{common_steps}
 use Rattle.cmd_world.specs.Worlds.{ByteWorld, server_entropy}
@@ -54,7 +54,7 @@ keep_here = cores_keep what_a_server_says_is_answered client_is_relayable
 pub takes_any : TakesAny ServerFits
 takes_any n k h keeps = (fresh_kept n (server_entropy k) h (drawn k) keeps.0, keeps.1)
 
-pub begun_fits : (schedule : WireView) → IsWireSchedule schedule → FitsHere (items_at_start schedule)
+pub begun_fits : (schedule : WireView) → IsLineList schedule → FitsHere (items_at_start schedule)
 begun_fits schedule is = start_fits UpFits DownFits ServerFits ClientFits schedule (start_keeps schedule is)
 
 pub client_within : (w : ItemWorld) (position : ℕ) (d : ItemDevice) → FitsHere w → slice_get w.devices position ≡ Some d → IsClientWithin d.client

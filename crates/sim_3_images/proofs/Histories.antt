@@ -4,7 +4,7 @@ use Rattle.std.specs.List.{AllByRecursion}
 use Rattle.base_lemmas.proofs.Lists.{AllByRecursion-weaker}
 use Rattle.cmd_schedule.specs.Contents.{Owned, owned_in}
 use Rattle.cmd_schedule.specs.Schedules.{WireView, keep_of}
-use Rattle.cmd_schedule.specs.WireGrammar.{IsWireSchedule}
+use Rattle.cmd_schedule.specs.LineLists.{IsLineList}
 use Rattle.cmd_network.specs.Starting.{accounts_at_start}
 use Rattle.cmd_report.specs.Addresses.{domain}
 use Rattle.law_server.proofs.ArchiveEntries.{gets_nothing}
@@ -53,15 +53,15 @@ at_first schedule = (booked_first schedule, owners_first (owned_in (common_steps
 moved_so : (schedule : WireView) (m : Move) (w : ByteWorld) → IsSo schedule w → IsSo schedule (moved m w)
 moved_so schedule m w is = (by_move schedule.version (names_in schedule) (first_server_state (names_in schedule) (keep_of schedule.version)) m w is.0, owners_kept m w ∙ is.1)
 
-told_so : (schedule : WireView) → IsWireSchedule schedule → (w : ByteWorld) → IsSo schedule w → HasArchivesOfTakes schedule (report_of w)
+told_so : (schedule : WireView) → IsLineList schedule → (w : ByteWorld) → IsSo schedule w → HasArchivesOfTakes schedule (report_of w)
 told_so schedule right w is =
     let accounts : AreAccounts [] (names_in schedule) = are_accounts schedule (may_run_all schedule right) in
     reported schedule w accounts (are_names (names_in schedule) accounts) is.0 is.1
 
-pub in_the_end : (schedule : WireView) → IsWireSchedule schedule → HasArchivesOfTakes schedule (report_of (world_of schedule))
+pub in_the_end : (schedule : WireView) → IsLineList schedule → HasArchivesOfTakes schedule (report_of (world_of schedule))
 in_the_end schedule right = told_so schedule right (world_of schedule) (last_world (IsSo schedule) (moved_so schedule) schedule (at_first schedule))
 
-pub at_each : (schedule : WireView) → IsWireSchedule schedule → AllByRecursion (λ w. HasArchivesOfTakes schedule (report_of w)) (history_of schedule)
+pub at_each : (schedule : WireView) → IsLineList schedule → AllByRecursion (λ w. HasArchivesOfTakes schedule (report_of w)) (history_of schedule)
 at_each schedule right =
     AllByRecursion-weaker (IsSo schedule) (λ w. HasArchivesOfTakes schedule (report_of w)) (told_so schedule right) (history_of schedule)
     (each_world (IsSo schedule) (moved_so schedule) schedule (at_first schedule))

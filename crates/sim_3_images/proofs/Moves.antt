@@ -26,7 +26,8 @@ use Rattle.sim_3_items.specs.ItemWorlds.{ItemWorld}
 use Rattle.cmd_schedule.specs.Contents.{Owned, owned_in}
 use Rattle.cmd_schedule.specs.Grammar.{is_text}
 use Rattle.cmd_schedule.specs.Schedules.{WireView, wire_steps_of}
-use Rattle.cmd_schedule.specs.WireGrammar.{AreRunnable, IsWireSchedule, WireAbove, above_by, may_run, nothing_above}
+use Rattle.cmd_schedule.specs.LineLists.{IsLineList}
+use Rattle.cmd_schedule.specs.WireGrammar.{AreRunnable, WireAbove, above_by, may_run, nothing_above}
 use Rattle.cmd_schedule.specs.declared.schedule.Step.{Step}
 use Rattle.cmd_schedule.specs.declared.schedule.Step.TheVariants as step
 use Rattle.cmd_schedule.specs.declared.schedule.WireLine.{WireLine}
@@ -192,7 +193,7 @@ module _ (UpFits DownFits : ItemOut → Type 0) (ServerFits : ℕ → ServerStat
         let here = along_moves (moves_of line w) start w (of_step line.step w line.number may.0 says.0) r in
         append_each (Reached start) (worlds_by (moves_of line w) w) (worlds_along lines (stepped line w)) here.0 (along_lines lines start (stepped line w) may.1 says.1 here.1)
 
-    pub history_is : (schedule : WireView) → IsWireSchedule schedule → StartFits ServerFits ClientFits schedule → AllByRecursion (IsReached UpFits DownFits ServerFits ClientFits (items_at_start schedule)) (history_of schedule)
+    pub history_is : (schedule : WireView) → IsLineList schedule → StartFits ServerFits ClientFits schedule → AllByRecursion (IsReached UpFits DownFits ServerFits ClientFits (items_at_start schedule)) (history_of schedule)
     history_is schedule is fits =
         let start : Reached (items_at_start schedule) (world_at_start schedule) = record { moves = []; encodes = start_encodes schedule fits } in
         (start, along_lines schedule.lines (items_at_start schedule) (world_at_start schedule) (may_follow schedule (world_at_start schedule) is refl) (all_say schedule.lines nothing_above (may_run_all schedule is)) start)
@@ -221,5 +222,5 @@ module _ (UpFits DownFits : ItemOut → Type 0) (ServerFits : ℕ → ServerStat
         let h = move_is m w v may.0 i in
         (m, refl, (h, moves_are ms (moved m w) (items.all_moved h.moves v) may.1 h.encodes))
 
-    pub beside_is : (schedule : WireView) → IsWireSchedule schedule → StartFits ServerFits ClientFits schedule → Go (worlds_along schedule.lines (world_at_start schedule)) (world_at_start schedule) (items_at_start schedule)
+    pub beside_is : (schedule : WireView) → IsLineList schedule → StartFits ServerFits ClientFits schedule → Go (worlds_along schedule.lines (world_at_start schedule)) (world_at_start schedule) (items_at_start schedule)
     beside_is schedule is fits = go_along schedule.lines (world_at_start schedule) (items_at_start schedule) (may_follow schedule (world_at_start schedule) is refl) (all_say schedule.lines nothing_above (may_run_all schedule is)) (start_encodes schedule fits)

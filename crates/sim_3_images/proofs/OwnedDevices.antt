@@ -11,7 +11,8 @@ use Rattle.sim_3_images.proofs.Starts.{named_among}
 use Rattle.cmd_schedule.specs.Contents.{Owned, accounts_of, owned_in}
 use Rattle.cmd_schedule.specs.Grammar.{is_name}
 use Rattle.cmd_schedule.specs.Schedules.{WireView, common_at, steps_of, wire_steps_of}
-use Rattle.cmd_schedule.specs.WireGrammar.{AreRunnable, IsWireSchedule, WireAbove, above_by, may_run, nothing_above}
+use Rattle.cmd_schedule.specs.LineLists.{IsLineList}
+use Rattle.cmd_schedule.specs.WireGrammar.{AreRunnable, WireAbove, above_by, may_run, nothing_above}
 use Rattle.cmd_schedule.specs.declared.schedule.Line.{Line}
 use Rattle.cmd_schedule.specs.declared.schedule.Step.TheVariants as step
 use Rattle.cmd_schedule.specs.declared.schedule.WireLine.{WireLine}
@@ -72,7 +73,7 @@ all_owned : (lines : List WireLine) (above : WireAbove) → AreRunnable above (w
 all_owned [] above run = tt
 all_owned (line ∷ lines) above run = more line.number line.step above (lines_of lines) run.0 (all_owned lines (above_by line.step above) run.1)
 
-of_schedule : (schedule : WireView) → IsWireSchedule schedule → AreOwned (accounts_of (common_steps schedule)) [] (owned_in (common_steps schedule))
+of_schedule : (schedule : WireView) → IsLineList schedule → AreOwned (accounts_of (common_steps schedule)) [] (owned_in (common_steps schedule))
 of_schedule schedule is = all_owned schedule.lines nothing_above (may_run_all schedule is)
 
 -- ---- one of them
@@ -87,7 +88,7 @@ pub record IsDeclared (accounts : List (List ℕ)) (o : Owned) : Type 0 where
   pub account : is_name o.account ≡ true
   pub among : is_among o.account accounts ≡ true
 
-pub declared : (schedule : WireView) (position : ℕ) (o : Owned) → IsWireSchedule schedule → slice_get (owned_in (common_steps schedule)) position ≡ Some o → IsDeclared (accounts_of (common_steps schedule)) o
+pub declared : (schedule : WireView) (position : ℕ) (o : Owned) → IsLineList schedule → slice_get (owned_in (common_steps schedule)) position ≡ Some o → IsDeclared (accounts_of (common_steps schedule)) o
 declared schedule position o is there =
     let one = one_owned (accounts_of (common_steps schedule)) [] (owned_in (common_steps schedule)) position o (of_schedule schedule is) there in
     let names = are_names (accounts_of (common_steps schedule)) (are_accounts schedule (may_run_all schedule is)) in
@@ -119,6 +120,6 @@ one_position accounts before (x ∷ os) zero (suc q) o r are at_p at_q same = ab
 one_position accounts before (x ∷ os) (suc p) zero o r are at_p at_q same = absurd (not_later accounts before x os p r o are.1 at_q at_p (sym same))
 one_position accounts before (x ∷ os) (suc p) (suc q) o r are at_p at_q same = ap suc (one_position accounts (before ++ x.device ∷ []) os p q o r are.1 at_p at_q same)
 
-pub one_name : (schedule : WireView) (p q : ℕ) (o r : Owned) → IsWireSchedule schedule → slice_get (owned_in (common_steps schedule)) p ≡ Some o → slice_get (owned_in (common_steps schedule)) q ≡ Some r
+pub one_name : (schedule : WireView) (p q : ℕ) (o r : Owned) → IsLineList schedule → slice_get (owned_in (common_steps schedule)) p ≡ Some o → slice_get (owned_in (common_steps schedule)) q ≡ Some r
     → o.device ≡ r.device → p ≡ q
 one_name schedule p q o r is at_p at_q same = one_position (accounts_of (common_steps schedule)) [] (owned_in (common_steps schedule)) p q o r (of_schedule schedule is) at_p at_q same

@@ -13,7 +13,3 @@ lost_one : {A B : Type 0} (f : A → B) (now : ℕ) (s : Session A) (ss : List (
     ≡ sessions_rendered f (cond b (with_session s.shown.number (parked now) ss) (without s.shown.number ss))
 lost_one f now s ss true = changed_rendered f s.shown.number (parked now) (parked now) ss (λ t. refl)
 lost_one f now s ss false = without_rendered f s.shown.number ss
-
-lost_rendered : {A B : Type 0} (f : A → B) (now : ℕ) (o : Option (Session A)) (ss : List (Session A)) → lost now (option_map (session_rendered f) o) (sessions_rendered f ss) ≡ sessions_rendered f (lost now o ss)
-lost_rendered f now None ss = refl
-lost_rendered f now (Some s) ss = lost_one f now s ss s.shown.resumable

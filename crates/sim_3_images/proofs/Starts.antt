@@ -16,7 +16,8 @@ use Rattle.cmd_report.specs.Addresses.{domain}
 use Rattle.cmd_schedule.specs.Contents.{Owned, accounts_of, owned_in}
 use Rattle.cmd_schedule.specs.Grammar.{is_digit, is_lower, is_name, may_keep}
 use Rattle.cmd_schedule.specs.Schedules.{WireView, common_at, keep_of, steps_of, wire_steps_of}
-use Rattle.cmd_schedule.specs.WireGrammar.{AreRunnable, IsWireSchedule, WireAbove, above_by, may_run, nothing_above}
+use Rattle.cmd_schedule.specs.LineLists.{IsLineList}
+use Rattle.cmd_schedule.specs.WireGrammar.{AreRunnable, WireAbove, above_by, may_run, nothing_above}
 use Rattle.cmd_schedule.specs.declared.schedule.Line.{Line}
 use Rattle.cmd_schedule.specs.declared.schedule.Step.TheVariants as step
 use Rattle.cmd_schedule.specs.declared.schedule.TheConstants.{MOST_KEPT}
@@ -120,7 +121,7 @@ owned_named (line ∷ lines) above known run = owned_more line.number line.step 
 
 -- ---- a schedule
 
-pub start_keeps : (schedule : WireView) → IsWireSchedule schedule → StartKeeps ServerFits ClientFits schedule
+pub start_keeps : (schedule : WireView) → IsLineList schedule → StartKeeps ServerFits ClientFits schedule
 start_keeps schedule is =
     let run = may_run_all schedule is in
     let names = are_names (accounts_of (common_steps schedule)) (are_accounts schedule run) in

@@ -37,7 +37,7 @@ ghost use Rattle.sim_3_items.specs.ItemPipes as items;
 ghost use Rattle.sim_3_items.specs.ItemWorlds.{ItemWorld, itself, read_of};
 ghost use Rattle.net_pipes.specs.Pipes.{Pipe, closed, emptied, empty_pipe, entered, is_end_due, with_end_reported};
 ghost use Rattle.cmd_schedule.specs.Schedules.{WireView};
-ghost use Rattle.cmd_schedule.specs.WireGrammar.{IsWireSchedule};
+ghost use Rattle.cmd_schedule.specs.LineLists.{IsLineList};
 ghost use Rattle.cmd_network.specs.declared.wire.Wire.{Wire};
 ghost use Rattle.cmd_world.specs.Histories.{history_of, world_at_start, worlds_along, worlds_by};
 ghost use Rattle.cmd_world.specs.Moves.{Move};
@@ -93,13 +93,13 @@ pub fn a_move_is_moves_of_items<U, D, H, C>()
         → WorldEncodes (Among up) (Among down) (StandingServers (Among server_state)) (Among client) w v → MovesEncode (Among up) (Among down) (StandingServers (Among server_state)) (Among client) (worlds_by moves w) w v }
 {}
 
-/// A law: each world of a wire schedule's history encodes a world of items that moves of items lead to from the
+/// A law: each world of the history of a list of lines encodes a world of items that moves of items lead to from the
 /// first one, in which the same accounts and devices are (`reached`); and they go side by side, move by move (`beside`:
 /// the worlds behind the first are those of `history_of`). With the same premise, of which the first world is part.
 pub fn histories_are_those_of_items<U, D, H, C>()
-    ensures reached { (up : U → ItemOut) (down : D → ItemOut) (server_state : H → ServerState ItemOut) (client : C → ClientView ItemOut) → CoresKeep (Among up) (Among down) (Among server_state) (Among client) → (schedule : WireView) → IsWireSchedule schedule
+    ensures reached { (up : U → ItemOut) (down : D → ItemOut) (server_state : H → ServerState ItemOut) (client : C → ClientView ItemOut) → CoresKeep (Among up) (Among down) (Among server_state) (Among client) → (schedule : WireView) → IsLineList schedule
         → StartKeeps (Among server_state) (Among client) schedule → AllByRecursion (IsReached (Among up) (Among down) (StandingServers (Among server_state)) (Among client) (items_at_start schedule)) (history_of schedule) }
-    ensures beside { (up : U → ItemOut) (down : D → ItemOut) (server_state : H → ServerState ItemOut) (client : C → ClientView ItemOut) → CoresKeep (Among up) (Among down) (Among server_state) (Among client) → (schedule : WireView) → IsWireSchedule schedule
+    ensures beside { (up : U → ItemOut) (down : D → ItemOut) (server_state : H → ServerState ItemOut) (client : C → ClientView ItemOut) → CoresKeep (Among up) (Among down) (Among server_state) (Among client) → (schedule : WireView) → IsLineList schedule
         → StartKeeps (Among server_state) (Among client) schedule → MovesEncode (Among up) (Among down) (StandingServers (Among server_state)) (Among client) (worlds_along schedule.lines (world_at_start schedule)) (world_at_start schedule) (items_at_start schedule) }
 {}
 

@@ -17,7 +17,7 @@ ghost use Rattle.sim_3_items.specs.ItemMoves.{ItemMove, all_moved, moved};
 ghost use Rattle.sim_3_items.specs.ItemPipes.{ItemWire};
 ghost use Rattle.sim_3_items.specs.ItemWorlds.{ItemDevice, ItemWorld, read_of};
 ghost use Rattle.cmd_schedule.specs.Schedules.{WireView};
-ghost use Rattle.cmd_schedule.specs.WireGrammar.{IsWireSchedule};
+ghost use Rattle.cmd_schedule.specs.LineLists.{IsLineList};
 ghost use Rattle.cmd_world.specs.Moves.{Move};
 ghost use Rattle.cmd_world.specs.Worlds.{ByteWorld};
 ghost use Rattle.xml_writer.specs.Items.{ItemOut};
@@ -41,7 +41,7 @@ pub fn worlds_fit<U, D, H, C>()
 {}
 
 /// A law: so it is of the four families of this project, without a premise: at each move (`one`), at moves one after
-/// another (`many`), and from the first world of a wire schedule on (`start`, `reached`). A world of items that a world of
+/// another (`many`), and from the first world of a list of lines on (`start`, `reached`). A world of items that a world of
 /// bytes encodes is such a world (`encodes`), and so are those between the moves of items that a move of bytes is,
 /// since these are such moves (`runs`).
 ///
@@ -50,8 +50,8 @@ pub fn worlds_fit<U, D, H, C>()
 pub fn worlds_fit_here()
     ensures one { (m : ItemMove) (w : ItemWorld) → FitsHere w → MayItem m → FitsHere (moved m w) }
     ensures many { (ms : List ItemMove) (w : ItemWorld) → FitsHere w → AllByRecursion MayItem ms → FitsHere (all_moved ms w) }
-    ensures start { (schedule : WireView) → IsWireSchedule schedule → FitsHere (items_at_start schedule) }
-    ensures reached { (schedule : WireView) (ms : List ItemMove) → IsWireSchedule schedule → AllByRecursion MayItem ms → FitsHere (all_moved ms (items_at_start schedule)) }
+    ensures start { (schedule : WireView) → IsLineList schedule → FitsHere (items_at_start schedule) }
+    ensures reached { (schedule : WireView) (ms : List ItemMove) → IsLineList schedule → AllByRecursion MayItem ms → FitsHere (all_moved ms (items_at_start schedule)) }
     ensures encodes { (w : ByteWorld) (v : ItemWorld) → WorldEncodes UpFits DownFits (StandingServers ServerFits) ClientFits w v → FitsHere v }
     ensures runs { (m : Move) (ms : List ItemMove) → IsRunOf m ms → MayMove m → AllByRecursion MayItem ms }
     ensures client { (w : ItemWorld) (position : ℕ) (d : ItemDevice) → FitsHere w → slice_get w.devices position ≡ Some d → IsClientWithin d.client }

@@ -31,7 +31,7 @@ use Rattle.sim_5_moves.proofs.Known.{acked, given, last, logged, paged, pages_fi
 use Rattle.sim_5_moves.proofs.Spoke as spoken
 use Rattle.cmd_schedule.specs.Contents.{Owned}
 use Rattle.cmd_schedule.specs.Schedules.{WireView}
-use Rattle.cmd_schedule.specs.WireGrammar.{IsWireSchedule}
+use Rattle.cmd_schedule.specs.LineLists.{IsLineList}
 use Rattle.sim_3_items.specs.Built.{IsUpAs}
 use Rattle.sim_3_items.specs.Submitted.{SubmissionsRepresent}
 use Rattle.sim_1_applications.specs.Devices.{AppWorld, Device, Sessions, first_of}
@@ -53,7 +53,7 @@ more_or_none : (n : ℕ) (is : Bool) → n ≤ n + (if is then 1 else 0)
 more_or_none n true = omega arith
 more_or_none n false = omega arith
 
-module _ (schedule : WireView) (right : IsWireSchedule schedule) (b : Bounds) (small : AreSmall b) (says : ℕ) (w : ItemWorld) (x : AppWorld) (runs : WorldSimulates schedule b says w x) (i : ℕ) (o : Owned) (owned : IsOwned schedule i o) (most : ℕ)
+module _ (schedule : WireView) (right : IsLineList schedule) (b : Bounds) (small : AreSmall b) (says : ℕ) (w : ItemWorld) (x : AppWorld) (runs : WorldSimulates schedule b says w x) (i : ℕ) (o : Owned) (owned : IsOwned schedule i o) (most : ℕ)
     (some : 1 ≤ most) (low : most ≤ 100) (more : (d : Device) → slice_get x.devices i ≡ Some d → d.reading.asked ≤ b.pages) (taken : catch_up_answer (runs.devices i o owned).represents.device.client ≡ Ok tt) where
   abbrev r : DeviceSimulates schedule w x i o
   r = runs.devices i o owned
@@ -196,7 +196,7 @@ module _ (schedule : WireView) (right : IsWireSchedule schedule) (b : Bounds) (s
       })
 
 -- of whichever device of the world
-pub requests_run : (schedule : WireView) (b : Bounds) (says : ℕ) (w : ItemWorld) (x : AppWorld) → IsWireSchedule schedule → AreSmall b → (runs : WorldSimulates schedule b says w x) → (i : ℕ) (o : Owned) → IsOwned schedule i o → (d : ItemDevice) → slice_get w.devices i ≡ Some d
+pub requests_run : (schedule : WireView) (b : Bounds) (says : ℕ) (w : ItemWorld) (x : AppWorld) → IsLineList schedule → AreSmall b → (runs : WorldSimulates schedule b says w x) → (i : ℕ) (o : Owned) → IsOwned schedule i o → (d : ItemDevice) → slice_get w.devices i ≡ Some d
     → (most : ℕ) → MayItem (CatchUp i most) → IsInBounds b says (CatchUp i most) w x → catch_up_answer d.client ≡ Ok tt → MoveSimulates schedule b says (CatchUp i most) w x
 requests_run schedule b says w x right small runs i o owned d there most may more taken =
     let r = runs.devices i o owned in

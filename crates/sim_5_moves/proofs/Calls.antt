@@ -11,11 +11,11 @@ use Rattle.sim_5_moves.proofs.Asks.{requests_run}
 use Rattle.sim_5_moves.proofs.Known.{owned_there}
 use Rattle.sim_5_moves.proofs.Submits.{submissions_run}
 use Rattle.cmd_schedule.specs.Schedules.{WireView}
-use Rattle.cmd_schedule.specs.WireGrammar.{IsWireSchedule}
+use Rattle.cmd_schedule.specs.LineLists.{IsLineList}
 use Rattle.sim_1_applications.specs.Devices.{AppWorld}
 use Rattle.sim_5_moves.specs.Running.{AreSmall, Bounds, IsInBounds, MoveSimulates, WorldSimulates}
 
-module _ (schedule : WireView) (right : IsWireSchedule schedule) (b : Bounds) (small : AreSmall b) (says : ℕ) (w : ItemWorld) (x : AppWorld) (runs : WorldSimulates schedule b says w x) (position : ℕ) where
+module _ (schedule : WireView) (right : IsLineList schedule) (b : Bounds) (small : AreSmall b) (says : ℕ) (w : ItemWorld) (x : AppWorld) (runs : WorldSimulates schedule b says w x) (position : ℕ) where
   module _ (to text : List ℕ) (private : Bool) (may : MayItem (Say position to text private)) (within : IsInBounds b says (Say position to text private) w x) where
     said : (d : ItemDevice) → slice_get w.devices position ≡ Some d → (answer : Result ℕ SayFault) → say_answer d.client text ≡ answer → MoveSimulates schedule b says (Say position to text private) w x
     said d there (Ok n) taken = let o = owned_there schedule b says w x runs position d there in submissions_run schedule b says w x right small runs position o.0 o.1 d there to text private may within n taken

@@ -21,7 +21,7 @@ use Rattle.sim_2_links.specs.Machine.{LinkReached}
 use Rattle.sim_5_moves.specs.Silent.{AreFlagsKept, SilentWorld}
 use Rattle.cmd_schedule.specs.Contents.{Owned}
 use Rattle.cmd_schedule.specs.Schedules.{WireView}
-use Rattle.cmd_schedule.specs.WireGrammar.{IsWireSchedule}
+use Rattle.cmd_schedule.specs.LineLists.{IsLineList}
 use Rattle.sim_3_images.proofs.Within.{gone_within, moment_within}
 use Rattle.sim_3_images.specs.Unbound.{IsWithin}
 use Rattle.sim_5_moves.proofs.Events.{gone_flags, gone_runs, moment_flags, moment_runs}
@@ -37,7 +37,7 @@ use Rattle.sim_4_links_follow.proofs.UpEnds.{end_beside, end_in}
 use Rattle.sim_5_moves.specs.Running.{Bounds, DeviceSimulates, IsOwned, MoveSimulates, WorldSimulates, keep_in, names_of}
 use Rattle.xml_writer.specs.Items.{ItemOut}
 
-module _ (schedule : WireView) (b : Bounds) (says : ℕ) (w : ItemWorld) (x : AppWorld) (right : IsWireSchedule schedule) (runs : WorldSimulates schedule b says w x) (position : ℕ) where
+module _ (schedule : WireView) (b : Bounds) (says : ℕ) (w : ItemWorld) (x : AppWorld) (right : IsLineList schedule) (runs : WorldSimulates schedule b says w x) (position : ℕ) where
   module _ (wire : ItemWire) (there : slice_get w.wires position ≡ Some wire) (due : is_end_due wire.up ≡ true) where
     abbrev later : ServerState ItemOut
     later = at_moment w.moment w.server

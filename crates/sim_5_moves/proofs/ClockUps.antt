@@ -23,7 +23,7 @@ use Rattle.sim_2_links.specs.Words.{Bind, UpWord}
 use Rattle.sim_5_moves.specs.Silent.{DoFlagsGo, SilentWorld}
 use Rattle.cmd_schedule.specs.Contents.{Owned}
 use Rattle.cmd_schedule.specs.Schedules.{WireView}
-use Rattle.cmd_schedule.specs.WireGrammar.{IsWireSchedule}
+use Rattle.cmd_schedule.specs.LineLists.{IsLineList}
 use Rattle.sim_4_links_follow.specs.Taking.{HasFirst, IsFirst, on_item}
 use Rattle.sim_3_images.proofs.Within.{item_within}
 use Rattle.sim_3_images.specs.Unbound.{IsWithin}
@@ -47,7 +47,7 @@ use Rattle.sim_4_links_follow.specs.Steps.{ItemGoesUp, takes_it, takes_nothing}
 use Rattle.sim_5_moves.specs.Running.{AreSmall, Bounds, DeviceSimulates, IsOwned, MoveSimulates, WorldSimulates, keep_in, names_of}
 use Rattle.xml_writer.specs.Items.{ItemOut}
 
-module _ (schedule : WireView) (b : Bounds) (says : ℕ) (w : ItemWorld) (x : AppWorld) (right : IsWireSchedule schedule) (small : AreSmall b) (runs : WorldSimulates schedule b says w x) (position : ℕ)
+module _ (schedule : WireView) (b : Bounds) (says : ℕ) (w : ItemWorld) (x : AppWorld) (right : IsLineList schedule) (small : AreSmall b) (runs : WorldSimulates schedule b says w x) (position : ℕ)
     (wire : ItemWire) (z : ItemOut) (items : List ItemOut) (there : slice_get w.wires position ≡ Some wire) (pipe : wire.up.items ≡ z ∷ items) (o : Owned) (owned : IsOwned schedule wire.device o)
     (logins : ℕ → Login) (v : View ItemOut) (has : HasFirst (identity_at schedule wire.device o) logins w.server (by_number w.wires) v (position + 1) wire z) (silent : IsSilent has.word) where
   abbrev who : Identity

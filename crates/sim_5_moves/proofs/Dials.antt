@@ -37,7 +37,7 @@ use Rattle.sim_5_moves.proofs.Engine.{quiet_runs}
 use Rattle.sim_5_moves.specs.Silent.{AreFlagsKept, SameUser, SilentDevice, SilentSimulates, SilentWorld}
 use Rattle.cmd_schedule.specs.Contents.{Owned, accounts_of}
 use Rattle.cmd_schedule.specs.Schedules.{WireView, keep_of}
-use Rattle.cmd_schedule.specs.WireGrammar.{IsWireSchedule}
+use Rattle.cmd_schedule.specs.LineLists.{IsLineList}
 use Rattle.sim_4_links_follow.proofs.MomentRows.{moment_follows}
 use Rattle.sim_3_images.proofs.RuleKept.{none_left}
 use Rattle.sim_3_images.proofs.WorldsWithin.{move_within}
@@ -64,7 +64,7 @@ one_more_at [] x y (suc p) at = absurd (none-some y at)
 one_more_at (z ∷ l) x y zero at = inl at
 one_more_at (z ∷ l) x y (suc p) at = one_more_at l x y p at
 
-module _ (schedule : WireView) (right : IsWireSchedule schedule) (b : Bounds) (small : AreSmall b) (says : ℕ) (w : ItemWorld) (x : AppWorld) (runs : WorldSimulates schedule b says w x) (i : ℕ) (mine yours : List ℕ) (may : MayItem (Dial i mine yours))
+module _ (schedule : WireView) (right : IsLineList schedule) (b : Bounds) (small : AreSmall b) (says : ℕ) (w : ItemWorld) (x : AppWorld) (runs : WorldSimulates schedule b says w x) (i : ℕ) (mine yours : List ℕ) (may : MayItem (Dial i mine yours))
     (bounds : IsInBounds b says (Dial i mine yours) w x) where
   module _ (o : Owned) (owned : IsOwned schedule i o) where
     abbrev n : ℕ

@@ -16,7 +16,7 @@ use Rattle.sim_2_links.specs.Machine.{LinkReached}
 use Rattle.sim_2_events.proofs.Counted.{run_few}
 use Rattle.cmd_schedule.specs.Contents.{Owned, accounts_of}
 use Rattle.cmd_schedule.specs.Schedules.{WireView, keep_of}
-use Rattle.cmd_schedule.specs.WireGrammar.{IsWireSchedule}
+use Rattle.cmd_schedule.specs.LineLists.{IsLineList}
 use Rattle.sim_4_links_follow.specs.Taking.{AreApart, AreCountable, HasNumber}
 use Rattle.sim_3_images.proofs.Within.{next_within}
 use Rattle.sim_1_applications.specs.Devices.{AppWorld}
@@ -37,7 +37,7 @@ name_there name names among = by (position_of name names) (stands_there name nam
     by None there some = absurd (false≢true some)
     by (Some i) there some = there.1
 
-module _ (schedule : WireView) (right : IsWireSchedule schedule) where
+module _ (schedule : WireView) (right : IsLineList schedule) where
   pub device_of : (i : ℕ) (o : Owned) → IsOwned schedule i o → IsDeviceOf (owned_of schedule) (names_of schedule) (identity_at schedule i o) o
   device_of i o is = record { there = is; account = name_there o.account (names_of schedule) (declared schedule i o right is).among; resource = refl }
 

@@ -10,7 +10,7 @@ use Rattle.sim_5_devices.specs.Named.{AreNamed, IsNamed}
 use Rattle.cmd_schedule.specs.Contents.{Owned}
 use Rattle.cmd_schedule.specs.Grammar.{is_name}
 use Rattle.cmd_schedule.specs.Schedules.{WireView}
-use Rattle.cmd_schedule.specs.WireGrammar.{IsWireSchedule}
+use Rattle.cmd_schedule.specs.LineLists.{IsLineList}
 use Rattle.sim_1_applications.proofs.Said.{takes_few}
 use Rattle.sim_1_applications.proofs.Later.{later_along}
 use Rattle.sim_1_applications.proofs.Runs.{taken_along, taken_beginning}
@@ -30,7 +30,7 @@ all_names (name ∷ names) are = (are.0, all_names names are.1)
 
 -- ---- the world
 
-module _ (schedule : WireView) (right : IsWireSchedule schedule) (b : Bounds) (small : AreSmall b) (says : ℕ) (w : ItemWorld) (x : AppWorld) (runs : WorldSimulates schedule b says w x) where
+module _ (schedule : WireView) (right : IsLineList schedule) (b : Bounds) (small : AreSmall b) (says : ℕ) (w : ItemWorld) (x : AppWorld) (runs : WorldSimulates schedule b says w x) where
   -- each device is one of the schedule's
   home : (i : ℕ) (d : Device) → slice_get x.devices i ≡ Some d → (o : Owned) × (slice_get (owned_of schedule) i ≡ Some o) × (d.account ≡ o.account)
   home i d at =

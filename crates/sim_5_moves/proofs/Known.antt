@@ -11,7 +11,7 @@ use Rattle.sim_5_devices.proofs.Readings.{reading_given}
 use Rattle.cmd_schedule.specs.Contents.{Owned}
 use Rattle.cmd_schedule.specs.Grammar.{is_name}
 use Rattle.cmd_schedule.specs.Schedules.{WireView}
-use Rattle.cmd_schedule.specs.WireGrammar.{IsWireSchedule}
+use Rattle.cmd_schedule.specs.LineLists.{IsLineList}
 use Rattle.sim_1_applications.proofs.EachDevice.{from_beginning}
 use Rattle.sim_1_applications.proofs.Said.{n_few, takes_few}
 use Rattle.sim_1_applications.proofs.Taken.{said_few}
@@ -30,7 +30,7 @@ use Rattle.sim_5_moves.specs.Running.{AreSmall, Bounds, DeviceSimulates, IsOwned
 pub owned_there : (schedule : WireView) (b : Bounds) (says : ℕ) (w : ItemWorld) (x : AppWorld) → WorldSimulates schedule b says w x → (i : ℕ) (d : ItemDevice) → slice_get w.devices i ≡ Some d → (o : Owned) × IsOwned schedule i o
 owned_there schedule b says w x runs i d there = there_too w.devices (owned_of schedule) i d runs.many there
 
-module _ (schedule : WireView) (right : IsWireSchedule schedule) (b : Bounds) (small : AreSmall b) (says : ℕ) (w : ItemWorld) (x : AppWorld) (runs : WorldSimulates schedule b says w x) where
+module _ (schedule : WireView) (right : IsLineList schedule) (b : Bounds) (small : AreSmall b) (says : ℕ) (w : ItemWorld) (x : AppWorld) (runs : WorldSimulates schedule b says w x) where
   taken : Taken x
   taken = taken_along runs.led.events (begins schedule) x runs.led.reaches (taken_beginning (keep_in schedule) (names_of schedule) _)
 

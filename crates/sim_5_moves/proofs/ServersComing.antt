@@ -29,7 +29,7 @@ use Rattle.sim_5_moves.specs.Submits.{AreDeclared, IsSessionAt}
 use Rattle.sim_5_moves.specs.Replied.{around_of}
 use Rattle.cmd_schedule.specs.Contents.{Owned}
 use Rattle.cmd_schedule.specs.Schedules.{WireView}
-use Rattle.cmd_schedule.specs.WireGrammar.{IsWireSchedule}
+use Rattle.cmd_schedule.specs.LineLists.{IsLineList}
 use Rattle.sim_4_links_follow.specs.Taking.{IsFirst, on_item}
 use Rattle.sim_5_moves.proofs.UpBuilt.{stanza_built}
 use Rattle.sim_1_applications.proofs.Said.{takes_few}
@@ -79,14 +79,14 @@ given_built o history (z ∷ zs) are = (are.0, given_built o history zs are.1)
 
 -- ---- schedules
 
-pub are_declared : (schedule : WireView) → IsWireSchedule schedule → AreDeclared (owned_of schedule) (names_of schedule)
+pub are_declared : (schedule : WireView) → IsLineList schedule → AreDeclared (owned_of schedule) (names_of schedule)
 are_declared schedule right = record { accounts = are_accounts schedule (may_run_all schedule right); devices = λ i j o p at_i at_j same. one_name schedule i j o p right at_i at_j same }
 
 -- ---- the stanza
 
 pub record Coming : Type 0 where
   pub schedule : WireView
-  pub right : IsWireSchedule schedule
+  pub right : IsLineList schedule
   pub b : Bounds
   pub small : AreSmall b
   pub says : ℕ

@@ -14,7 +14,7 @@ use Rattle.sim_3_items.specs.ItemWorlds.{ItemWorld}
 use Rattle.sim_2_links.specs.Words.{St, Up as UpTraffic}
 use Rattle.cmd_schedule.specs.Contents.{Owned}
 use Rattle.cmd_schedule.specs.Schedules.{WireView}
-use Rattle.cmd_schedule.specs.WireGrammar.{IsWireSchedule}
+use Rattle.cmd_schedule.specs.LineLists.{IsLineList}
 use Rattle.sim_4_links_follow.specs.Taking.{IsFirst}
 use Rattle.sim_5_moves.proofs.ServersComing.{Coming}
 use Rattle.sim_5_moves.proofs.ServersMessages.{message_is_handled}
@@ -51,7 +51,7 @@ module _ (c : Coming) where
 
 -- ---- the word of an item that goes up
 
-module _ (schedule : WireView) (right : IsWireSchedule schedule) (b : Bounds) (small : AreSmall b) (says : ℕ) (w : ItemWorld) (x : AppWorld) (runs : WorldSimulates schedule b says w x) (ground : IsGround schedule x) (position : ℕ) (wire : ItemWire) (i : ItemOut) (items : List ItemOut)
+module _ (schedule : WireView) (right : IsLineList schedule) (b : Bounds) (small : AreSmall b) (says : ℕ) (w : ItemWorld) (x : AppWorld) (runs : WorldSimulates schedule b says w x) (ground : IsGround schedule x) (position : ℕ) (wire : ItemWire) (i : ItemOut) (items : List ItemOut)
     (there : slice_get w.wires position ≡ Some wire) (pipe : wire.up.items ≡ i ∷ items) (o : Owned) (owned : IsOwned schedule wire.device o)
     (g : ItemGoesUp (identity_at schedule wire.device o) (runs.devices wire.device o owned).logins w (runs.devices wire.device o owned).view position wire i) (z : ItemOut) (word : g.has.word ≡ UpTraffic (St z)) where
   abbrev who : Identity

@@ -9,7 +9,7 @@ use Rattle.sim_3_items.specs.ItemWorlds.{ItemWorld}
 use Rattle.sim_2_links.specs.Words.{Ack, Auth, Bind, Enable, Foot, Hdr, Req, Resp, ResumeAt, St, Up as UpTraffic, UpWord}
 use Rattle.cmd_schedule.specs.Contents.{Owned}
 use Rattle.cmd_schedule.specs.Schedules.{WireView}
-use Rattle.cmd_schedule.specs.WireGrammar.{IsWireSchedule}
+use Rattle.cmd_schedule.specs.LineLists.{IsLineList}
 use Rattle.sim_5_moves.proofs.ServersStanzas.{stanza_goes_up}
 use Rattle.sim_1_applications.specs.Devices.{AppWorld}
 use Rattle.sim_5_moves.proofs.Goes.{goes_up}
@@ -19,7 +19,7 @@ use Rattle.sim_4_links_follow.specs.Steps.{ItemGoesUp}
 use Rattle.sim_5_moves.specs.Running.{AreSmall, Bounds, DeviceSimulates, IsOwned, MoveSimulates, WorldSimulates}
 use Rattle.xml_writer.specs.Items.{ItemOut}
 
-module _ (schedule : WireView) (b : Bounds) (right : IsWireSchedule schedule) (small : AreSmall b) (says position : ℕ) (w : ItemWorld) (x : AppWorld) (runs : WorldSimulates schedule b says w x) (ground : IsGround schedule x) where
+module _ (schedule : WireView) (b : Bounds) (right : IsLineList schedule) (small : AreSmall b) (says position : ℕ) (w : ItemWorld) (x : AppWorld) (runs : WorldSimulates schedule b says w x) (ground : IsGround schedule x) where
   module _ (wire : ItemWire) (i : ItemOut) (items : List ItemOut) (there : slice_get w.wires position ≡ Some wire) (pipe : wire.up.items ≡ i ∷ items) (o : Owned) (owned : IsOwned schedule wire.device o) where
     abbrev old : DeviceSimulates schedule w x wire.device o
     old = runs.devices wire.device o owned

@@ -35,7 +35,7 @@ use Rattle.sim_5_moves.proofs.Spoke as spoken
 use Rattle.cmd_schedule.specs.Contents.{Owned}
 use Rattle.cmd_schedule.specs.Grammar.{is_name, is_text}
 use Rattle.cmd_schedule.specs.Schedules.{WireView}
-use Rattle.cmd_schedule.specs.WireGrammar.{IsWireSchedule}
+use Rattle.cmd_schedule.specs.LineLists.{IsLineList}
 use Rattle.law_limits.proofs.NamesWithin.{text_within}
 use Rattle.sim_3_items.specs.Built.{IsUpAs}
 use Rattle.sim_3_items.specs.Submitted.{SubmissionsRepresent}
@@ -51,7 +51,7 @@ use Rattle.sim_5_moves.specs.Going.{DeviceGoes}
 use Rattle.sim_5_moves.specs.Running.{AreSmall, Bounds, DeviceSimulates, IsInBounds, IsOwned, MoveSimulates, WorldSimulates, history_for, keep_in, said_at, spoken_by_move, spoken_where}
 use Rattle.xml_writer.specs.Items.{ItemOut}
 
-module _ (schedule : WireView) (right : IsWireSchedule schedule) (b : Bounds) (small : AreSmall b) (says : ℕ) (w : ItemWorld) (x : AppWorld) (runs : WorldSimulates schedule b says w x) (i : ℕ) (o : Owned) (owned : IsOwned schedule i o) (name text : List ℕ) (private : Bool)
+module _ (schedule : WireView) (right : IsLineList schedule) (b : Bounds) (small : AreSmall b) (says : ℕ) (w : ItemWorld) (x : AppWorld) (runs : WorldSimulates schedule b says w x) (i : ℕ) (o : Owned) (owned : IsOwned schedule i o) (name text : List ℕ) (private : Bool)
     (named : is_name name ≡ true) (plain : is_text text ≡ true) (more : says + 1 ≤ b.says) (n : ℕ) (taken : say_answer (runs.devices i o owned).represents.device.client text ≡ Ok n) where
   abbrev r : DeviceSimulates schedule w x i o
   r = runs.devices i o owned
@@ -187,7 +187,7 @@ module _ (schedule : WireView) (right : IsWireSchedule schedule) (b : Bounds) (s
       })
 
 -- whatever the address is
-pub submissions_run : (schedule : WireView) (b : Bounds) (says : ℕ) (w : ItemWorld) (x : AppWorld) → IsWireSchedule schedule → AreSmall b → (runs : WorldSimulates schedule b says w x) → (i : ℕ) (o : Owned) → IsOwned schedule i o → (d : ItemDevice) → slice_get w.devices i ≡ Some d
+pub submissions_run : (schedule : WireView) (b : Bounds) (says : ℕ) (w : ItemWorld) (x : AppWorld) → IsLineList schedule → AreSmall b → (runs : WorldSimulates schedule b says w x) → (i : ℕ) (o : Owned) → IsOwned schedule i o → (d : ItemDevice) → slice_get w.devices i ≡ Some d
     → (to text : List ℕ) (private : Bool) → MayItem (Say i to text private) → IsInBounds b says (Say i to text private) w x → (n : ℕ) → say_answer d.client text ≡ Ok n → MoveSimulates schedule b says (Say i to text private) w x
 submissions_run schedule b says w x right small runs i o owned d there to text private may more n taken =
     let r = runs.devices i o owned in

@@ -14,7 +14,7 @@ ghost use Rattle.sim_3_items.specs.ItemWorlds.{ItemWorld};
 ghost use Rattle.sim_2_links.specs.Words.{DownWord};
 ghost use Rattle.cmd_schedule.specs.Contents.{Owned};
 ghost use Rattle.cmd_schedule.specs.Schedules.{WireView};
-ghost use Rattle.cmd_schedule.specs.WireGrammar.{IsWireSchedule};
+ghost use Rattle.cmd_schedule.specs.LineLists.{IsLineList};
 ghost use Rattle.sim_1_applications.specs.Devices.{AppWorld};
 ghost use Rattle.sim_5_moves.specs.Running.{AreSmall, Bounds, IsInBounds, IsOwned, MoveSimulates, WorldSimulates};
 ghost use Rattle.xml_writer.specs.Items.{ItemOut};
@@ -23,7 +23,7 @@ ghost use Rattle.xml_writer.specs.Items.{ItemOut};
 /// its bytes make, and sessions that were parked for too long may end (XEP-0198, section 5). Where the device isn't there
 /// nothing happens.
 pub fn dials_run()
-    ensures { (schedule : WireView) → IsWireSchedule schedule → (b : Bounds) → AreSmall b → (says : ℕ) (w : ItemWorld) (x : AppWorld) → WorldSimulates schedule b says w x → (i : ℕ) (mine yours : List ℕ) → MayItem (Dial i mine yours)
+    ensures { (schedule : WireView) → IsLineList schedule → (b : Bounds) → AreSmall b → (says : ℕ) (w : ItemWorld) (x : AppWorld) → WorldSimulates schedule b says w x → (i : ℕ) (mine yours : List ℕ) → MayItem (Dial i mine yours)
         → IsInBounds b says (Dial i mine yours) w x → MoveSimulates schedule b says (Dial i mine yours) w x }
 {}
 

@@ -14,7 +14,7 @@ ghost use Rattle.sim_3_items.specs.ItemWorlds.{ItemWorld};
 ghost use Rattle.sim_2_links.specs.Words.{St, Up as UpTraffic};
 ghost use Rattle.cmd_schedule.specs.Contents.{Owned};
 ghost use Rattle.cmd_schedule.specs.Schedules.{WireView};
-ghost use Rattle.cmd_schedule.specs.WireGrammar.{IsWireSchedule};
+ghost use Rattle.cmd_schedule.specs.LineLists.{IsLineList};
 ghost use Rattle.sim_5_moves.specs.Placed.{ArePlaced};
 ghost use Rattle.sim_1_applications.specs.Devices.{AppWorld, Device, last_of};
 ghost use Rattle.sim_1_applications.specs.Events.{AppEvent, Reaches, beginning};
@@ -32,7 +32,7 @@ pub fn requests_are_placed()
 /// beside one another still: in that of the applications all devices take session steps, the server handles the stanza
 /// (of a message to an account that exists, with each other device told that hears of it), and all drift again.
 pub fn stanzas_go_up()
-    ensures { (schedule : WireView) → IsWireSchedule schedule → (b : Bounds) → AreSmall b → (says : ℕ) (w : ItemWorld) (x : AppWorld) (runs : WorldSimulates schedule b says w x) → IsGround schedule x → (position : ℕ) (wire : ItemWire) (i : ItemOut) (items : List ItemOut)
+    ensures { (schedule : WireView) → IsLineList schedule → (b : Bounds) → AreSmall b → (says : ℕ) (w : ItemWorld) (x : AppWorld) (runs : WorldSimulates schedule b says w x) → IsGround schedule x → (position : ℕ) (wire : ItemWire) (i : ItemOut) (items : List ItemOut)
         → slice_get w.wires position ≡ Some wire → wire.up.items ≡ i ∷ items → (o : Owned) → (owned : IsOwned schedule wire.device o)
         → (g : ItemGoesUp (identity_at schedule wire.device o) (runs.devices wire.device o owned).logins w (runs.devices wire.device o owned).view position wire i) → (z : ItemOut) → g.has.word ≡ UpTraffic (St z)
         → MoveSimulates schedule b says (Up position) w x }
@@ -40,5 +40,5 @@ pub fn stanzas_go_up()
 
 /// A law: so it is whatever goes up on a connection, also where nothing does, or no such connection is there.
 pub fn ups_run()
-    ensures { (schedule : WireView) (b : Bounds) → IsWireSchedule schedule → AreSmall b → (says position : ℕ) (w : ItemWorld) (x : AppWorld) → WorldSimulates schedule b says w x → IsGround schedule x → MoveSimulates schedule b says (Up position) w x }
+    ensures { (schedule : WireView) (b : Bounds) → IsLineList schedule → AreSmall b → (says position : ℕ) (w : ItemWorld) (x : AppWorld) → WorldSimulates schedule b says w x → IsGround schedule x → MoveSimulates schedule b says (Up position) w x }
 {}

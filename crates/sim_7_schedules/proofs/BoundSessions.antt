@@ -27,7 +27,8 @@ use Rattle.cmd_report.specs.Lines.{take_line}
 use Rattle.cmd_report.specs.declared.report.TakeLine.{TakeLine}
 use Rattle.cmd_schedule.specs.Contents.{Owned, accounts_of}
 use Rattle.cmd_schedule.specs.Schedules.{WireView, keep_of}
-use Rattle.cmd_schedule.specs.WireGrammar.{IsWireSchedule, nothing_above}
+use Rattle.cmd_schedule.specs.LineLists.{IsLineList}
+use Rattle.cmd_schedule.specs.WireGrammar.{nothing_above}
 use Rattle.law_server.proofs.SessionsRendered.{of_rendered}
 use Rattle.law_server.specs.Rendered as server
 use Rattle.sim_1_applications.proofs.Runs.{taken_along, taken_beginning}
@@ -142,7 +143,7 @@ module _ (s : WireView) (W : ByteWorld) (x : sessions.AppWorld) (beside : Simula
 
 -- ---- takes
 
-module _ (s : WireView) (right : IsWireSchedule s) where
+module _ (s : WireView) (right : IsLineList s) where
   taken_here : (W : ByteWorld) (x : sessions.AppWorld) → Simulates s W x → Taken x
   taken_here W x beside =
       let led = beside.runs.led in
@@ -168,7 +169,7 @@ module _ (s : WireView) (right : IsWireSchedule s) where
     lines_above : (epoch : ℕ) (more : List sessions.Take) → AllByRecursion (λ (t : sessions.Take). t.device < length (owned_of s)) more → AreAbove epoch i more →
         AllByRecursion (λ (line : TakeLine). epoch < line.epoch) (taken_of o.device (lines_of more))
     lines_above epoch more within above =
-        subst (AllByRecursion (λ (line : TakeLine). epoch < line.epoch)) (sym (lines_of_device s.version (owned_of s) i o more (names_differ (steps_in s) (wire_stand [] nothing_above 2 s.lines refl right.lines)) owned within))
+        subst (AllByRecursion (λ (line : TakeLine). epoch < line.epoch)) (sym (lines_of_device s.version (owned_of s) i o more (names_differ (steps_in s) (wire_stand [] nothing_above s.lines refl right.lines)) owned within))
         (epochs_above epoch (filter (is_of i) more) above)
 
     pub taken_after : (V U : ByteWorld) (y z : sessions.AppWorld) (es : List AppEvent) (epoch : ℕ) → IsWorldKept s V → IsWorldKept s U → (at : Simulates s V y) → Simulates s U z → Reaches es y z → IsAfter epoch (here s V y at i o owned).device.sessions → IsTakenAbove epoch o V U

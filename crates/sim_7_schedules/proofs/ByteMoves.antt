@@ -168,51 +168,51 @@ module _ (schedule : WireView) (each : EachMoveSimulates schedule) where
       one_move schedule 0 says [] m W x Post g.events (items.all_moved r.moves w) g.next g.led g.silent r.encodes g.runs g.post
       (let same = moves_many r.moves w none in let shown = encodes.as_many in omega arith)
 
-  pub up_byte : (says position : ℕ) (count : Count) (W : wires.ByteWorld) (w : ItemWorld) (x : AppWorld) (n p : ℕ) → IsEncoded W w → WorldSimulates schedule bounds says w x → IsInRound n p w x →
-      LineGoes schedule 0 says [] (bytes.Up position count ∷ []) W x (IsInRound n p)
-  up_byte says position count W w x n p encodes runs round =
+  pub up_byte : (says position : ℕ) (count : Count) (W : wires.ByteWorld) (w : ItemWorld) (x : AppWorld) (top n p : ℕ) → IsEncoded W w → WorldSimulates schedule bounds says w x → IsInRound top n p w x →
+      LineGoes schedule 0 says [] (bytes.Up position count ∷ []) W x (IsInRound top n p)
+  up_byte says position count W w x top n p encodes runs round =
       let r = is_moved (bytes.Up position count) W w tt encodes in
       let run = r.is_run in
-      of_goes says (bytes.Up position count) W w x (IsInRound n p) encodes r
-      (subst (λ ms. Goes schedule says (items.all_moved ms w) x (IsInRound n p (items.all_moved ms w))) (sym run.3) (up_line schedule each says position run.0 run.1 w x n p run.2 runs round))
+      of_goes says (bytes.Up position count) W w x (IsInRound top n p) encodes r
+      (subst (λ ms. Goes schedule says (items.all_moved ms w) x (IsInRound top n p (items.all_moved ms w))) (sym run.3) (up_line schedule each says position run.0 run.1 w x top n p run.2 runs round))
       (subst (AllByRecursion IsNoDial) (sym run.3) (served_none position run.0 run.1 run.2))
 
-  pub down_byte : (says position : ℕ) (count : Count) (W : wires.ByteWorld) (w : ItemWorld) (x : AppWorld) (n : ℕ) → n ≤ 200000 → IsTimely W → IsEncoded W w → WorldSimulates schedule bounds says w x → IsInRound n position w x →
-      LineGoes schedule 0 says [] (bytes.Down position count ∷ []) W x (IsInRound n (position + 1))
+  pub down_byte : (says position : ℕ) (count : Count) (W : wires.ByteWorld) (w : ItemWorld) (x : AppWorld) (n : ℕ) → n ≤ 10100000 → IsTimely W → IsEncoded W w → WorldSimulates schedule bounds says w x → IsInRound (n + 1) n position w x →
+      LineGoes schedule 0 says [] (bytes.Down position count ∷ []) W x (IsInRound (n + 1) n (position + 1))
   down_byte says position count W w x n few timely encodes runs round =
       let r = is_moved (bytes.Down position count) W w tt encodes in
       let run = r.is_run in
-      of_goes says (bytes.Down position count) W w x (IsInRound n (position + 1)) encodes r
-      (subst (λ ms. Goes schedule says (items.all_moved ms w) x (IsInRound n (position + 1) (items.all_moved ms w))) (sym run.2) (down_line schedule each says position run.0 run.1 w x n few (subst (λ k. k ≤ last_moment) encodes.moment timely) runs round))
+      of_goes says (bytes.Down position count) W w x (IsInRound (n + 1) n (position + 1)) encodes r
+      (subst (λ ms. Goes schedule says (items.all_moved ms w) x (IsInRound (n + 1) n (position + 1) (items.all_moved ms w))) (sym run.2) (down_line schedule each says position run.0 run.1 w x n few (subst (λ k. k ≤ last_moment) encodes.moment timely) runs round))
       (subst (AllByRecursion IsNoDial) (sym run.2) (downs_none position run.0 run.1))
 
-  pub pass_goes : (says position : ℕ) (W : wires.ByteWorld) (w : ItemWorld) (x : AppWorld) (n : ℕ) → n ≤ 200000 → IsTimely W → IsEncoded W w → WorldSimulates schedule bounds says w x → IsInRound n position w x →
-      LineGoes schedule 0 says [] (pass_of position) W x (IsInRound n (position + 1))
+  pub pass_goes : (says position : ℕ) (W : wires.ByteWorld) (w : ItemWorld) (x : AppWorld) (n : ℕ) → n ≤ 10100000 → IsTimely W → IsEncoded W w → WorldSimulates schedule bounds says w x → IsInRound (n + 1) n position w x →
+      LineGoes schedule 0 says [] (pass_of position) W x (IsInRound (n + 1) n (position + 1))
   pass_goes says position W w x n few timely encodes runs round =
-      and_then schedule says says [] [] (bytes.Up position All ∷ []) (bytes.Down position All ∷ []) W x (IsInRound n position) (IsInRound n (position + 1)) (up_byte says position All W w x n position encodes runs round)
+      and_then schedule says says [] [] (bytes.Up position All ∷ []) (bytes.Down position All ∷ []) W x (IsInRound (n + 1) n position) (IsInRound (n + 1) n (position + 1)) (up_byte says position All W w x (n + 1) n position encodes runs round)
       (λ v y shown here mid. down_byte says position All (moved (bytes.Up position All) W) v y n few (subst (λ k. k ≤ last_moment) (sym (up_moment position All W)) timely) shown here mid)
 
-  pub round_goes : (says position count : ℕ) (W : wires.ByteWorld) (w : ItemWorld) (x : AppWorld) (n : ℕ) → n ≤ 200000 → IsTimely W → IsEncoded W w → WorldSimulates schedule bounds says w x → IsInRound n position w x →
-      LineGoes schedule 0 says [] (round_from position count) W x (λ v y. (p : ℕ) × IsInRound n p v y)
-  round_goes says position zero W w x n few timely encodes runs round = no_moves schedule says W w x (λ v y. (p : ℕ) × IsInRound n p v y) encodes runs (position, round)
+  pub round_goes : (says position count : ℕ) (W : wires.ByteWorld) (w : ItemWorld) (x : AppWorld) (n : ℕ) → n ≤ 10100000 → IsTimely W → IsEncoded W w → WorldSimulates schedule bounds says w x → IsInRound (n + 1) n position w x →
+      LineGoes schedule 0 says [] (round_from position count) W x (λ v y. (p : ℕ) × IsInRound (n + 1) n p v y)
+  round_goes says position zero W w x n few timely encodes runs round = no_moves schedule says W w x (λ v y. (p : ℕ) × IsInRound (n + 1) n p v y) encodes runs (position, round)
   round_goes says position (suc count) W w x n few timely encodes runs round =
-      and_then schedule says says [] [] (pass_of position) (round_from (position + 1) count) W x (IsInRound n (position + 1)) (λ v y. (p : ℕ) × IsInRound n p v y) (pass_goes says position W w x n few timely encodes runs round)
+      and_then schedule says says [] [] (pass_of position) (round_from (position + 1) count) W x (IsInRound (n + 1) n (position + 1)) (λ v y. (p : ℕ) × IsInRound (n + 1) n p v y) (pass_goes says position W w x n few timely encodes runs round)
       (λ v y shown here mid. round_goes says (position + 1) count (all_moved (pass_of position) W) v y n few (pass_timely position W timely) shown here mid)
 
-  pub rounds_go : (says times count : ℕ) (W : wires.ByteWorld) (w : ItemWorld) (x : AppWorld) (n : ℕ) → n + times ≤ 200000 → IsTimely W → IsEncoded W w → WorldSimulates schedule bounds says w x → AtMost n x →
+  pub rounds_go : (says times count : ℕ) (W : wires.ByteWorld) (w : ItemWorld) (x : AppWorld) (n : ℕ) → n + times ≤ 10100000 → IsTimely W → IsEncoded W w → WorldSimulates schedule bounds says w x → AtMost n x →
       LineGoes schedule 0 says [] (rounds_of times count) W x (λ v y. AtMost (n + times) y)
   rounds_go says zero count W w x n few timely encodes runs most = no_moves schedule says W w x (λ v y. AtMost (n + 0) y) encodes runs (subst (λ k. AtMost k x) (let same : n ≡ n + 0 = omega arith in same) most)
   rounds_go says (suc times) count W w x n few timely encodes runs most =
-      and_then schedule says says [] [] (round_from 0 count) (rounds_of times count) W x (λ v y. (p : ℕ) × IsInRound n p v y) (λ v y. AtMost (n + suc times) y)
+      and_then schedule says says [] [] (round_from 0 count) (rounds_of times count) W x (λ v y. (p : ℕ) × IsInRound (n + 1) n p v y) (λ v y. AtMost (n + suc times) y)
       (round_goes says 0 count W w x n (omega arith) timely encodes runs (round_of n 0 w x most))
       (λ v y shown here mid. subst (λ k. LineGoes schedule 0 says [] (rounds_of times count) (all_moved (round_from 0 count) W) y (λ u z. AtMost k z)) (let same : n + 1 + times ≡ n + suc times = omega arith in same)
-      (rounds_go says times count (all_moved (round_from 0 count) W) v y (n + 1) (omega arith) (round_timely 0 count W timely) shown here (most_after n mid.0 v y mid.1)))
+      (rounds_go says times count (all_moved (round_from 0 count) W) v y (n + 1) (omega arith) (round_timely 0 count W timely) shown here (most_after (n + 1) n mid.0 v y mid.1)))
 
-  pub passes_go : (says times position : ℕ) (W : wires.ByteWorld) (w : ItemWorld) (x : AppWorld) (n : ℕ) → n + times ≤ 200000 → IsTimely W → IsEncoded W w → WorldSimulates schedule bounds says w x → AtMost n x →
+  pub passes_go : (says times position : ℕ) (W : wires.ByteWorld) (w : ItemWorld) (x : AppWorld) (n : ℕ) → n + times ≤ 10100000 → IsTimely W → IsEncoded W w → WorldSimulates schedule bounds says w x → AtMost n x →
       LineGoes schedule 0 says [] (passes_of times position) W x (λ v y. AtMost (n + times) y)
   passes_go says zero position W w x n few timely encodes runs most = no_moves schedule says W w x (λ v y. AtMost (n + 0) y) encodes runs (subst (λ k. AtMost k x) (let same : n ≡ n + 0 = omega arith in same) most)
   passes_go says (suc times) position W w x n few timely encodes runs most =
-      and_then schedule says says [] [] (pass_of position) (passes_of times position) W x (IsInRound n (position + 1)) (λ v y. AtMost (n + suc times) y)
+      and_then schedule says says [] [] (pass_of position) (passes_of times position) W x (IsInRound (n + 1) n (position + 1)) (λ v y. AtMost (n + suc times) y)
       (pass_goes says position W w x n (omega arith) timely encodes runs (round_of n position w x most))
       (λ v y shown here mid. subst (λ k. LineGoes schedule 0 says [] (passes_of times position) (all_moved (pass_of position) W) y (λ u z. AtMost k z)) (let same : n + 1 + times ≡ n + suc times = omega arith in same)
-      (passes_go says times position (all_moved (pass_of position) W) v y (n + 1) (omega arith) (pass_timely position W timely) shown here (most_after n (position + 1) v y mid)))
+      (passes_go says times position (all_moved (pass_of position) W) v y (n + 1) (omega arith) (pass_timely position W timely) shown here (most_after (n + 1) n (position + 1) v y mid)))

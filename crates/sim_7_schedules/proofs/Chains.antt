@@ -5,7 +5,7 @@ use Rattle.std.proofs.lemmas.Option.{none-some, same_Some}
 use Rattle.std.specs.List.{flat_map, slice_get}
 use Rattle.sim_5_devices.proofs.AllSessionSteps.{reaches_both}
 use Rattle.cmd_schedule.specs.Schedules.{WireView}
-use Rattle.cmd_schedule.specs.WireGrammar.{IsWireSchedule}
+use Rattle.cmd_schedule.specs.LineLists.{IsLineList}
 use Rattle.cmd_schedule.specs.declared.schedule.WireLine.{WireLine}
 use Rattle.sim_1_applications.specs.Devices as sessions
 use Rattle.sim_1_applications.specs.Events.{AppEvent, Reaches}
@@ -70,7 +70,7 @@ chain_lines s (line ∷ rest) (run ∷ runs) W x last go reaches =
     (subst (λ es. Reaches es x last) (flat_map-append (λ l. l) run.moves (lines.moves_of runs)) reaches)
     (λ onward. chain_lines s rest runs (stepped line W) (state_after x (joined run.moves)) last go.2 onward)
 
-pub chain_of : (s : WireView) → IsWireSchedule s → Chain s (begins s) (history_of s)
+pub chain_of : (s : WireView) → IsLineList s → Chain s (begins s) (history_of s)
 chain_of s right =
     let runs = whole_run s right in
     (begins s, [], refl, runs.first, chain_lines s s.lines runs.runs (world_at_start s) (begins s) runs.last runs.go runs.reaches)

@@ -15,7 +15,7 @@ use Rattle.sim_7_schedules.proofs.Shown.{world_shown}
 use Rattle.sim_7_schedules.proofs.WorldTold.{reported}
 use Rattle.sim_7_schedules.specs.ShownWorlds.{shown_of}
 use Rattle.cmd_schedule.specs.Schedules.{WireView, seen_of}
-use Rattle.cmd_schedule.specs.WireGrammar.{IsWireSchedule}
+use Rattle.cmd_schedule.specs.LineLists.{IsLineList}
 use Rattle.cmd_schedule.specs.declared.schedule.WireLine.{WireLine}
 use Rattle.sim_7_schedules.specs.Simulation.{LinesSimulate, MovesSimulate, ScheduleSimulates, Simulates, bounds}
 use Rattle.sim_1_applications.proofs.Said.{takes_few}
@@ -49,7 +49,7 @@ after_moves x [] back = refl
 after_moves x (es ∷ front) back =
     state_joined x es (joined (front ++ back)) ∙ after_moves (state_after x es) front back ∙ ap (λ w. state_after w (joined back)) (sym (state_joined x es (joined front)))
 
-module _ (s : WireView) (right : IsWireSchedule s) where
+module _ (s : WireView) (right : IsLineList s) where
   represents : (W : ByteWorld) (x : sessions.AppWorld) → IsWorldKept s W → Simulates s W x → IsShown (owned_of s) x (shown_of W)
   represents W x kept beside = world_shown s bounds beside.says W beside.items x right kept beside.encodes beside.runs
 

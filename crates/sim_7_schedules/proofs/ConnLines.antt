@@ -16,7 +16,8 @@ use Rattle.law_reports.proofs.RunLines.{IsLineRight, wire_lines_right}
 use Rattle.cmd_report_reader.specs.Readable.{IsConn}
 use Rattle.cmd_schedule.specs.Contents.{Owned, device_name, owned_at, owned_in}
 use Rattle.cmd_schedule.specs.Schedules.{WireView, seen_of, steps_of}
-use Rattle.cmd_schedule.specs.WireGrammar.{IsWireSchedule, nothing_above}
+use Rattle.cmd_schedule.specs.LineLists.{IsLineList}
+use Rattle.cmd_schedule.specs.WireGrammar.{nothing_above}
 use Rattle.cmd_schedule.specs.declared.schedule.Line.{Line}
 use Rattle.cmd_schedule.specs.declared.schedule.Step.{Step}
 use Rattle.cmd_schedule.specs.declared.schedule.Step.TheVariants.{Device}
@@ -42,8 +43,8 @@ lines_named : (lines : List Line) → AllByRecursion IsLineRight lines → AllBy
 lines_named [] right = tt
 lines_named (line ∷ lines) right = step_named line.step (owned_in (steps_of lines)) right.0.device (lines_named lines right.1)
 
-owners_named : (s : WireView) → IsWireSchedule s → AllByRecursion IsOwner (owned_of s)
-owners_named s right = lines_named (seen_of s).lines (wire_lines_right nothing_above 2 s.lines right.lines)
+owners_named : (s : WireView) → IsLineList s → AllByRecursion IsOwner (owned_of s)
+owners_named s right = lines_named (seen_of s).lines (wire_lines_right nothing_above s.lines right.lines)
 
 name_there : (ds : List DeviceState) (position : ℕ) (o : Owned) → slice_get (map owned_by ds) position ≡ Some o → name_at position ds ≡ o.device
 name_there [] position o at = absurd (none-some o at)
@@ -53,7 +54,7 @@ name_there (d ∷ ds) (suc position) o at = name_there ds position o at
 -- ---- connections
 
 -- of each the device has a name
-wire_named : (s : WireView) → IsWireSchedule s → (W : ByteWorld) (x : sessions.AppWorld) → IsWorldKept s W → Simulates s W x → (position : ℕ) (b : Wire) → slice_get W.wires position ≡ Some b → IsNamed (name_at b.device W.devices)
+wire_named : (s : WireView) → IsLineList s → (W : ByteWorld) (x : sessions.AppWorld) → IsWorldKept s W → Simulates s W x → (position : ℕ) (b : Wire) → slice_get W.wires position ≡ Some b → IsNamed (name_at b.device W.devices)
 wire_named s right W x kept beside position b at =
     let v = beside.items in
     let found = found_both (WireAt UpFits DownFits W v position) b (slice_get W.wires position) (slice_get v.wires position) at (beside.encodes.wires position) in
@@ -77,7 +78,7 @@ lines_right devices k (b ∷ ws) low counts named = (
   lines_right devices (k + 1) ws (omega arith) counts.1 named.1,
 )
 
-pub conns_right : (s : WireView) → IsWireSchedule s → (W : ByteWorld) (x : sessions.AppWorld) → IsWorldKept s W → Simulates s W x → AreCounted W.wires → AllByRecursion IsConn (conn_lines W.devices 1 W.wires)
+pub conns_right : (s : WireView) → IsLineList s → (W : ByteWorld) (x : sessions.AppWorld) → IsWorldKept s W → Simulates s W x → AreCounted W.wires → AllByRecursion IsConn (conn_lines W.devices 1 W.wires)
 conns_right s right W x kept beside counts =
     let many = beside.encodes.as_many in
     let few = beside.runs.dialled in

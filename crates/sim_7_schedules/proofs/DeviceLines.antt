@@ -22,7 +22,7 @@ use Rattle.sim_7_schedules.proofs.LogLines.{AreLogLines, log_lines}
 use Rattle.sim_7_schedules.proofs.Settled.{device_encodes, settled_device}
 use Rattle.cmd_schedule.specs.Contents.{Owned}
 use Rattle.cmd_schedule.specs.Schedules.{WireView}
-use Rattle.cmd_schedule.specs.WireGrammar.{IsWireSchedule}
+use Rattle.cmd_schedule.specs.LineLists.{IsLineList}
 use Rattle.sim_1_applications.specs.Devices as sessions
 use Rattle.sim_1_applications.specs.Devices.{Device, last_of}
 use Rattle.sim_1_applications.specs.Kept.{TilesKept}
@@ -34,7 +34,7 @@ use Rattle.sim_3_images.specs.Kept.{IsWorldKept, owned_by}
 use Rattle.sim_5_moves.specs.Running.{AreSmall, Bounds, DeviceSimulates, WorldSimulates, keep_in}
 use Rattle.xml_writer.specs.Items.{written_item}
 
-module _ (schedule : WireView) (right : IsWireSchedule schedule) (b : Bounds) (small : AreSmall b) (says : ℕ) (w : ByteWorld) (v : ItemWorld) (x : sessions.AppWorld) (kept : IsWorldKept schedule w) (encodes : WorldEncodes UpFits DownFits (StandingServers ServerFits) ClientFits w v)
+module _ (schedule : WireView) (right : IsLineList schedule) (b : Bounds) (small : AreSmall b) (says : ℕ) (w : ByteWorld) (v : ItemWorld) (x : sessions.AppWorld) (kept : IsWorldKept schedule w) (encodes : WorldEncodes UpFits DownFits (StandingServers ServerFits) ClientFits w v)
     (runs : WorldSimulates schedule b says v x) where
   abbrev history : List ℕ → List EntryView
   history = history_at (owned_of schedule) x.takes

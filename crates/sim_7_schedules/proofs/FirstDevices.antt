@@ -16,7 +16,7 @@ use Rattle.sim_5_devices.proofs.Staying as staying
 use Rattle.sim_5_devices.specs.Shown.{LogRepresents}
 use Rattle.cmd_schedule.specs.Contents.{Owned}
 use Rattle.cmd_schedule.specs.Schedules.{WireView}
-use Rattle.cmd_schedule.specs.WireGrammar.{IsWireSchedule}
+use Rattle.cmd_schedule.specs.LineLists.{IsLineList}
 use Rattle.sim_3_items.specs.Submitted.{SubmissionsRepresent}
 use Rattle.sim_1_applications.specs.Devices.{new_device}
 use Rattle.sim_1_applications.specs.Runs.{begins, owned_of}
@@ -30,7 +30,7 @@ nothing_submitted o = record { epoch = refl; n = refl; online = refl; said = ref
 pub nothing_logged : (schedule : WireView) (o : Owned) → LogRepresents (keep_in schedule) (history_for schedule [] o) (item_device o).client.log (new_device o.account).reading
 nothing_logged schedule o = record { entries = refl; tiles = refl; page = refl; held = refl }
 
-module _ (schedule : WireView) (is : IsWireSchedule schedule) (i : ℕ) (o : Owned) (there : IsOwned schedule i o) where
+module _ (schedule : WireView) (is : IsLineList schedule) (i : ℕ) (o : Owned) (there : IsOwned schedule i o) where
   -- what any connection of it would draw
   first_logins : ℕ → Login
   first_logins n = (drawn_login schedule i o is there n).login

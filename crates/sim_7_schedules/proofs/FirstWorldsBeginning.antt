@@ -7,7 +7,7 @@ use Rattle.sim_3_images.specs.ItemStarts.{item_device, items_at_start}
 use Rattle.sim_3_images.proofs.FittingEncodings.{begun_fits}
 use Rattle.cmd_report.specs.Addresses.{domain}
 use Rattle.cmd_schedule.specs.Schedules.{WireView}
-use Rattle.cmd_schedule.specs.WireGrammar.{IsWireSchedule}
+use Rattle.cmd_schedule.specs.LineLists.{IsLineList}
 use Rattle.sim_3_images.proofs.Within.{start_within}
 use Rattle.sim_1_applications.proofs.Runs.{one_of}
 use Rattle.sim_1_applications.specs.Devices.{Device}
@@ -23,7 +23,7 @@ led_begins schedule = record { events = []; reaches = refl; spoken = refl }
 pub nothing_asked : (schedule : WireView) (b : Bounds) (i : ℕ) (d : Device) → slice_get (begins schedule).devices i ≡ Some d → d.reading.asked ≤ b.pages + 1
 nothing_asked schedule b i d there = one_of (λ j (e : Device). e.reading.asked ≤ b.pages + 1) (map home (owned_of schedule)) i d (λ account. omega arith) there
 
-pub begun : (schedule : WireView) → IsWireSchedule schedule → (b : Bounds) → WorldSimulates schedule b 0 (items_at_start schedule) (begins schedule)
+pub begun : (schedule : WireView) → IsLineList schedule → (b : Bounds) → WorldSimulates schedule b 0 (items_at_start schedule) (begins schedule)
 begun schedule is b = record {
   led = led_begins schedule;
   said = omega arith;

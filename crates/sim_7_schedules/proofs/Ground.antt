@@ -15,7 +15,7 @@ use Rattle.sim_7_schedules.proofs.TakeLines.{IsTellable}
 use Rattle.cmd_schedule.specs.Contents.{Owned}
 use Rattle.cmd_schedule.specs.Grammar.{is_name}
 use Rattle.cmd_schedule.specs.Schedules.{WireView}
-use Rattle.cmd_schedule.specs.WireGrammar.{IsWireSchedule}
+use Rattle.cmd_schedule.specs.LineLists.{IsLineList}
 use Rattle.sim_1_applications.proofs.Said.{takes_few}
 use Rattle.sim_1_applications.proofs.Taken.{of_all}
 use Rattle.sim_1_applications.specs.Counts.{IsNumberedWithin}
@@ -47,7 +47,7 @@ all_three P Q R S each (x ∷ xs) p q r = (each x p.0 q.0 r.0, all_three P Q R S
 
 -- ---- a world that stands
 
-module _ (schedule : WireView) (right : IsWireSchedule schedule) (b : Bounds) (says : ℕ) (v : ItemWorld) (x : AppWorld) (runs : WorldSimulates schedule b says v x) where
+module _ (schedule : WireView) (right : IsLineList schedule) (b : Bounds) (says : ℕ) (v : ItemWorld) (x : AppWorld) (runs : WorldSimulates schedule b says v x) where
   taken : Taken x
   taken = taken_along runs.led.events (begins schedule) x runs.led.reaches (taken_beginning (keep_in schedule) (names_of schedule) _)
 

@@ -4,7 +4,7 @@ use Rattle.std.specs.Prelude.{drop}
 use Rattle.std.specs.List.{flat_map, slice_get}
 use Rattle.cmd_schedule.specs.Contents.{Owned, accounts_of}
 use Rattle.cmd_schedule.specs.Schedules.{WireView, keep_of}
-use Rattle.cmd_schedule.specs.WireGrammar.{IsWireSchedule}
+use Rattle.cmd_schedule.specs.LineLists.{IsLineList}
 use Rattle.sim_1_applications.proofs.Binds as binds
 use Rattle.sim_1_applications.specs.Devices.{Device, epoch_of}
 use Rattle.sim_1_applications.specs.Events.{AppEvent, At, Bind, Reaches}
@@ -15,7 +15,7 @@ use Rattle.sim_7_schedules.proofs.Chains.{cut_at}
 use Rattle.sim_7_schedules.specs.Simulation.{ScheduleSimulates}
 use Rattle.cmd_world.proofs.Declares.{some_kept}
 
-pub taken_after_handled : (s : WireView) → IsWireSchedule s → (runs : ScheduleSimulates s) (front following : List AppEvent) (i : ℕ) (d : Device) → flat_map (λ move. move) (moves_of runs.runs) ≡ front ++ At i Bind ∷ following
+pub taken_after_handled : (s : WireView) → IsLineList s → (runs : ScheduleSimulates s) (front following : List AppEvent) (i : ℕ) (d : Device) → flat_map (λ move. move) (moves_of runs.runs) ≡ front ++ At i Bind ∷ following
     → slice_get (state_after (begins s) front).devices i ≡ Some d → AreAbove (epoch_of d.sessions) i (drop (length (state_after (begins s) front).takes) runs.last.takes)
 taken_after_handled s right runs front following i d is there =
     let parts = cut_at front (At i Bind ∷ following) (begins s) runs.last (subst (λ es. Reaches es (begins s) runs.last) is runs.reaches) in

@@ -25,7 +25,7 @@ use Rattle.sm_resumption.specs.declared.answers.TheConstants.{RESUMABLE_FOR}
 use Rattle.cmd_schedule.proofs.Lists.{all_filter}
 use Rattle.cmd_schedule.specs.Contents.{Owned}
 use Rattle.cmd_schedule.specs.Schedules.{WireView}
-use Rattle.cmd_schedule.specs.WireGrammar.{IsWireSchedule}
+use Rattle.cmd_schedule.specs.LineLists.{IsLineList}
 use Rattle.cmd_schedule.specs.declared.schedule.Count.{Count}
 use Rattle.law_server.proofs.SessionsRendered.{at_rendered, filtered}
 use Rattle.law_server.specs.Rendered.{session_rendered, sessions_rendered}
@@ -45,7 +45,7 @@ none_rendered : {A B : Type 0} (f : A → B) (o : Option A) → option_map f o �
 none_rendered f None none = refl
 none_rendered f (Some a) none = absurd (none-some (f a) (sym none))
 
-module _ (s : WireView) (right : IsWireSchedule s) (W : ByteWorld) (x : sessions.AppWorld) (kept : IsWorldKept s W) (here : Simulates s W x) (position : ℕ) (o : Owned) (by : IsDialledBy s W position o) (none : IsUnboundAt position W) where
+module _ (s : WireView) (right : IsLineList s) (W : ByteWorld) (x : sessions.AppWorld) (kept : IsWorldKept s W) (here : Simulates s W x) (position : ℕ) (o : Owned) (by : IsDialledBy s W position o) (none : IsUnboundAt position W) where
   abbrev v : ItemWorld
   v = here.items
 

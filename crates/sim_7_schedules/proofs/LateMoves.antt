@@ -27,7 +27,7 @@ use Rattle.sim_5_moves.specs.Running.{DeviceSimulates, IsOwned, MoveSimulates, W
 use Rattle.sim_5_moves.specs.WordsRunWords.{IsSilent}
 use Rattle.cmd_schedule.specs.Contents.{Owned}
 use Rattle.cmd_schedule.specs.Schedules.{WireView}
-use Rattle.cmd_schedule.specs.WireGrammar.{IsWireSchedule}
+use Rattle.cmd_schedule.specs.LineLists.{IsLineList}
 use Rattle.sim_1_applications.specs.Devices.{AppWorld}
 use Rattle.sim_1_applications.specs.Runs.{owned_of}
 use Rattle.sim_7_schedules.proofs.LatePipes.{IsLeft, at_here, emitted_left}
@@ -58,7 +58,7 @@ passes q (x ∷ xs) =
       | inr other ↦ rw other (passes q xs)
     ]
 
-module _ (schedule : WireView) (right : IsWireSchedule schedule) (d : ℕ) (o : Owned) (owned : IsOwned schedule d o) (position m : ℕ) where
+module _ (schedule : WireView) (right : IsLineList schedule) (d : ℕ) (o : Owned) (owned : IsOwned schedule d o) (position m : ℕ) where
   abbrev who : Identity
   who = identity_at schedule d o
 

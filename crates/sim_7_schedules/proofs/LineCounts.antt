@@ -4,6 +4,7 @@ use Rattle.std.proofs.lemmas.Bool.{and_parts, leb-true, ltb-true}
 use Rattle.std.specs.Prelude.{IsTrue, ◌&&◌, nat_le}
 use Rattle.base_io.specs.Names.{is_among}
 use Rattle.cmd_schedule.specs.Grammar.{is_name, is_text}
+use Rattle.cmd_schedule.specs.LineLists.{counted_of}
 use Rattle.cmd_schedule.specs.WireGrammar.{WireAbove, above_by, are_few, may_run}
 use Rattle.cmd_schedule.specs.declared.schedule.Step.TheVariants as step
 use Rattle.cmd_schedule.specs.declared.schedule.TheConstants.{MOST_DIALS, MOST_TIMES_TOGETHER}
@@ -37,16 +38,17 @@ may_say above (wire.Run times) may = tt
 
 -- ---- connections and pages
 
--- A line's connections are those that stand above the next one beside its own. Its pages are its times, or one.
+-- A line's connections are those that stand above the next one beside its own. Its pages are its times; or one, where the
+-- line is counted.
 pub record IsCounted (above : WireAbove) (s : WireStep) : Type 0 where
   pub dials : (above_by s above).dials ≡ above.dials + dials_of s
   pub few_dials : (above_by s above).dials ≤ 10000
-  pub units : units_of s + above.times ≤ (above_by s above).times + 1
+  pub units : units_of s + above.times ≤ (above_by s above).times + counted_of s
   pub few_times : (above_by s above).times ≤ 100000
 
 module _ (above : WireAbove) (dials : above.dials ≤ 10000) (times : above.times ≤ 100000) where
-  -- a line that is not counted, and asks for one page at most
-  other : (s : WireStep) → (above_by s above).dials ≡ above.dials → (above_by s above).times ≡ above.times → dials_of s ≡ 0 → units_of s ≤ 1 → IsCounted above s
+  -- a line that makes no connection and repeats nothing
+  other : (s : WireStep) → (above_by s above).dials ≡ above.dials → (above_by s above).times ≡ above.times → dials_of s ≡ 0 → units_of s ≤ counted_of s → IsCounted above s
   other s same_dials same_times none one = record {
     dials = omega (arith, same_dials, none);
     few_dials = omega (arith, same_dials, dials);

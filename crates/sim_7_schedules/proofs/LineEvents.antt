@@ -1,20 +1,20 @@
 -- One line of a wire schedule as events of the applications, and what is said by them.
-use Rattle.std.proofs.Common.{ℕ, ◌+◌, ◌≤◌, Bool, true, false, List, [], ◌∷◌, Option, None, Some, length, subst, arith}
-use Rattle.std.specs.List.{slice_get}
+use Rattle.std.proofs.Common.{ℕ, ◌+◌, ◌≤◌, Bool, true, false, List, [], ◌∷◌, Option, None, Some, length, subst, ap, arith}
 use Rattle.std.specs.Prelude.{IsTrue}
 use Rattle.base_io.specs.Names.{position_of}
 use Rattle.sim_3_items.specs.ItemMoves as items
 use Rattle.sim_3_items.specs.ItemWorlds.{ItemWorld}
-use Rattle.sim_7_schedules.proofs.LineSays.{one_said, said_by_step, said_under, same_said}
+use Rattle.sim_7_schedules.proofs.LineSays.{said_by_step, said_under, same_said}
 use Rattle.cmd_report.specs.Addresses.{bare_address}
 use Rattle.cmd_schedule.specs.Grammar.{is_name, is_text}
+use Rattle.cmd_schedule.specs.LineLists.{counted_of}
 use Rattle.cmd_schedule.specs.Schedules.{WireView}
 use Rattle.cmd_schedule.specs.declared.schedule.Step.TheVariants as step
 use Rattle.cmd_schedule.specs.declared.schedule.WireStep.{WireStep}
 use Rattle.cmd_schedule.specs.declared.schedule.WireStep.TheVariants as wire
 use Rattle.sim_7_schedules.proofs.ByteMoves.{IsTimely, LineGoes, down_byte, no_moves, passes_go, rounds_go, up_byte}
 use Rattle.sim_7_schedules.proofs.LineUnits.{MaySay, dials_of, units_of}
-use Rattle.sim_7_schedules.proofs.Rounds.{AtMost, IsInRound, most_after, round_of}
+use Rattle.sim_7_schedules.proofs.Rounds.{AtMost, IsInRound, even_of, most_after, round_of}
 use Rattle.sim_7_schedules.proofs.SingleMoves.{catch_up_byte, close_byte, cut_byte, dial_byte, forget_byte, say_byte, tick_byte}
 use Rattle.sim_7_schedules.specs.Simulation.{EachMoveSimulates, IsEncoded, bounds}
 use Rattle.sim_1_applications.specs.Devices.{AppWorld}
@@ -26,10 +26,10 @@ use Rattle.cmd_world.specs.Moves.{Move}
 use Rattle.cmd_world.specs.Worlds as worlds
 use Rattle.sim_5_moves.specs.Running.{WorldSimulates, spoken_by_move}
 
--- Moves of bytes lead on by events in which this is said: one message at most.
+-- Moves of bytes lead on by events in which this is said, and no more.
 pub record LineDoes (schedule : WireView) (says n dials units : ℕ) (said : List Spoken) (ms : List Move) (W : worlds.ByteWorld) (x : AppWorld) : Type 0 where
   pub after : ℕ
-  pub few : after ≤ says + 1
+  pub few : after ≤ says + length said
   pub goes : LineGoes schedule dials after said ms W x (λ v y. AtMost (n + units) y)
 
 module _ (schedule : WireView) (each : EachMoveSimulates schedule) where
@@ -65,26 +65,26 @@ module _ (schedule : WireView) (each : EachMoveSimulates schedule) where
   at_position says n dials units move None W w x encodes runs most some = nothing says n dials units W w x encodes runs most
   at_position says n dials units move (Some position) W w x encodes runs most some = some position
 
-  passes_at : (says n times : ℕ) (o : Option ℕ) (W : worlds.ByteWorld) (w : ItemWorld) (x : AppWorld) → n + times ≤ 200000 → IsTimely W → IsEncoded W w → WorldSimulates schedule bounds says w x → AtMost n x →
+  passes_at : (says n times : ℕ) (o : Option ℕ) (W : worlds.ByteWorld) (w : ItemWorld) (x : AppWorld) → n + times ≤ 10100000 → IsTimely W → IsEncoded W w → WorldSimulates schedule bounds says w x → AtMost n x →
       LineDoes schedule says n 0 times [] (passes_where times o) W x
   passes_at says n times None W w x few timely encodes runs most = nothing says n 0 times W w x encodes runs most
   passes_at says n times (Some position) W w x few timely encodes runs most = quiet says n 0 times (passes_where times (Some position)) W x (passes_go schedule each says times position W w x n few timely encodes runs most)
 
   -- what the client takes is said
-  say_at : (says n number : ℕ) (to text : List ℕ) (private : Bool) (o : Option ℕ) (W : worlds.ByteWorld) (w : ItemWorld) (x : AppWorld) → IsTrue (is_name to) → IsTrue (is_text text) → says + 1 ≤ 100000 → IsEncoded W w → WorldSimulates schedule bounds says w x → AtMost n x →
+  say_at : (says n number : ℕ) (to text : List ℕ) (private : Bool) (o : Option ℕ) (W : worlds.ByteWorld) (w : ItemWorld) (x : AppWorld) → IsTrue (is_name to) → IsTrue (is_text text) → says + 1 ≤ 10000000 → IsEncoded W w → WorldSimulates schedule bounds says w x → AtMost n x →
       LineDoes schedule says n 0 0 (said_under W to text private o) (move_of (λ position. moves.Say position number to text private) o) W x
   say_at says n number to text private None W w x named good few encodes runs most = nothing says n 0 0 W w x encodes runs most
   say_at says n number to text private (Some position) W w x named good few encodes runs most =
-      let one = one_said position (bare_address to) text private (slice_get w.devices position) in
+      let same = ap length (same_said position to text private W w named encodes) in
       record {
         after = says + length (spoken_by_move (items.Say position (bare_address to) text private) w);
-        few = omega (arith, one);
+        few = omega (arith, same);
         goes = subst (λ said. LineGoes schedule 0 (says + length (spoken_by_move (items.Say position (bare_address to) text private) w)) said (moves.Say position number to text private ∷ []) W x (λ v y. AtMost (n + 0) y))
             (same_said position to text private W w named encodes)
             (say_byte schedule each says position number to text private W w x n named good few encodes runs most);
       }
 
-  pub line_does : (s : WireStep) (number says n : ℕ) (W : worlds.ByteWorld) (w : ItemWorld) (x : AppWorld) → MaySay s → says + 1 ≤ 100000 → n + units_of s ≤ 200000 → length W.wires + dials_of s ≤ 10000 → IsTimely W → IsEncoded W w → WorldSimulates schedule bounds says w x → AtMost n x →
+  pub line_does : (s : WireStep) (number says n : ℕ) (W : worlds.ByteWorld) (w : ItemWorld) (x : AppWorld) → MaySay s → says + counted_of s ≤ 10000000 → n + units_of s ≤ 10100000 → length W.wires + dials_of s ≤ 10000 → IsTimely W → IsEncoded W w → WorldSimulates schedule bounds says w x → AtMost n x →
       LineDoes schedule says n (dials_of s) (units_of s) (said_by_step W s) (step_moves W.names (length W.wires) number s) W x
   line_does (wire.Common (step.Account name)) number says n W w x may few pages dials timely encodes runs most = nothing says n 0 0 W w x encodes runs most
   line_does (wire.Common (step.Device name account)) number says n W w x may few pages dials timely encodes runs most = nothing says n 0 0 W w x encodes runs most
@@ -101,14 +101,14 @@ module _ (schedule : WireView) (each : EachMoveSimulates schedule) where
   line_does (wire.Close device) number says n W w x may few pages dials timely encodes runs most =
       at_position says n 0 0 moves.Close (position_of device W.names) W w x encodes runs most (λ position. silent says n 0 0 (moves.Close position ∷ []) W x (close_byte schedule each says position W w x n encodes runs most))
   line_does (wire.Up k count) number says n W w x may few pages dials timely encodes runs most =
-      at_position says n 0 1 (λ position. moves.Up position count) (position_under k) W w x encodes runs most
-      (λ position. quiet says n 0 1 (moves.Up position count ∷ []) W x
-      (weaker 0 says (n + 1) (n + 1) [] (moves.Up position count ∷ []) W x (IsInRound n 0) (λ v y round. most_after n 0 v y round) (omega arith)
-      (up_byte schedule each says position count W w x n 0 encodes runs (round_of n 0 w x most))))
+      at_position says n 0 0 (λ position. moves.Up position count) (position_under k) W w x encodes runs most
+      (λ position. quiet says n 0 0 (moves.Up position count ∷ []) W x
+      (weaker 0 says (n + 0) n [] (moves.Up position count ∷ []) W x (IsInRound n n 0) (λ v y round. most_after n n 0 v y round) (omega arith)
+      (up_byte schedule each says position count W w x n n 0 encodes runs (even_of n 0 w x most))))
   line_does (wire.Down k count) number says n W w x may few pages dials timely encodes runs most =
       at_position says n 0 1 (λ position. moves.Down position count) (position_under k) W w x encodes runs most
       (λ position. quiet says n 0 1 (moves.Down position count ∷ []) W x
-      (weaker 0 says (n + 1) (n + 1) [] (moves.Down position count ∷ []) W x (IsInRound n (position + 1)) (λ v y round. most_after n (position + 1) v y round) (omega arith)
+      (weaker 0 says (n + 1) (n + 1) [] (moves.Down position count ∷ []) W x (IsInRound (n + 1) n (position + 1)) (λ v y round. most_after (n + 1) n (position + 1) v y round) (omega arith)
       (down_byte schedule each says position count W w x n (omega arith) timely encodes runs (round_of n position w x most))))
   line_does (wire.Cut k up down) number says n W w x may few pages dials timely encodes runs most =
       at_position says n 0 0 (λ position. moves.Cut position up down) (position_under k) W w x encodes runs most

@@ -1,16 +1,13 @@
--- No line but a tick moves the clock on, and that by MOST_TICK at most.
+-- No line but a tick moves the clock on, and that by its milliseconds.
 use Rattle.std.proofs.Common.{◌≡◌, ℕ, zero, suc, ◌+◌, ◌≤◌, ◌==◌, Bool, true, false, cond, List, [], ◌∷◌, ◌++◌, Option, Some, None, refl, ◌∙◌, arith}
-use Rattle.std.proofs.lemmas.Bool.{leb-true}
 use Rattle.std.specs.List.{AllByRecursion, slice_get, slice_set}
-use Rattle.std.specs.Prelude.{IsTrue}
 use Rattle.cmd_network.specs.Devices.{DeviceState}
 use Rattle.base_io.specs.Names.{position_of}
 use Rattle.net_pipes.specs.Pipes.{is_end_due}
-use Rattle.cmd_schedule.specs.WireGrammar.{WireAbove, may_run}
+use Rattle.cmd_schedule.specs.LineLists.{ticked_of}
 use Rattle.cmd_schedule.specs.declared.schedule.Count.{Count}
 use Rattle.cmd_schedule.specs.declared.schedule.Count.TheVariants.{All}
 use Rattle.cmd_schedule.specs.declared.schedule.Step.TheVariants as step
-use Rattle.cmd_schedule.specs.declared.schedule.TheConstants.{MOST_TICK}
 use Rattle.cmd_schedule.specs.declared.schedule.WireStep.{WireStep}
 use Rattle.cmd_schedule.specs.declared.schedule.WireStep.TheVariants as wire
 use Rattle.srv_core.specs.Events.{after_gone}
@@ -112,26 +109,26 @@ turns_still times (Some position) = passes_still times position
 
 module _ (names : List (List ℕ)) (count number : ℕ) (w : ByteWorld) where
   abbrev IsSoon : WireStep → Type 0
-  IsSoon s = (all_moved (step_moves names count number s) w).moment ≤ w.moment + 1000000000
+  IsSoon s = (all_moved (step_moves names count number s) w).moment ≤ w.moment + ticked_of s
 
   still : (s : WireStep) → AllByRecursion IsStill (step_moves names count number s) → IsSoon s
   still s each = let same = all_still (step_moves names count number s) each w in omega (arith, same)
 
-  pub line_moment : (above : WireAbove) (s : WireStep) → IsTrue (may_run above s) → IsSoon s
-  line_moment above (wire.Common (step.Account name)) may = still (wire.Common (step.Account name)) tt
-  line_moment above (wire.Common (step.Device name account)) may = still (wire.Common (step.Device name account)) tt
-  line_moment above (wire.Common (step.Say device to text)) may =
+  pub line_moment : (s : WireStep) → IsSoon s
+  line_moment (wire.Common (step.Account name)) = still (wire.Common (step.Account name)) tt
+  line_moment (wire.Common (step.Device name account)) = still (wire.Common (step.Device name account)) tt
+  line_moment (wire.Common (step.Say device to text)) =
       still (wire.Common (step.Say device to text)) (one_still (λ position. moves.Say position number to text false) (position_of device names) (λ position v. said position number to text false (slice_get v.devices position) v))
-  line_moment above (wire.Common (step.Private device to text)) may =
+  line_moment (wire.Common (step.Private device to text)) =
       still (wire.Common (step.Private device to text)) (one_still (λ position. moves.Say position number to text true) (position_of device names) (λ position v. said position number to text true (slice_get v.devices position) v))
-  line_moment above (wire.Common (step.Catchup device most)) may =
+  line_moment (wire.Common (step.Catchup device most)) =
       still (wire.Common (step.Catchup device most)) (one_still (λ position. moves.CatchUp position number most) (position_of device names) (λ position v. asked position number most (slice_get v.devices position) v))
-  line_moment above (wire.Common (step.Tick ms)) may = let few : ms ≤ 1000000000 = leb-true ms MOST_TICK may in omega (arith, few)
-  line_moment above (wire.Dial device) may = still (wire.Dial device) (one_still moves.Dial (position_of device names) (λ position v. dialed position (slice_get v.devices position) v))
-  line_moment above (wire.Forget device) may = still (wire.Forget device) (one_still moves.Forget (position_of device names) (λ position v. forgot position (slice_get v.devices position) v))
-  line_moment above (wire.Close device) may = still (wire.Close device) (one_still moves.Close (position_of device names) (λ position v. closed position (slice_get v.devices position) v))
-  line_moment above (wire.Up k bytes) may = still (wire.Up k bytes) (one_still (λ position. moves.Up position bytes) (position_under k) (λ position. up_still position bytes))
-  line_moment above (wire.Down k bytes) may = still (wire.Down k bytes) (one_still (λ position. moves.Down position bytes) (position_under k) (λ position. down_still position bytes))
-  line_moment above (wire.Cut k up down) may = still (wire.Cut k up down) (one_still (λ position. moves.Cut position up down) (position_under k) (λ position v. refl))
-  line_moment above (wire.Pass k times) may = still (wire.Pass k times) (turns_still times (position_under k))
-  line_moment above (wire.Run times) may = still (wire.Run times) (rounds_still times count)
+  line_moment (wire.Common (step.Tick ms)) = omega arith
+  line_moment (wire.Dial device) = still (wire.Dial device) (one_still moves.Dial (position_of device names) (λ position v. dialed position (slice_get v.devices position) v))
+  line_moment (wire.Forget device) = still (wire.Forget device) (one_still moves.Forget (position_of device names) (λ position v. forgot position (slice_get v.devices position) v))
+  line_moment (wire.Close device) = still (wire.Close device) (one_still moves.Close (position_of device names) (λ position v. closed position (slice_get v.devices position) v))
+  line_moment (wire.Up k bytes) = still (wire.Up k bytes) (one_still (λ position. moves.Up position bytes) (position_under k) (λ position. up_still position bytes))
+  line_moment (wire.Down k bytes) = still (wire.Down k bytes) (one_still (λ position. moves.Down position bytes) (position_under k) (λ position. down_still position bytes))
+  line_moment (wire.Cut k up down) = still (wire.Cut k up down) (one_still (λ position. moves.Cut position up down) (position_under k) (λ position v. refl))
+  line_moment (wire.Pass k times) = still (wire.Pass k times) (turns_still times (position_under k))
+  line_moment (wire.Run times) = still (wire.Run times) (rounds_still times count)

@@ -14,6 +14,7 @@ use Rattle.sim_3_items.proofs.TextsTold.{name_again}
 use Rattle.sim_3_items.specs.ItemWorlds.{ItemDevice, ItemWorld}
 use Rattle.cmd_report.specs.Addresses.{bare_address, domain}
 use Rattle.cmd_schedule.specs.Grammar.{is_name}
+use Rattle.cmd_schedule.specs.LineLists.{counted_of}
 use Rattle.cmd_schedule.specs.declared.schedule.Step.TheVariants as step
 use Rattle.cmd_schedule.specs.declared.schedule.WireStep.{WireStep}
 use Rattle.cmd_schedule.specs.declared.schedule.WireStep.TheVariants as wire
@@ -65,3 +66,28 @@ one_where (Err fault) s = omega arith
 pub one_said : (position : ℕ) (to text : List ℕ) (private : Bool) (o : Option ItemDevice) → length (said_at position to text private o) ≤ 1
 one_said position to text private None = omega arith
 one_said position to text private (Some d) = one_where (say_answer d.client text) _
+
+one_on : (position : ℕ) (to text : List ℕ) (private : Bool) (o : Option DeviceState) → length (said_on position to text private o) ≤ 1
+one_on position to text private None = omega arith
+one_on position to text private (Some d) = one_where (say_answer d.client.client text) (message position to text private)
+
+one_under : (W : ByteWorld) (to text : List ℕ) (private : Bool) (o : Option ℕ) → length (said_under W to text private o) ≤ 1
+one_under W to text private None = omega arith
+one_under W to text private (Some position) = one_on position to text private (slice_get W.devices position)
+
+-- and none at a line that is not counted
+pub said_few : (W : ByteWorld) (s : WireStep) → length (said_by_step W s) ≤ counted_of s
+said_few W (wire.Common (step.Account name)) = omega arith
+said_few W (wire.Common (step.Device name account)) = omega arith
+said_few W (wire.Common (step.Say name to text)) = one_under W to text false (position_of name W.names)
+said_few W (wire.Common (step.Private name to text)) = one_under W to text true (position_of name W.names)
+said_few W (wire.Common (step.Catchup name most)) = omega arith
+said_few W (wire.Common (step.Tick ms)) = omega arith
+said_few W (wire.Dial device) = omega arith
+said_few W (wire.Forget device) = omega arith
+said_few W (wire.Close device) = omega arith
+said_few W (wire.Up k count) = omega arith
+said_few W (wire.Down k count) = omega arith
+said_few W (wire.Cut k up down) = omega arith
+said_few W (wire.Pass k times) = omega arith
+said_few W (wire.Run times) = omega arith

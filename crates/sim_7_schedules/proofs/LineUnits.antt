@@ -9,7 +9,6 @@ use Rattle.cmd_schedule.specs.declared.schedule.WireStep.TheVariants as wire
 -- how many pages a device may ask for at it, and how many connections it makes
 abbrev pub units_of : WireStep → ℕ
 units_of (wire.Common (step.Catchup device most)) = 1
-units_of (wire.Up k count) = 1
 units_of (wire.Down k count) = 1
 units_of (wire.Pass k times) = times
 units_of (wire.Run times) = times

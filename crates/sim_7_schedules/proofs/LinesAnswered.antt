@@ -29,7 +29,8 @@ use Rattle.cmd_report.specs.declared.report.RefusedWhy.TheVariants as why
 use Rattle.cmd_schedule.specs.Contents.{Owned, owned_in}
 use Rattle.cmd_schedule.specs.Grammar.{is_name, is_text}
 use Rattle.cmd_schedule.specs.Schedules.{WireView, common_at, steps_of}
-use Rattle.cmd_schedule.specs.WireGrammar.{AreWireLines, IsWireSchedule, WireAbove, above_by, may_run, nothing_above}
+use Rattle.cmd_schedule.specs.LineLists.{AreListed, IsLineList}
+use Rattle.cmd_schedule.specs.WireGrammar.{WireAbove, above_by, may_run, nothing_above}
 use Rattle.cmd_schedule.specs.declared.schedule.Line.{Line}
 use Rattle.cmd_schedule.specs.declared.schedule.Step.TheVariants as step
 use Rattle.cmd_schedule.specs.declared.schedule.WireLine.{WireLine}
@@ -228,19 +229,19 @@ declared_on above number (wire.Run times) rest = refl
 abbrev lines_in : List WireLine → List Line
 lines_in lines = flat_map (λ (line : WireLine). common_at line.number line.step) lines
 
-all_answered : (owned : List Owned) (above : WireAbove) (n : ℕ) (lines : List WireLine) (runs : List LineRun) (w : ByteWorld) → AreWireLines above n lines → IsKnown owned w → above.names.devices ++ names_by (steps_of (lines_in lines)) ≡ w.names
+all_answered : (owned : List Owned) (above : WireAbove) (lines : List WireLine) (runs : List LineRun) (w : ByteWorld) → AreListed above lines → IsKnown owned w → above.names.devices ++ names_by (steps_of (lines_in lines)) ≡ w.names
     → AreLinesRefused lines runs w → AreAnswered owned lines runs w
-all_answered owned above n [] [] w are known same refused = tt
-all_answered owned above n [] (r ∷ runs) w are known same refused = absurd refused
-all_answered owned above n (line ∷ lines) [] w are known same refused = absurd refused
-all_answered owned above n (line ∷ lines) (r ∷ runs) w are known same refused = (
-  one_line owned w above (names_by (steps_of (lines_in (line ∷ lines)))) known same line.number r.refused line.step are.2 refused.1,
-  all_answered owned (above_by line.step above) (n + 1) lines runs (stepped line w) are.4 (known_after owned (moves_of line w) w known)
+all_answered owned above [] [] w are known same refused = tt
+all_answered owned above [] (r ∷ runs) w are known same refused = absurd refused
+all_answered owned above (line ∷ lines) [] w are known same refused = absurd refused
+all_answered owned above (line ∷ lines) (r ∷ runs) w are known same refused = (
+  one_line owned w above (names_by (steps_of (lines_in (line ∷ lines)))) known same line.number r.refused line.step are.1 refused.1,
+  all_answered owned (above_by line.step above) lines runs (stepped line w) are.3 (known_after owned (moves_of line w) w known)
       (declared_on above line.number line.step (lines_in lines) ∙ same ∙ sym (names_stay (moves_of line w) w)) refused.2,
 )
 
-pub schedule_answered : (schedule : WireView) (runs : List LineRun) → IsWireSchedule schedule → AreLinesRefused schedule.lines runs (world_at_start schedule)
+pub schedule_answered : (schedule : WireView) (runs : List LineRun) → IsLineList schedule → AreLinesRefused schedule.lines runs (world_at_start schedule)
     → AreAnswered (owned_of schedule) schedule.lines runs (world_at_start schedule)
 schedule_answered schedule runs right refused =
-    all_answered (owned_of schedule) nothing_above 2 schedule.lines runs (world_at_start schedule) right.lines
+    all_answered (owned_of schedule) nothing_above schedule.lines runs (world_at_start schedule) right.lines
     (record { owners = refl; devices = sym (first_names (owned_in (common_steps schedule))) }) refl refused

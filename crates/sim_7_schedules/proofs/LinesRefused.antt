@@ -18,7 +18,7 @@ use Rattle.cmd_report.specs.declared.report.RefusedLine.{RefusedLine}
 use Rattle.cmd_report.specs.declared.report.RefusedWhy.{RefusedWhy}
 use Rattle.cmd_schedule.specs.Contents.{Owned, owned_in}
 use Rattle.cmd_schedule.specs.Schedules.{WireView}
-use Rattle.cmd_schedule.specs.WireGrammar.{IsWireSchedule}
+use Rattle.cmd_schedule.specs.LineLists.{IsLineList}
 use Rattle.cmd_schedule.specs.declared.schedule.WireLine.{WireLine}
 use Rattle.sim_1_applications.specs.Runs.{LineRun, Refusal, refused_by}
 use Rattle.cmd_world.specs.Histories.{common_steps, owned_at_start, world_at_start, world_of}
@@ -182,7 +182,7 @@ last_stands : (schedule : WireView) (rs : List Refusal) → Stands rs (all_stepp
 unfolding world_of
 last_stands schedule rs stands = stands
 
-pub schedule_refused : (schedule : WireView) (runs : List LineRun) → IsWireSchedule schedule → AreLinesRefused schedule.lines runs (world_at_start schedule)
+pub schedule_refused : (schedule : WireView) (runs : List LineRun) → IsLineList schedule → AreLinesRefused schedule.lines runs (world_at_start schedule)
     → AllByRecursion (λ (d : DeviceView). d.refused ≡ refused_by d.name runs) (report_of (world_of schedule)).devices
 schedule_refused schedule runs right are =
     let first : Stands [] (world_at_start schedule) = record { apart = apart_at_start schedule right; holds = first_holds (owned_in (common_steps schedule)) } in

@@ -11,7 +11,7 @@ use Rattle.sim_3_items.specs.ItemWorlds.{ItemDevice, ItemWorld}
 use Rattle.sim_5_moves.proofs.Calls.{catch_up_runs, say_runs}
 use Rattle.sim_5_moves.proofs.Known.{owned_there}
 use Rattle.cmd_schedule.specs.Schedules.{WireView}
-use Rattle.cmd_schedule.specs.WireGrammar.{IsWireSchedule}
+use Rattle.cmd_schedule.specs.LineLists.{IsLineList}
 use Rattle.sim_7_schedules.specs.Simulation.{EachMoveSimulates, bounds}
 use Rattle.sim_5_moves.proofs.ServersUps.{any_runs}
 use Rattle.sim_1_applications.specs.Devices.{AppWorld}
@@ -23,7 +23,7 @@ use Rattle.sim_5_moves.specs.Running.{AreSmall, IsInBounds, MoveSimulates, World
 pub small : AreSmall bounds
 small = record { stanzas = omega arith; dials = omega arith }
 
-module _ (schedule : WireView) (right : IsWireSchedule schedule) (says : ℕ) (w : ItemWorld) (x : AppWorld) (runs : WorldSimulates schedule bounds says w x) where
+module _ (schedule : WireView) (right : IsLineList schedule) (says : ℕ) (w : ItemWorld) (x : AppWorld) (runs : WorldSimulates schedule bounds says w x) where
   forgotten : (i : ℕ) (e : Option ItemDevice) → slice_get w.devices i ≡ e → MoveSimulates schedule bounds says (Forget i) w x
   forgotten i None none = nobody_runs schedule bounds says w x runs (Forget i) none
   forgotten i (Some d) there = let o = owned_there schedule bounds says w x runs i d there in forget_runs schedule bounds says w x runs i o.0 o.1
@@ -45,5 +45,5 @@ module _ (schedule : WireView) (right : IsWireSchedule schedule) (says : ℕ) (w
   one_runs (DownEnd position) may within = each_end schedule bounds says w x runs position
   one_runs (Cut position up down) may within = each_cut schedule bounds says w x runs position up down
 
-pub each_runs : (schedule : WireView) → IsWireSchedule schedule → EachMoveSimulates schedule
+pub each_runs : (schedule : WireView) → IsLineList schedule → EachMoveSimulates schedule
 each_runs schedule right m says w x may runs within = one_runs schedule right says w x runs m may within

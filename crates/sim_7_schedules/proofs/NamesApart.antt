@@ -10,7 +10,8 @@ use Rattle.sim_7_schedules.specs.Refusals.{Noted, noted_in, noted_of}
 use Rattle.cmd_schedule.specs.Contents.{Owned, owned_in}
 use Rattle.cmd_schedule.specs.Grammar.{is_name}
 use Rattle.cmd_schedule.specs.Schedules.{WireView, common_at, steps_of}
-use Rattle.cmd_schedule.specs.WireGrammar.{AreWireLines, IsWireSchedule, WireAbove, above_by, may_run, nothing_above}
+use Rattle.cmd_schedule.specs.LineLists.{AreListed, IsLineList}
+use Rattle.cmd_schedule.specs.WireGrammar.{WireAbove, above_by, may_run, nothing_above}
 use Rattle.cmd_schedule.specs.declared.schedule.Line.{Line}
 use Rattle.cmd_schedule.specs.declared.schedule.Step.{Step}
 use Rattle.cmd_schedule.specs.declared.schedule.Step.TheVariants as step
@@ -72,11 +73,11 @@ by_step above number (wire.Cut k up down) rest may apart next = next apart
 by_step above number (wire.Pass k times) rest may apart next = next apart
 by_step above number (wire.Run times) rest may apart next = next apart
 
-by_lines : (above : WireAbove) (n : ℕ) (lines : List WireLine) → AreWireLines above n lines → AreApart above.names.devices
+by_lines : (above : WireAbove) (lines : List WireLine) → AreListed above lines → AreApart above.names.devices
     → AreApart (above.names.devices ++ names_by (steps_of (flat_map (λ (line : WireLine). common_at line.number line.step) lines)))
-by_lines above n [] are apart = subst AreApart (sym (append-nil above.names.devices)) apart
-by_lines above n (line ∷ lines) are apart =
-    by_step above line.number line.step (flat_map (λ (l : WireLine). common_at l.number l.step) lines) are.2 apart (by_lines (above_by line.step above) (n + 1) lines are.4)
+by_lines above [] are apart = subst AreApart (sym (append-nil above.names.devices)) apart
+by_lines above (line ∷ lines) are apart =
+    by_step above line.number line.step (flat_map (λ (l : WireLine). common_at l.number l.step) lines) are.1 apart (by_lines (above_by line.step above) lines are.3)
 
 -- ---- the devices of a world
 
@@ -87,5 +88,5 @@ pub first_names : (os : List Owned) → map (λ (o : Owned). o.device) os ≡ na
 first_names [] = refl
 first_names (o ∷ os) = ap (λ ns. o.device ∷ ns) (first_names os)
 
-pub apart_at_start : (schedule : WireView) → IsWireSchedule schedule → AreApart (names_of (noted_in (world_at_start schedule)))
-apart_at_start schedule right = subst AreApart (first_names (owned_in (common_steps schedule))) (by_lines nothing_above 2 schedule.lines right.lines tt)
+pub apart_at_start : (schedule : WireView) → IsLineList schedule → AreApart (names_of (noted_in (world_at_start schedule)))
+apart_at_start schedule right = subst AreApart (first_names (owned_in (common_steps schedule))) (by_lines nothing_above schedule.lines right.lines tt)

@@ -1,5 +1,5 @@
 -- What the definition of a run leaves open of its report, of the report of a schedule that goes beside a run: it has 64 bits.
-use Rattle.std.proofs.Common.{leb, ◌≡◌, ℕ, ◌+◌, ◌*◌, ◌-◌, ◌<◌, ◌≤◌, ◌^◌, Bool, true, false, cond, List, [], ◌∷◌, Option, Some, None, length, map, refl, sym, ap, subst, arith, inl, inr}
+use Rattle.std.proofs.Common.{leb, ◌≡◌, ℕ, ◌+◌, ◌-◌, ◌<◌, ◌≤◌, ◌^◌, Bool, true, false, cond, List, [], ◌∷◌, Option, Some, None, length, map, refl, sym, ap, subst, arith, inl, inr}
 use Rattle.std.proofs.Math.Nat.{min-le_left}
 use Rattle.std.proofs.lemmas.Bool.{cases_Bool}
 use Rattle.std.proofs.lemmas.List.{length-append, length-map}
@@ -13,7 +13,7 @@ use Rattle.cmd_report_reader.specs.Readable.{IsNumber, IsUnderway}
 use Rattle.sim_7_schedules.specs.ShownWorlds.{shown_of}
 use Rattle.cmd_schedule.specs.Contents.{accounts_of}
 use Rattle.cmd_schedule.specs.Schedules.{WireView, keep_of}
-use Rattle.cmd_schedule.specs.WireGrammar.{AreWireLines, IsWireSchedule, WireAbove, above_by, nothing_above}
+use Rattle.cmd_schedule.specs.LineLists.{IsLineList, ticked_in}
 use Rattle.cmd_schedule.specs.declared.schedule.WireLine.{WireLine}
 use Rattle.sim_7_schedules.specs.Simulation.{ScheduleSimulates}
 use Rattle.sim_1_applications.proofs.Intervals.{length_after}
@@ -64,14 +64,14 @@ results_few keep first last d page (Some a) most is =
     let few = answer_few a.first a.last (request_of page) in
     omega arith
 
-open_right : (keep first last : ℕ) (d : Device) (o : Option OpenPage) → d.reading.asked ≤ 200001 → IsPage keep first last d o → AllByRecursion IsUnderway (underway_of o)
+open_right : (keep first last : ℕ) (d : Device) (o : Option OpenPage) → d.reading.asked ≤ 10100001 → IsPage keep first last d o → AllByRecursion IsUnderway (underway_of o)
 open_right keep first last d None few is = tt
 open_right keep first last d (Some page) few is =
     let number = is.number in
     let results = results_few keep first last d page page.answer is.most is.progress in
     (record { queryid = visible_field (113 ∷ decimal page.number) (marked 113 (decimal page.number) refl (decimal_visible page.number (omega arith))); got = omega arith }, tt)
 
-underway_right : (keep first last : ℕ) (d : Device) → d.reading.asked ≤ 200001 → PageKept keep first last d → AllByRecursion IsUnderway (underway_of d.reading.page)
+underway_right : (keep first last : ℕ) (d : Device) → d.reading.asked ≤ 10100001 → PageKept keep first last d → AllByRecursion IsUnderway (underway_of d.reading.page)
 underway_right keep first last d few is =
     elim (cases_Bool d.sessions.online) [
       | inl online ↦ open_right keep first last d d.reading.page few (is.page online)
@@ -80,16 +80,14 @@ underway_right keep first last d few is =
 
 -- ---- the moment
 
-lines_early : (lines : List WireLine) (above : WireAbove) (n : ℕ) (w : ByteWorld) → AreWireLines above n lines → n ≤ 100001 → w.moment ≤ 1000000000 * n → (all_stepped lines w).moment ≤ 1000000000 * 100001
-lines_early [] above n w are low early = omega arith
-lines_early (line ∷ lines) above n w are low early =
-    let more = line_moment w.names (length w.wires) line.number w above line.step are.2 in
-    lines_early lines (above_by line.step above) (n + 1) (stepped line w) are.4 (omega (arith, are.1)) (omega (arith, early, more))
+lines_early : (lines : List WireLine) (w : ByteWorld) → w.moment + ticked_in lines ≤ 253402207200000 → (all_stepped lines w).moment ≤ 253402207200000
+lines_early [] w low = omega (arith, low)
+lines_early (line ∷ lines) w low = let more = line_moment w.names (length w.wires) line.number w line.step in lines_early lines (stepped line w) (omega (arith, low, more))
 
-module _ (s : WireView) (right : IsWireSchedule s) (sr : ScheduleSimulates s) where
-  last_early : (world_of s).moment ≤ 1000000000 * 100001
+module _ (s : WireView) (right : IsLineList s) (sr : ScheduleSimulates s) where
+  last_early : (world_of s).moment ≤ 253402207200000
   unfolding world_of
-  last_early = lines_early s.lines nothing_above 2 (world_at_start s) right.lines (omega arith) (omega arith)
+  last_early = (let ticked : ticked_in s.lines ≤ 253402207200000 = right.ticked in lines_early s.lines (world_at_start s) (omega (arith, ticked)))
 
   pub clock_low : (run_of s right sr).last.clock < 2 ^ 64
   clock_low =

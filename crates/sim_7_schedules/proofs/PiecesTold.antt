@@ -47,7 +47,7 @@ use Rattle.law_payloads.specs.AsRead.{last_moment}
 use Rattle.cmd_schedule.proofs.Lists.{all_append}
 use Rattle.cmd_schedule.specs.Contents.{Owned}
 use Rattle.cmd_schedule.specs.Schedules.{WireView}
-use Rattle.cmd_schedule.specs.WireGrammar.{IsWireSchedule}
+use Rattle.cmd_schedule.specs.LineLists.{IsLineList}
 use Rattle.srv_core.specs.Events.{framer_at}
 use Rattle.sim_1_applications.specs.Counts.{IsUnanswered}
 use Rattle.sim_1_applications.specs.Devices.{AppWorld, Device}
@@ -63,9 +63,9 @@ use Rattle.xml_writer.specs.Items.{ItemOut}
 
 -- ---- items, one after another
 
--- behind all pages that the lines of a schedule ask for a device asks for one more at most
+-- behind all pages that lines ask for a device asks for one more at most
 abbrev wide : Bounds
-wide = record { says = 100000; pages = 200001; dials = 10000 }
+wide = record { says = 10000000; pages = 10100001; dials = 10000 }
 
 small : AreSmall wide
 small = record { stanzas = omega arith; dials = omega arith }
@@ -91,7 +91,7 @@ widened s says w x r = record {
 
 -- so far the device asked for few pages, or no answer is under way to it
 abbrev IsFew : Device → Type 0
-IsFew d = (d.reading.asked ≤ 200001) ⊎ IsUnanswered d
+IsFew d = (d.reading.asked ≤ 10100001) ⊎ IsUnanswered d
 
 -- these items are under way to the device of a connection, which has it
 record AreComing (s : WireView) (position says : ℕ) (w : ItemWorld) (x : AppWorld) (wire : ItemWire) (d : ItemDevice) (items : List ItemOut) : Type 0 where
@@ -103,7 +103,7 @@ record AreComing (s : WireView) (position says : ℕ) (w : ItemWorld) (x : AppWo
   items_are : wire.down.items ≡ items
   few : (e : Device) → slice_get x.devices wire.device ≡ Some e → IsFew e
 
-module _ (s : WireView) (right : IsWireSchedule s) (position : ℕ) where
+module _ (s : WireView) (right : IsLineList s) (position : ℕ) where
   -- the first of them
   module _ (z : ItemOut) (rest : List ItemOut) (says : ℕ) (w : ItemWorld) (x : AppWorld) (wire : ItemWire) (d : ItemDevice) (t : ClientStep ItemOut ItemOut) (c : AreComing s position says w x wire d (z ∷ rest)) (same : t.client ≡ d.client)
       (bounded : IsBounded t) where
@@ -205,7 +205,7 @@ fault_fair t (Some why) fair = by (is_apart t.client.phase)
     by true = fair
     by false = all_append IsFair t.out.events (Ended (Framing why) ∷ []) fair ((tt, tt), tt)
 
-module _ (s : WireView) (right : IsWireSchedule s) (W : bytes.ByteWorld) (x : AppWorld) (beside : Simulates s W x) (timely : IsTimely W) where
+module _ (s : WireView) (right : IsLineList s) (W : bytes.ByteWorld) (x : AppWorld) (beside : Simulates s W x) (timely : IsTimely W) where
   abbrev v : ItemWorld
   v = beside.items
 

@@ -29,9 +29,9 @@ use Rattle.sim_7_schedules.proofs.Positions as positions
 abbrev pub AtMost : ℕ → AppWorld → Type 0
 AtMost n x = (i : ℕ) (d : Device) → slice_get x.devices i ≡ Some d → d.reading.asked ≤ n
 
--- or for one more, where its connection was passed already
-abbrev pub IsInRound : ℕ → ℕ → ItemWorld → AppWorld → Type 0
-IsInRound n position w x = (i : ℕ) (d : Device) → slice_get x.devices i ≡ Some d → (d.reading.asked ≤ n + 1) × ((h : ℕ) → here_at i w ≡ Some h → position ≤ h → d.reading.asked ≤ n)
+-- or for so many as `top`, where its connection was passed already
+abbrev pub IsInRound : ℕ → ℕ → ℕ → ItemWorld → AppWorld → Type 0
+IsInRound top n position w x = (i : ℕ) (d : Device) → slice_get x.devices i ≡ Some d → (d.reading.asked ≤ top) × ((h : ℕ) → here_at i w ≡ Some h → position ≤ h → d.reading.asked ≤ n)
 
 -- while items of one are handed over
 pub record IsHanded (n position : ℕ) (w : ItemWorld) (i : ℕ) (d : Device) : Type 0 where
@@ -42,19 +42,23 @@ pub record IsHanded (n position : ℕ) (w : ItemWorld) (i : ℕ) (d : Device) : 
 abbrev pub AreHanded : ℕ → ℕ → ItemWorld → AppWorld → Type 0
 AreHanded n position w x = (i : ℕ) (d : Device) → slice_get x.devices i ≡ Some d → IsHanded n position w i d
 
-pub round_of : (n position : ℕ) (w : ItemWorld) (x : AppWorld) → AtMost n x → IsInRound n position w x
+pub round_of : (n position : ℕ) (w : ItemWorld) (x : AppWorld) → AtMost n x → IsInRound (n + 1) n position w x
 round_of n position w x most i d at = let low = most i d at in (omega arith, λ h here above. low)
 
-pub handed_of : (n position : ℕ) (w : ItemWorld) (x : AppWorld) → IsInRound n position w x → AreHanded n position w x
+-- while nothing is handed to devices none of them asks for more
+pub even_of : (n position : ℕ) (w : ItemWorld) (x : AppWorld) → AtMost n x → IsInRound n n position w x
+even_of n position w x most i d at = (most i d at, λ h here above. most i d at)
+
+pub handed_of : (n position : ℕ) (w : ItemWorld) (x : AppWorld) → IsInRound (n + 1) n position w x → AreHanded n position w x
 handed_of n position w x round i d at =
     let known = round i d at in
     record { most = known.0; here = λ here. inl (known.1 position here (omega arith)); later = λ h here above. known.1 h here (omega arith) }
 
-pub round_after : (n position : ℕ) (w : ItemWorld) (x : AppWorld) → AreHanded n position w x → IsInRound n (position + 1) w x
+pub round_after : (n position : ℕ) (w : ItemWorld) (x : AppWorld) → AreHanded n position w x → IsInRound (n + 1) n (position + 1) w x
 round_after n position w x handed i d at = let known = handed i d at in (known.most, known.later)
 
-pub most_after : (n position : ℕ) (w : ItemWorld) (x : AppWorld) → IsInRound n position w x → AtMost (n + 1) x
-most_after n position w x round i d at = (round i d at).0
+pub most_after : (top n position : ℕ) (w : ItemWorld) (x : AppWorld) → IsInRound top n position w x → AtMost top x
+most_after top n position w x round i d at = (round i d at).0
 
 -- ---- events, silently
 
@@ -100,62 +104,62 @@ of_move schedule says m w x Post r none post = record {
 
 module _ (schedule : WireView) (each : EachMoveSimulates schedule) where
   -- a move that leaves what was asked, and makes no connection
-  quiet : (says : ℕ) (m : ItemMove) (w : ItemWorld) (x : AppWorld) (n position : ℕ) → MayItem m → spoken_by_move m w ≡ [] → IsInBounds bounds says m w x → MakesNone w (moved m w) →
-      ((i : ℕ) (d e : Device) → IsAskedBy m w i d e → e.reading.asked ≡ d.reading.asked) → WorldSimulates schedule bounds says w x → IsInRound n position w x → Goes schedule says (moved m w) x (IsInRound n position (moved m w))
-  quiet says m w x n position may none within makes same runs round =
-      of_move schedule says m w x (IsInRound n position (moved m w)) (each m says w x may runs within) none (λ next asked was i e at.
+  quiet : (says : ℕ) (m : ItemMove) (w : ItemWorld) (x : AppWorld) (top n position : ℕ) → MayItem m → spoken_by_move m w ≡ [] → IsInBounds bounds says m w x → MakesNone w (moved m w) →
+      ((i : ℕ) (d e : Device) → IsAskedBy m w i d e → e.reading.asked ≡ d.reading.asked) → WorldSimulates schedule bounds says w x → IsInRound top n position w x → Goes schedule says (moved m w) x (IsInRound top n position (moved m w))
+  quiet says m w x top n position may none within makes same runs round =
+      of_move schedule says m w x (IsInRound top n position (moved m w)) (each m says w x may runs within) none (λ next asked was i e at.
       let d = was i e at in
       let is = same i d.0 e (asked i d.0 e d.1 at) in
       let known = round i d.0 d.1 in
       ((let most = known.0 in omega arith), λ h here above. let low = known.1 h (makes i h here) above in omega arith))
 
-  up_goes : (says position : ℕ) (w : ItemWorld) (x : AppWorld) (n p : ℕ) → WorldSimulates schedule bounds says w x → IsInRound n p w x → Goes schedule says (moved (Up position) w) x (IsInRound n p (moved (Up position) w))
-  up_goes says position w x n p runs round = quiet says (Up position) w x n p tt refl tt (up_makes position w) (λ i d e same. same) runs round
+  up_goes : (says position : ℕ) (w : ItemWorld) (x : AppWorld) (top n p : ℕ) → WorldSimulates schedule bounds says w x → IsInRound top n p w x → Goes schedule says (moved (Up position) w) x (IsInRound top n p (moved (Up position) w))
+  up_goes says position w x top n p runs round = quiet says (Up position) w x top n p tt refl tt (up_makes position w) (λ i d e same. same) runs round
 
-  up_end_goes : (says position : ℕ) (w : ItemWorld) (x : AppWorld) (n p : ℕ) → WorldSimulates schedule bounds says w x → IsInRound n p w x → Goes schedule says (moved (UpEnd position) w) x (IsInRound n p (moved (UpEnd position) w))
-  up_end_goes says position w x n p runs round = quiet says (UpEnd position) w x n p tt refl tt (up_end_makes position w) (λ i d e same. same) runs round
+  up_end_goes : (says position : ℕ) (w : ItemWorld) (x : AppWorld) (top n p : ℕ) → WorldSimulates schedule bounds says w x → IsInRound top n p w x → Goes schedule says (moved (UpEnd position) w) x (IsInRound top n p (moved (UpEnd position) w))
+  up_end_goes says position w x top n p runs round = quiet says (UpEnd position) w x top n p tt refl tt (up_end_makes position w) (λ i d e same. same) runs round
 
-  tick_goes : (says ms : ℕ) (w : ItemWorld) (x : AppWorld) (n p : ℕ) → WorldSimulates schedule bounds says w x → IsInRound n p w x → Goes schedule says (moved (Tick ms) w) x (IsInRound n p (moved (Tick ms) w))
-  tick_goes says ms w x n p runs round = quiet says (Tick ms) w x n p tt refl tt (tick_makes ms w) (λ i d e same. same) runs round
+  tick_goes : (says ms : ℕ) (w : ItemWorld) (x : AppWorld) (top n p : ℕ) → WorldSimulates schedule bounds says w x → IsInRound top n p w x → Goes schedule says (moved (Tick ms) w) x (IsInRound top n p (moved (Tick ms) w))
+  tick_goes says ms w x top n p runs round = quiet says (Tick ms) w x top n p tt refl tt (tick_makes ms w) (λ i d e same. same) runs round
 
-  down_end_goes : (says position : ℕ) (w : ItemWorld) (x : AppWorld) (n p : ℕ) → WorldSimulates schedule bounds says w x → IsInRound n p w x → Goes schedule says (moved (DownEnd position) w) x (IsInRound n p (moved (DownEnd position) w))
-  down_end_goes says position w x n p runs round = quiet says (DownEnd position) w x n p tt refl tt (down_end_makes position w) (λ i d e same. same) runs round
+  down_end_goes : (says position : ℕ) (w : ItemWorld) (x : AppWorld) (top n p : ℕ) → WorldSimulates schedule bounds says w x → IsInRound top n p w x → Goes schedule says (moved (DownEnd position) w) x (IsInRound top n p (moved (DownEnd position) w))
+  down_end_goes says position w x top n p runs round = quiet says (DownEnd position) w x top n p tt refl tt (down_end_makes position w) (λ i d e same. same) runs round
 
   -- so many items go to the server
-  ups_go : (says position count : ℕ) (w : ItemWorld) (x : AppWorld) (n p : ℕ) → WorldSimulates schedule bounds says w x → IsInRound n p w x →
-      Goes schedule says (all_moved (ups position count) w) x (IsInRound n p (all_moved (ups position count) w))
-  ups_go says position zero w x n p runs round = stays schedule says w x (IsInRound n p w) runs round
-  ups_go says position (suc count) w x n p runs round =
-      then schedule says (moved (Up position) w) (all_moved (ups position count) (moved (Up position) w)) x (IsInRound n p (moved (Up position) w)) _ (up_goes says position w x n p runs round)
-      (λ y here mid. ups_go says position count (moved (Up position) w) y n p here mid)
+  ups_go : (says position count : ℕ) (w : ItemWorld) (x : AppWorld) (top n p : ℕ) → WorldSimulates schedule bounds says w x → IsInRound top n p w x →
+      Goes schedule says (all_moved (ups position count) w) x (IsInRound top n p (all_moved (ups position count) w))
+  ups_go says position zero w x top n p runs round = stays schedule says w x (IsInRound top n p w) runs round
+  ups_go says position (suc count) w x top n p runs round =
+      then schedule says (moved (Up position) w) (all_moved (ups position count) (moved (Up position) w)) x (IsInRound top n p (moved (Up position) w)) _ (up_goes says position w x top n p runs round)
+      (λ y here mid. ups_go says position count (moved (Up position) w) y top n p here mid)
 
-  served_goes : (says position : ℕ) (first : List ItemMove) (w : ItemWorld) (x : AppWorld) (n p : ℕ) → AreServedUps position first → WorldSimulates schedule bounds says w x → IsInRound n p w x →
-      Goes schedule says (all_moved first w) x (IsInRound n p (all_moved first w))
-  served_goes says position first w x n p (inl none) runs round =
-      subst (λ ms. Goes schedule says (all_moved ms w) x (IsInRound n p (all_moved ms w))) (sym none) (stays schedule says w x (IsInRound n p w) runs round)
-  served_goes says position first w x n p (inr some) runs round =
-      subst (λ ms. Goes schedule says (all_moved ms w) x (IsInRound n p (all_moved ms w))) (sym some.1)
-      (then schedule says (moved (Tick 0) w) (all_moved (ups position some.0) (moved (Tick 0) w)) x (IsInRound n p (moved (Tick 0) w)) _ (tick_goes says 0 w x n p runs round)
-      (λ y here mid. ups_go says position some.0 (moved (Tick 0) w) y n p here mid))
+  served_goes : (says position : ℕ) (first : List ItemMove) (w : ItemWorld) (x : AppWorld) (top n p : ℕ) → AreServedUps position first → WorldSimulates schedule bounds says w x → IsInRound top n p w x →
+      Goes schedule says (all_moved first w) x (IsInRound top n p (all_moved first w))
+  served_goes says position first w x top n p (inl none) runs round =
+      subst (λ ms. Goes schedule says (all_moved ms w) x (IsInRound top n p (all_moved ms w))) (sym none) (stays schedule says w x (IsInRound top n p w) runs round)
+  served_goes says position first w x top n p (inr some) runs round =
+      subst (λ ms. Goes schedule says (all_moved ms w) x (IsInRound top n p (all_moved ms w))) (sym some.1)
+      (then schedule says (moved (Tick 0) w) (all_moved (ups position some.0) (moved (Tick 0) w)) x (IsInRound top n p (moved (Tick 0) w)) _ (tick_goes says 0 w x top n p runs round)
+      (λ y here mid. ups_go says position some.0 (moved (Tick 0) w) y top n p here mid))
 
   -- moves, and then others
   all_joined : (first second : List ItemMove) (w : ItemWorld) → all_moved (first ++ second) w ≡ all_moved second (all_moved first w)
   all_joined [] second w = refl
   all_joined (m ∷ first) second w = all_joined first second (moved m w)
 
-  pub up_line : (says position : ℕ) (first : List ItemMove) (ended : Bool) (w : ItemWorld) (x : AppWorld) (n p : ℕ) → AreServedUps position first → WorldSimulates schedule bounds says w x → IsInRound n p w x →
-      Goes schedule says (all_moved (first ++ moved_where (UpEnd position) ended) w) x (IsInRound n p (all_moved (first ++ moved_where (UpEnd position) ended) w))
-  up_line says position first ended w x n p is runs round =
-      subst (λ v. Goes schedule says v x (IsInRound n p v)) (sym (all_joined first (moved_where (UpEnd position) ended) w))
-      (then schedule says (all_moved first w) (all_moved (moved_where (UpEnd position) ended) (all_moved first w)) x (IsInRound n p (all_moved first w)) _ (served_goes says position first w x n p is runs round)
+  pub up_line : (says position : ℕ) (first : List ItemMove) (ended : Bool) (w : ItemWorld) (x : AppWorld) (top n p : ℕ) → AreServedUps position first → WorldSimulates schedule bounds says w x → IsInRound top n p w x →
+      Goes schedule says (all_moved (first ++ moved_where (UpEnd position) ended) w) x (IsInRound top n p (all_moved (first ++ moved_where (UpEnd position) ended) w))
+  up_line says position first ended w x top n p is runs round =
+      subst (λ v. Goes schedule says v x (IsInRound top n p v)) (sym (all_joined first (moved_where (UpEnd position) ended) w))
+      (then schedule says (all_moved first w) (all_moved (moved_where (UpEnd position) ended) (all_moved first w)) x (IsInRound top n p (all_moved first w)) _ (served_goes says position first w x top n p is runs round)
       (λ y here mid. by ended (all_moved first w) y here mid))
     where
-      by : (b : Bool) (v : ItemWorld) (y : AppWorld) → WorldSimulates schedule bounds says v y → IsInRound n p v y → Goes schedule says (all_moved (moved_where (UpEnd position) b) v) y (IsInRound n p (all_moved (moved_where (UpEnd position) b) v))
-      by true v y here mid = up_end_goes says position v y n p here mid
-      by false v y here mid = stays schedule says v y (IsInRound n p v) here mid
+      by : (b : Bool) (v : ItemWorld) (y : AppWorld) → WorldSimulates schedule bounds says v y → IsInRound top n p v y → Goes schedule says (all_moved (moved_where (UpEnd position) b) v) y (IsInRound top n p (all_moved (moved_where (UpEnd position) b) v))
+      by true v y here mid = up_end_goes says position v y top n p here mid
+      by false v y here mid = stays schedule says v y (IsInRound top n p v) here mid
 
   -- one item goes to a device
-  down_goes : (says position : ℕ) (w : ItemWorld) (x : AppWorld) (n : ℕ) → n ≤ 200000 → w.moment ≤ last_moment → WorldSimulates schedule bounds says w x → AreHanded n position w x → Goes schedule says (moved (Down position) w) x (AreHanded n position (moved (Down position) w))
+  down_goes : (says position : ℕ) (w : ItemWorld) (x : AppWorld) (n : ℕ) → n ≤ 10100000 → w.moment ≤ last_moment → WorldSimulates schedule bounds says w x → AreHanded n position w x → Goes schedule says (moved (Down position) w) x (AreHanded n position (moved (Down position) w))
   down_goes says position w x n few timely runs handed = by (positions.reaches position w)
     where
       by : positions.Reaches position w → Goes schedule says (moved (Down position) w) x (AreHanded n position (moved (Down position) w))
@@ -203,7 +207,7 @@ module _ (schedule : WireView) (each : EachMoveSimulates schedule) where
             later = λ h still above. let low = known.later h (down_makes position w i h still) above in omega arith;
           }
 
-  downs_go : (says position count : ℕ) (w : ItemWorld) (x : AppWorld) (n : ℕ) → n ≤ 200000 → w.moment ≤ last_moment → WorldSimulates schedule bounds says w x → AreHanded n position w x →
+  downs_go : (says position count : ℕ) (w : ItemWorld) (x : AppWorld) (n : ℕ) → n ≤ 10100000 → w.moment ≤ last_moment → WorldSimulates schedule bounds says w x → AreHanded n position w x →
       Goes schedule says (all_moved (downs position count) w) x (AreHanded n position (all_moved (downs position count) w))
   downs_go says position zero w x n few timely runs handed = stays schedule says w x (AreHanded n position w) runs handed
   downs_go says position (suc count) w x n few timely runs handed =
@@ -211,14 +215,14 @@ module _ (schedule : WireView) (each : EachMoveSimulates schedule) where
       (λ y here mid. downs_go says position count (moved (Down position) w) y n few (subst (λ k. k ≤ last_moment) (sym (down_moment position w)) timely) here mid)
 
   -- all that is handed to the device of a connection
-  pub down_line : (says position count : ℕ) (ended : Bool) (w : ItemWorld) (x : AppWorld) (n : ℕ) → n ≤ 200000 → w.moment ≤ last_moment → WorldSimulates schedule bounds says w x → IsInRound n position w x →
-      Goes schedule says (all_moved (downs position count ++ moved_where (DownEnd position) ended) w) x (IsInRound n (position + 1) (all_moved (downs position count ++ moved_where (DownEnd position) ended) w))
+  pub down_line : (says position count : ℕ) (ended : Bool) (w : ItemWorld) (x : AppWorld) (n : ℕ) → n ≤ 10100000 → w.moment ≤ last_moment → WorldSimulates schedule bounds says w x → IsInRound (n + 1) n position w x →
+      Goes schedule says (all_moved (downs position count ++ moved_where (DownEnd position) ended) w) x (IsInRound (n + 1) n (position + 1) (all_moved (downs position count ++ moved_where (DownEnd position) ended) w))
   down_line says position count ended w x n few timely runs round =
-      subst (λ v. Goes schedule says v x (IsInRound n (position + 1) v)) (sym (all_joined (downs position count) (moved_where (DownEnd position) ended) w))
+      subst (λ v. Goes schedule says v x (IsInRound (n + 1) n (position + 1) v)) (sym (all_joined (downs position count) (moved_where (DownEnd position) ended) w))
       (then schedule says (all_moved (downs position count) w) (all_moved (moved_where (DownEnd position) ended) (all_moved (downs position count) w)) x (AreHanded n position (all_moved (downs position count) w)) _
       (downs_go says position count w x n few timely runs (handed_of n position w x round))
       (λ y here mid. by ended (all_moved (downs position count) w) y here (round_after n position (all_moved (downs position count) w) y mid)))
     where
-      by : (b : Bool) (v : ItemWorld) (y : AppWorld) → WorldSimulates schedule bounds says v y → IsInRound n (position + 1) v y → Goes schedule says (all_moved (moved_where (DownEnd position) b) v) y (IsInRound n (position + 1) (all_moved (moved_where (DownEnd position) b) v))
-      by true v y here mid = down_end_goes says position v y n (position + 1) here mid
-      by false v y here mid = stays schedule says v y (IsInRound n (position + 1) v) here mid
+      by : (b : Bool) (v : ItemWorld) (y : AppWorld) → WorldSimulates schedule bounds says v y → IsInRound (n + 1) n (position + 1) v y → Goes schedule says (all_moved (moved_where (DownEnd position) b) v) y (IsInRound (n + 1) n (position + 1) (all_moved (moved_where (DownEnd position) b) v))
+      by true v y here mid = down_end_goes says position v y (n + 1) n (position + 1) here mid
+      by false v y here mid = stays schedule says v y (IsInRound (n + 1) n (position + 1) v) here mid

@@ -10,7 +10,7 @@ use Rattle.sm_acks.specs.Delivery.{IsPrefix}
 use Rattle.cmd_report.specs.Addresses.{domain}
 use Rattle.cmd_schedule.specs.Contents.{Owned}
 use Rattle.cmd_schedule.specs.Schedules.{WireView}
-use Rattle.cmd_schedule.specs.WireGrammar.{IsWireSchedule}
+use Rattle.cmd_schedule.specs.LineLists.{IsLineList}
 use Rattle.im_requests.specs.Sessions.{available_item, carbons_item}
 use Rattle.sim_1_applications.specs.Devices as sessions
 use Rattle.sim_1_applications.specs.Devices.{Session}
@@ -137,7 +137,7 @@ module _ (s : WireView) (i : ℕ) (o : Owned) (V W : ByteWorld) (x y : sessions.
 
 -- ---- all sessions
 
-module _ (s : WireView) (right : IsWireSchedule s) (i : ℕ) (o : Owned) (owned : slice_get (owned_of s) i ≡ Some o) (V W : ByteWorld) (x y : sessions.AppWorld) (kept_V : IsWorldKept s V) (kept_W : IsWorldKept s W) (before : Simulates s V x) (following : Simulates s W y) (es : List AppEvent) (reaches : Reaches es x y) where
+module _ (s : WireView) (right : IsLineList s) (i : ℕ) (o : Owned) (owned : slice_get (owned_of s) i ≡ Some o) (V W : ByteWorld) (x y : sessions.AppWorld) (kept_V : IsWorldKept s V) (kept_W : IsWorldKept s W) (before : Simulates s V x) (following : Simulates s W y) (es : List AppEvent) (reaches : Reaches es x y) where
   abbrev old : DeviceSimulates s before.items x i o
   old = before.runs.devices i o owned
 
@@ -191,7 +191,7 @@ module _ (s : WireView) (right : IsWireSchedule s) (i : ℕ) (o : Owned) (owned 
 
 -- ---- the course
 
-module _ (s : WireView) (right : IsWireSchedule s) (i : ℕ) (o : Owned) (owned : slice_get (owned_of s) i ≡ Some o) where
+module _ (s : WireView) (right : IsLineList s) (i : ℕ) (o : Owned) (owned : slice_get (owned_of s) i ≡ Some o) where
   abbrev beside : (j : ℕ) (W : ByteWorld) → slice_get (history_of s) j ≡ Some W → HasBeside s W
   beside j W at = world_at s (history_of s) (begins s) j W (chain_of s right) at
 

@@ -29,7 +29,8 @@ use Rattle.sim_7_schedules.proofs.Moves.{small}
 use Rattle.sim_7_schedules.proofs.WorldTold as world
 use Rattle.cmd_schedule.specs.Contents.{Owned, accounts_of}
 use Rattle.cmd_schedule.specs.Schedules.{WireView, keep_of}
-use Rattle.cmd_schedule.specs.WireGrammar.{IsWireSchedule, nothing_above}
+use Rattle.cmd_schedule.specs.LineLists.{IsLineList}
+use Rattle.cmd_schedule.specs.WireGrammar.{nothing_above}
 use Rattle.cmd_schedule.specs.declared.schedule.Version.{Version}
 use Rattle.sim_7_schedules.specs.Simulation.{Simulates, bounds}
 use Rattle.sim_1_applications.proofs.Later.{later_along}
@@ -58,7 +59,7 @@ told_same : (version : Version) (owned : List Owned) (ts : List sessions.Take) �
 told_same version owned [] = refl
 told_same version owned (t ∷ ts) = ap (λ l. told t.said ∷ l) (told_same version owned ts)
 
-module _ (s : WireView) (right : IsWireSchedule s) (W : ByteWorld) (x : sessions.AppWorld) (kept : IsWorldKept s W) (beside : Simulates s W x) (i : ℕ) (o : Owned) (owned : slice_get (owned_of s) i ≡ Some o) where
+module _ (s : WireView) (right : IsLineList s) (W : ByteWorld) (x : sessions.AppWorld) (kept : IsWorldKept s W) (beside : Simulates s W x) (i : ℕ) (o : Owned) (owned : slice_get (owned_of s) i ≡ Some o) where
   abbrev pub here : DeviceSimulates s beside.items x i o
   here = beside.runs.devices i o owned
 
@@ -126,7 +127,7 @@ module _ (s : WireView) (right : IsWireSchedule s) (W : ByteWorld) (x : sessions
   takes_are : map told_taken (taken_of o.device W.takes) ≡ map told (map said_in (filter (is_of i) x.takes))
   takes_are =
       let lines = (world.reported s bounds beside.says W beside.items x right small kept beside.encodes beside.runs).takes in
-      let differ = names_differ (steps_in s) (wire_stand [] nothing_above 2 s.lines refl right.lines) in
+      let differ = names_differ (steps_in s) (wire_stand [] nothing_above s.lines refl right.lines) in
       ap (λ ls. map told_taken (taken_of o.device ls)) lines
       ∙ ap (map told_taken) (lines_of_device s.version (owned_of s) i o x.takes differ owned within)
       ∙ told_same s.version (owned_of s) (filter (is_of i) x.takes)

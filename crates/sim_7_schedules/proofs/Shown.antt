@@ -28,7 +28,8 @@ use Rattle.sim_7_schedules.proofs.WorldTold.{archive_is}
 use Rattle.sim_7_schedules.specs.ShownWorlds.{asked_in, entries_for, log_named, pages_cut, pages_in, shown_of, underway}
 use Rattle.cmd_schedule.specs.Contents.{Owned}
 use Rattle.cmd_schedule.specs.Schedules.{WireView}
-use Rattle.cmd_schedule.specs.WireGrammar.{IsWireSchedule, nothing_above}
+use Rattle.cmd_schedule.specs.LineLists.{IsLineList}
+use Rattle.cmd_schedule.specs.WireGrammar.{nothing_above}
 use Rattle.sim_1_applications.specs.Devices as sessions
 use Rattle.sim_1_applications.specs.Devices.{Device, OpenPage, Reading}
 use Rattle.sim_1_applications.specs.Histories.{asked_with}
@@ -84,10 +85,10 @@ asked_by history b (Some page) = refl
 
 -- ---- a world
 
-module _ (schedule : WireView) (b : Bounds) (says : ℕ) (w : ByteWorld) (v : ItemWorld) (x : sessions.AppWorld) (right : IsWireSchedule schedule) (kept : IsWorldKept schedule w) (encodes : WorldEncodes UpFits DownFits (StandingServers ServerFits) ClientFits w v)
+module _ (schedule : WireView) (b : Bounds) (says : ℕ) (w : ByteWorld) (v : ItemWorld) (x : sessions.AppWorld) (right : IsLineList schedule) (kept : IsWorldKept schedule w) (encodes : WorldEncodes UpFits DownFits (StandingServers ServerFits) ClientFits w v)
     (runs : WorldSimulates schedule b says v x) where
   differ : Differ (names_of (owned_of schedule))
-  differ = names_differ (steps_in schedule) (wire_stand [] nothing_above 2 schedule.lines refl right.lines)
+  differ = names_differ (steps_in schedule) (wire_stand [] nothing_above schedule.lines refl right.lines)
 
   archive_shown : (account : List ℕ) → is_among account x.accounts ≡ true → entries_for account w.accounts w.server.server_state.archives ≡ newest x.keep (history_at (owned_of schedule) x.takes account)
   archive_shown account is =

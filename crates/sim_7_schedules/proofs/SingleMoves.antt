@@ -82,7 +82,7 @@ module _ (schedule : WireView) (each : EachMoveSimulates schedule) where
       (dial_many device (client_entropy run.0) (server_entropy run.0) w) most
 
   -- one page more
-  pub catch_up_byte : (says device line pages : ℕ) (W : wires.ByteWorld) (w : ItemWorld) (x : AppWorld) (n : ℕ) → 1 ≤ pages → pages ≤ 100 → n ≤ 200000 → IsEncoded W w → WorldSimulates schedule bounds says w x → AtMost n x →
+  pub catch_up_byte : (says device line pages : ℕ) (W : wires.ByteWorld) (w : ItemWorld) (x : AppWorld) (n : ℕ) → 1 ≤ pages → pages ≤ 100 → n ≤ 10100000 → IsEncoded W w → WorldSimulates schedule bounds says w x → AtMost n x →
       LineGoes schedule 0 (says + 0) [] (bytes.CatchUp device line pages ∷ []) W x (λ v y. AtMost (n + 1) y)
   catch_up_byte says device line pages W w x n some few low encodes runs most =
       let r = is_moved (bytes.CatchUp device line pages) W w (some, few) encodes in
@@ -91,7 +91,7 @@ module _ (schedule : WireView) (each : EachMoveSimulates schedule) where
       (λ i d e is. let one = one_or_none (i == device) in omega (arith, is, one)) (omega arith) most
 
   -- what the client takes is said
-  pub say_byte : (says device line : ℕ) (to text : List ℕ) (private : Bool) (W : wires.ByteWorld) (w : ItemWorld) (x : AppWorld) (n : ℕ) → IsTrue (is_name to) → IsTrue (is_text text) → says + 1 ≤ 100000 → IsEncoded W w → WorldSimulates schedule bounds says w x → AtMost n x →
+  pub say_byte : (says device line : ℕ) (to text : List ℕ) (private : Bool) (W : wires.ByteWorld) (w : ItemWorld) (x : AppWorld) (n : ℕ) → IsTrue (is_name to) → IsTrue (is_text text) → says + 1 ≤ 10000000 → IsEncoded W w → WorldSimulates schedule bounds says w x → AtMost n x →
       LineGoes schedule 0 (says + length (spoken_by_move (items.Say device (bare_address to) text private) w)) (spoken_by_move (items.Say device (bare_address to) text private) w) (bytes.Say device line to text private ∷ []) W x (λ v y. AtMost (n + 0) y)
   say_byte says device line to text private W w x n named good few encodes runs most =
       let r = is_moved (bytes.Say device line to text private) W w (named, good) encodes in

@@ -4,7 +4,7 @@ use Rattle.std.specs.List.{slice_get}
 use Rattle.cmd_network.specs.Devices.{DeviceState}
 use Rattle.cmd_schedule.specs.Contents.{Owned}
 use Rattle.cmd_schedule.specs.Schedules.{WireView}
-use Rattle.cmd_schedule.specs.WireGrammar.{IsWireSchedule}
+use Rattle.cmd_schedule.specs.LineLists.{IsLineList}
 use Rattle.sim_1_applications.specs.Runs.{begins, owned_of}
 use Rattle.sim_7_schedules.proofs.BoundSessions.{after_a_bind, epoch_here, taken_after}
 use Rattle.sim_7_schedules.proofs.Chains.{Picked, chain_of, pick}
@@ -13,7 +13,7 @@ use Rattle.sim_7_schedules.specs.Bound.{AreEnabled, HasBound, IsTakenAbove}
 use Rattle.cmd_world.specs.Histories.{history_of}
 use Rattle.cmd_world.specs.Worlds.{ByteWorld}
 
-pub taken_above : (s : WireView) → IsWireSchedule s → (j m k : ℕ) (w bound later : ByteWorld) → slice_get (history_of s) j ≡ Some w → slice_get (history_of s) m ≡ Some bound → slice_get (history_of s) k ≡ Some later → j ≤ m → m ≤ k
+pub taken_above : (s : WireView) → IsLineList s → (j m k : ℕ) (w bound later : ByteWorld) → slice_get (history_of s) j ≡ Some w → slice_get (history_of s) m ≡ Some bound → slice_get (history_of s) k ≡ Some later → j ≤ m → m ≤ k
     → (i : ℕ) (o : Owned) (d : DeviceState) → slice_get (owned_of s) i ≡ Some o → slice_get w.devices i ≡ Some d → AreEnabled s o w → HasBound s o bound → IsTakenAbove d.client.client.epoch o bound later
 taken_above s right j m k w bound later at_j at_m at_k low high i o d owned there enabled has =
     let one = pick s (history_of s) (begins s) j w (chain_of s right) at_j in
@@ -25,7 +25,7 @@ taken_above s right j m k w bound later at_j at_m at_k low high i o d owned ther
     (after_a_bind s right i o owned w bound one.world two.world two.events one.beside two.beside two.reaches enabled has))
 
 -- of an epoch that the client has left behind nothing is taken any more
-pub taken_from : (s : WireView) → IsWireSchedule s → (j k : ℕ) (w later : ByteWorld) → slice_get (history_of s) j ≡ Some w → slice_get (history_of s) k ≡ Some later → j ≤ k
+pub taken_from : (s : WireView) → IsLineList s → (j k : ℕ) (w later : ByteWorld) → slice_get (history_of s) j ≡ Some w → slice_get (history_of s) k ≡ Some later → j ≤ k
     → (i : ℕ) (o : Owned) (d : DeviceState) → slice_get (owned_of s) i ≡ Some o → slice_get w.devices i ≡ Some d → (e : ℕ) → e < d.client.client.epoch → IsTakenAbove e o w later
 taken_from s right j k w later at_j at_k low i o d owned there e before =
     let one = pick s (history_of s) (begins s) j w (chain_of s right) at_j in

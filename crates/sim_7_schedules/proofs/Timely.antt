@@ -1,11 +1,11 @@
--- In each world of the history of a wire schedule the moment has a stamp.
-use Rattle.std.proofs.Common.{◌≡◌, ℕ, ◌+◌, ◌*◌, ◌≤◌, List, [], ◌∷◌, Some, length, slice_get, subst, arith}
+-- In each world of the history of a list of lines the moment has a stamp.
+use Rattle.std.proofs.Common.{◌≡◌, ℕ, ◌+◌, ◌≤◌, List, [], ◌∷◌, Some, length, slice_get, subst, arith}
 use Rattle.std.specs.List.{AllByRecursion}
 use Rattle.std.specs.Prelude.{IfSome}
 use Rattle.sim_3_images.proofs.ChangedLists.{all_at}
 use Rattle.cmd_schedule.proofs.Lists.{all_append}
 use Rattle.cmd_schedule.specs.Schedules.{WireView}
-use Rattle.cmd_schedule.specs.WireGrammar.{AreWireLines, IsWireSchedule, WireAbove, above_by, nothing_above}
+use Rattle.cmd_schedule.specs.LineLists.{IsLineList, ticked_in}
 use Rattle.cmd_schedule.specs.declared.schedule.WireLine.{WireLine}
 use Rattle.sim_7_schedules.proofs.ByteMoves.{IsTimely}
 use Rattle.sim_7_schedules.proofs.LineMoments.{asked, closed, dialed, down_still, forgot, line_moment, said, up_still}
@@ -35,19 +35,15 @@ within : (ms : List Move) (w : ByteWorld) (most : ℕ) → (all_moved ms w).mome
 within [] w most last = tt
 within (m ∷ ms) w most last = ((let more = all_grow ms (moved m w) in omega (arith, more, last)), within ms (moved m w) most last)
 
-timely_all : (vs : List ByteWorld) (number : ℕ) → number ≤ 100000 → AllByRecursion (λ (v : ByteWorld). v.moment ≤ (number + 1) * 1000000000) vs → AllByRecursion IsTimely vs
-timely_all [] number few all = tt
-timely_all (v ∷ vs) number few all = ((let low = all.0 in let far : v.moment ≤ 253402207200000 = omega (arith, few, low) in far), timely_all vs number few all.1)
+lines_timely : (lines : List WireLine) (w : ByteWorld) → w.moment + ticked_in lines ≤ 253402207200000 → AllByRecursion IsTimely (worlds_along lines w)
+lines_timely [] w low = tt
+lines_timely (line ∷ lines) w low =
+    let soon = line_moment w.names (length w.wires) line.number w line.step in
+    let following : (stepped line w).moment + ticked_in lines ≤ 253402207200000 = omega (arith, low, soon) in
+    all_append IsTimely (worlds_by (moves_of line w) w) (worlds_along lines (stepped line w)) (within (moves_of line w) w 253402207200000 (omega (arith, following))) (lines_timely lines (stepped line w) following)
 
-lines_timely : (lines : List WireLine) (above : WireAbove) (number : ℕ) (w : ByteWorld) → AreWireLines above number lines → w.moment ≤ number * 1000000000 → AllByRecursion IsTimely (worlds_along lines w)
-lines_timely [] above number w are low = tt
-lines_timely (line ∷ lines) above number w are low =
-    let soon = line_moment w.names (length w.wires) line.number w above line.step are.2 in
-    let following : (stepped line w).moment ≤ (number + 1) * 1000000000 = omega (arith, low, soon) in
-    all_append IsTimely (worlds_by (moves_of line w) w) (worlds_along lines (stepped line w)) (timely_all (worlds_by (moves_of line w) w) number are.1 (within (moves_of line w) w ((number + 1) * 1000000000) following))
-    (lines_timely lines (above_by line.step above) (number + 1) (stepped line w) are.4 following)
-
-pub timely_at : (s : WireView) → IsWireSchedule s → (j : ℕ) (w : ByteWorld) → slice_get (history_of s) j ≡ Some w → IsTimely w
+pub timely_at : (s : WireView) → IsLineList s → (j : ℕ) (w : ByteWorld) → slice_get (history_of s) j ≡ Some w → IsTimely w
 timely_at s right j w at =
-    let all : AllByRecursion IsTimely (history_of s) = (omega arith, lines_timely s.lines nothing_above 2 (world_at_start s) right.lines (omega arith)) in
+    let ticked : ticked_in s.lines ≤ 253402207200000 = right.ticked in
+    let all : AllByRecursion IsTimely (history_of s) = (omega arith, lines_timely s.lines (world_at_start s) (omega (arith, ticked))) in
     subst (λ o. IfSome o IsTimely) at (all_at IsTimely (history_of s) j all)

@@ -1,4 +1,4 @@
--- A whole wire schedule beside a run of the applications.
+-- A whole list of lines beside a run of the applications.
 use Rattle.std.proofs.Common.{◌≡◌, ℕ, zero, suc, ◌≤◌, List, [], ◌∷◌, Some, refl, subst, arith}
 use Rattle.std.proofs.lemmas.Option.{none-some, same_Some}
 use Rattle.std.specs.List.{slice_get}
@@ -8,7 +8,8 @@ use Rattle.sim_7_schedules.proofs.LinesRefused.{schedule_refused}
 use Rattle.sim_7_schedules.proofs.LinesAlong.{IsBefore, lines_go}
 use Rattle.sim_7_schedules.proofs.LinesDone.{lines_done}
 use Rattle.cmd_schedule.specs.Schedules.{WireView}
-use Rattle.cmd_schedule.specs.WireGrammar.{IsWireSchedule, nothing_above}
+use Rattle.cmd_schedule.specs.LineLists.{IsLineList, counted_in, ticked_in}
+use Rattle.cmd_schedule.specs.WireGrammar.{nothing_above}
 use Rattle.sim_7_schedules.proofs.FirstLinesBeginning.{first}
 use Rattle.sim_7_schedules.specs.Simulation.{EachMoveSimulates, ScheduleSimulates, bounds}
 use Rattle.sim_1_applications.specs.Devices.{Device, new_device}
@@ -45,9 +46,11 @@ module _ (s : WireView) where
     within = r.within;
   }
 
-  before_first : IsWireSchedule s → IsBefore s nothing_above 2 (world_at_start s) (begins s)
+  before_first : IsLineList s → IsBefore s nothing_above s.lines (world_at_start s) (begins s)
   before_first right =
       let f = first s right in
+      let counted : counted_in s.lines ≤ 10000000 = right.counted in
+      let ticked : ticked_in s.lines ≤ 253402207200000 = right.ticked in
       record {
         says = 0;
         pages = 0;
@@ -55,19 +58,19 @@ module _ (s : WireView) where
         encodes = f.encodes;
         runs = anew f.says f.items f.runs;
         most = λ i d at. none_asked _ i d at;
-        said = omega arith;
-        few = omega arith;
+        said = omega (arith, counted);
+        few = omega (arith, counted);
         times = omega arith;
         dials = omega arith;
         many = omega arith;
-        moment = omega arith;
+        moment = omega (arith, ticked);
       }
 
 -- ---- all lines
 
-pub schedule_runs : (s : WireView) → IsWireSchedule s → EachMoveSimulates s → ScheduleSimulates s
+pub schedule_runs : (s : WireView) → IsLineList s → EachMoveSimulates s → ScheduleSimulates s
 schedule_runs s right each =
-    let all = lines_go s each s.lines nothing_above 2 (world_at_start s) (begins s) right.lines (before_first s right) in
+    let all = lines_go s each s.lines nothing_above (world_at_start s) (begins s) right.lines (before_first s right) in
     record {
       runs = all.runs;
       done = lines_done (owned_of s) s.lines all.runs (world_at_start s) all.spoken (schedule_answered s all.runs right all.refused);

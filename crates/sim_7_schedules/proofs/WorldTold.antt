@@ -12,7 +12,7 @@ use Rattle.sim_7_schedules.proofs.Ground.{tellable}
 use Rattle.sim_7_schedules.proofs.TakeLines.{take_lines_told}
 use Rattle.sim_7_schedules.specs.Reports.{IsReported}
 use Rattle.cmd_schedule.specs.Schedules.{WireView}
-use Rattle.cmd_schedule.specs.WireGrammar.{IsWireSchedule}
+use Rattle.cmd_schedule.specs.LineLists.{IsLineList}
 use Rattle.sim_1_applications.specs.Devices as sessions
 use Rattle.sim_1_applications.specs.Reported.{history_at}
 use Rattle.sim_1_applications.specs.Runs.{owned_of}
@@ -26,7 +26,7 @@ module _ (schedule : WireView) (b : Bounds) (says : ℕ) (w : ByteWorld) (v : It
   pub archive_is : (i : ℕ) (name : List ℕ) → slice_get (names_of schedule) i ≡ Some name → slice_get w.server.server_state.archives i ≡ Some (archive_of_name (keep_in schedule) (history_at (owned_of schedule) x.takes) name)
   archive_is i name at = ap (λ (h : ServerState (List ℕ)). slice_get h.archives i) encodes.server_state ∙ runs.server.archives i name at
 
-pub reported : (schedule : WireView) (b : Bounds) (says : ℕ) (w : ByteWorld) (v : ItemWorld) (x : sessions.AppWorld) → IsWireSchedule schedule → AreSmall b → IsWorldKept schedule w
+pub reported : (schedule : WireView) (b : Bounds) (says : ℕ) (w : ByteWorld) (v : ItemWorld) (x : sessions.AppWorld) → IsLineList schedule → AreSmall b → IsWorldKept schedule w
     → WorldEncodes UpFits DownFits (StandingServers ServerFits) ClientFits w v → WorldSimulates schedule b says v x → IsReported schedule x (report_of w)
 reported schedule b says w v x right small kept encodes runs = record {
   version = kept.version;

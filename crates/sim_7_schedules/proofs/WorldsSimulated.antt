@@ -7,7 +7,7 @@ use Rattle.sim_7_schedules.proofs.WholeSchedules.{schedule_runs}
 use Rattle.sim_7_schedules.proofs.Moves.{each_runs}
 use Rattle.cmd_schedule.proofs.Lists.{all_append}
 use Rattle.cmd_schedule.specs.Schedules.{WireView}
-use Rattle.cmd_schedule.specs.WireGrammar.{IsWireSchedule}
+use Rattle.cmd_schedule.specs.LineLists.{IsLineList}
 use Rattle.cmd_schedule.specs.declared.schedule.WireLine.{WireLine}
 use Rattle.sim_7_schedules.specs.Simulation.{LinesSimulate, MovesSimulate, Simulates}
 use Rattle.sim_1_applications.specs.Devices as sessions
@@ -39,7 +39,7 @@ lines_beside s (line ∷ lines) (run ∷ runs) W x go =
     all_append (HasBeside s) (worlds_by (moves_of line W) W) (worlds_along lines (stepped line W)) (moves_beside s (moves_of line W) run.moves W x go.1)
     (lines_beside s lines runs (stepped line W) (state_after x (flat_map (λ one. one) run.moves)) go.2)
 
-pub beside_at : (s : WireView) → IsWireSchedule s → (j : ℕ) (W : ByteWorld) → slice_get (history_of s) j ≡ Some W → HasBeside s W
+pub beside_at : (s : WireView) → IsLineList s → (j : ℕ) (W : ByteWorld) → slice_get (history_of s) j ≡ Some W → HasBeside s W
 beside_at s right j W at =
     let runs = schedule_runs s right (each_runs s right) in
     let all : AllByRecursion (HasBeside s) (history_of s) = ((begins s, runs.first), lines_beside s s.lines runs.runs (world_at_start s) (begins s) runs.go) in

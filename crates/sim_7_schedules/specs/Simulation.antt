@@ -22,10 +22,10 @@ use Rattle.cmd_world.specs.WorldReports.{report_of}
 use Rattle.cmd_world.specs.Worlds as bytes
 use Rattle.sim_5_moves.specs.Running.{Bounds, IsInBounds, MoveSimulates, WorldSimulates}
 
--- how much the lines of a schedule can come to: each is one message at most, one page or one connection; and a pass or a
--- run is as many pages at most as it has times
+-- How much a list of lines can come to. Each line that is counted is one message at most, one page or one connection, and
+-- a pass or a run is as many pages at most as it has times. No page is asked for, and nothing said, at the others.
 abbrev pub bounds : Bounds
-bounds = record { says = 100000; pages = 200000; dials = 10000 }
+bounds = record { says = 10000000; pages = 10100000; dials = 10000 }
 
 -- each move of a world of items is events of the applications
 abbrev pub EachMoveSimulates : WireView → Type 0

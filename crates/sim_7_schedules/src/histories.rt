@@ -3,7 +3,7 @@ ghost use Rattle.std.specs.Prelude.{◌≡◌, ℕ, ◌≤◌, Some, length, sli
 ghost use Rattle.sm_acks.specs.Delivery.{IsPrefix};
 ghost use Rattle.cmd_schedule.specs.Contents.{Owned};
 ghost use Rattle.cmd_schedule.specs.Schedules.{WireView};
-ghost use Rattle.cmd_schedule.specs.WireGrammar.{IsWireSchedule};
+ghost use Rattle.cmd_schedule.specs.LineLists.{IsLineList};
 ghost use Rattle.cmd_schedule.specs.declared.schedule.Count.{Count};
 ghost use Rattle.sim_1_applications.specs.Runs.{owned_of};
 ghost use Rattle.sim_7_schedules.specs.Courses.{HasCourse};
@@ -13,7 +13,7 @@ ghost use Rattle.cmd_world.specs.Histories.{history_of};
 ghost use Rattle.cmd_world.specs.Moves.{Up, moved};
 ghost use Rattle.cmd_world.specs.Worlds.{ByteWorld};
 
-/// A law: in each world of a wire schedule's history each device has pairs of directions of acknowledged delivery
+/// A law: in each world of the history of a list of lines each device has pairs of directions of acknowledged delivery
 /// (XEP-0198, sections 4 and 5), one of each epoch that its client has reached. The session that the server has of it and
 /// the one that its client has are ends of such pairs, and of one pair where they name each other; the client's is that of
 /// its present epoch, and so is the server's, or it has none while the client hasn't read that it was bound. Of an end the
@@ -25,12 +25,12 @@ ghost use Rattle.cmd_world.specs.Worlds.{ByteWorld};
 /// (`pairs`). What an end handled is the front of what the other end put, and no more is acknowledged than was handled
 /// (`delivered`).
 pub fn sessions_are_pairs()
-    ensures pairs { (s : WireView) → IsWireSchedule s → (i : ℕ) (o : Owned) → slice_get (owned_of s) i ≡ Some o → HasCourse s i o }
+    ensures pairs { (s : WireView) → IsLineList s → (i : ℕ) (o : Owned) → slice_get (owned_of s) i ≡ Some o → HasCourse s i o }
     ensures delivered { (p : Pair) → IsPair p → IsPrefix p.up.got p.up.put × IsPrefix p.down.got p.down.put × (p.up.acked ≤ length p.up.got) × (p.down.acked ≤ length p.down.got) }
 {}
 
 /// A law: in each world of such a history, where the server has no connection at a place, as behind one that it shut
 /// (RFC 6120, section 4.4), what is handed to it there changes nothing but what is under way on that connection.
 pub fn what_is_shut_changes_nothing()
-    ensures { (s : WireView) → IsWireSchedule s → (j : ℕ) (w : ByteWorld) → slice_get (history_of s) j ≡ Some w → (position : ℕ) → IsShutAt position w → (count : Count) → IsUntouched position w (moved (Up position count) w) }
+    ensures { (s : WireView) → IsLineList s → (j : ℕ) (w : ByteWorld) → slice_get (history_of s) j ≡ Some w → (position : ℕ) → IsShutAt position w → (count : Count) → IsUntouched position w (moved (Up position count) w) }
 {}

@@ -1,4 +1,4 @@
-//! Laws. Wire schedules beside runs of the two applications, and the laws of their reports.
+//! Laws. Wire schedules, and longer lists of their lines, beside runs of the two applications, and the laws of their reports.
 #![tactic(auto)]
 
 mod binds;
@@ -22,7 +22,8 @@ pub use first_worlds::worlds_begin;
 pub use histories::{sessions_are_pairs, what_is_shut_changes_nothing};
 pub use late_words::late_words_change_no_archive;
 pub use lawful::{
-    wire_schedules_are_lawful, wire_schedules_are_readable, wire_schedules_are_told_apart,
+    line_lists_are_lawful, line_lists_are_readable, line_lists_are_told_apart, wire_schedules_are_lawful,
+    wire_schedules_are_readable, wire_schedules_are_told_apart,
 };
 pub use laws_kept::schedules_that_run_are_lawful;
 pub use lines::lines_run;

@@ -3,6 +3,7 @@ pub mod Counted
 -- ---- steps of the code
 pub mod Entries
 pub mod Archives
+pub mod Restarts
 pub mod ItemRuns
 pub mod Feeding
 -- ---- values

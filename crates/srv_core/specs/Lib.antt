@@ -7,6 +7,7 @@ pub mod Table
 -- ---- events
 pub mod Events
 pub mod Configs
+pub mod Restarts
 -- ---- what took effect of a piece
 pub mod Taken
 -- ---- law

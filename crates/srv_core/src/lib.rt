@@ -7,11 +7,13 @@ mod items;
 mod laws;
 mod pieces;
 mod ready;
+mod restarting;
 mod server;
 mod stanzas;
 
 pub use config::{Config, ConfigFault};
 pub use laws::{items_join, outputs_tell, what_is_shut_stays_shut};
 pub use ready::on_ready_or_bound;
+pub use restarting::Archives;
 pub use server::Server;
 pub use srv_state::{Output, Outputs};

@@ -1,12 +1,14 @@
 //! The server.
 //!
 //! `connect` asks that no open connection has the number, and not that it is above all earlier ones. A refused
-//! `connect` moves no moment. The moment has no bound: stamps end at the last one.
-ghost use Rattle.std.specs.Prelude.{◌≡◌, ◌≢◌, ◌<◌, ◌≤◌, ◌^◌, None, Some, length, IfErr, IfOk, IsOk, OnErr, OnOk};
+//! `connect` moves no moment. The moment has no bound: stamps end at the last one. So `start` asks for no greatest number
+//! of a connection, and bounds no stamp of the entries that were kept.
+ghost use Rattle.std.specs.Prelude.{◌≡◌, ◌≢◌, ◌<◌, ◌≤◌, ◌^◌, [], None, Some, length, map, IfErr, IfOk, IsOk, OnErr, OnOk};
 ghost use Rattle.std.specs.Map.{remove_entry};
 ghost use Rattle.std.specs.Option.{option_copied, option_map};
 ghost use Rattle.srv_core.specs.Configs.{at_start, config_fault};
-ghost use Rattle.srv_core.specs.Events.{IsAfterBytes, Stops, after_connect, after_gone, framer_at, holds_part};
+ghost use Rattle.srv_core.specs.Events.{IsAfterBytes, Stops, after_connect, after_gone, framer_at, holds_part, whole};
+ghost use Rattle.srv_core.specs.Restarts.{AreArchivesOf, at_restart};
 ghost use Rattle.srv_state.specs.Moments.{at_moment};
 ghost use Rattle.srv_state.specs.Seen.{kept_of, outs_of};
 ghost use Rattle.srv_state.specs.State.{archive_at, conn_at, is_number};
@@ -16,9 +18,11 @@ ghost use Rattle.xml_writer.specs.Items.{written_item};
 
 use crate::config::{Config, ConfigFault, accounts_of, archives_of, is_normal_domain};
 use crate::pieces::on_event;
-use base_io::NoMemory;
+use crate::restarting::{Archives, greatest_of};
+use base_io::{NoMemory, Text};
 use mam_archive::Archive;
 use sm_live::Live;
+use srv_login::Accounts;
 use srv_state::{Outputs, Prebuilt, ServerContext};
 use std::alloc::Global;
 use std::collections::BTreeMap;
@@ -56,6 +60,35 @@ fn forget(framers: &mut BTreeMap<u64, Framer>, conn: u64)
     let _ = framers.remove(&conn);
 }
 
+// A server without connections and sessions. The first session gets the number `session`.
+fn idle(
+    alloc: Global,
+    domain: Text,
+    accounts: Accounts,
+    archives: Vec<Archive>,
+    session: u64,
+    moment: u64,
+) -> Server
+    requires low { 1 ≤ session }
+    requires high { session ≤ 2 ^ 63 }
+    ensures { result ≡ whole (record { domain = domain; accounts = accounts; archives = map kept_of archives.items; sessions = []; next = session; conns = []; moment = moment }) [] }
+{
+    Server {
+        context: ServerContext {
+            alloc,
+            domain,
+            accounts,
+            archives,
+            live: Live::new(alloc, session),
+            conns: BTreeMap::new(alloc),
+            moment,
+            out: Outputs::new(alloc),
+            prebuilt: Prebuilt::new(alloc),
+        },
+        framers: BTreeMap::new(alloc),
+    }
+}
+
 impl Server {
     /// A server without connections. The first of these that fits is refused: a domain that is not in normal form
     /// (`BadDomain`), and then what is wrong with the accounts, as `Accounts::new` has it.
@@ -76,20 +109,35 @@ impl Server {
             accounts.as_slice(),
             config.keep,
         )?;
-        Ok(Server {
-            context: ServerContext {
-                alloc,
-                domain: config.domain,
-                accounts,
-                archives,
-                live: Live::new(alloc, 1),
-                conns: BTreeMap::new(alloc),
-                moment: 0,
-                out: Outputs::new(alloc),
-                prebuilt: Prebuilt::new(alloc),
-            },
-            framers: BTreeMap::new(alloc),
-        })
+        Ok(idle(alloc, config.domain, accounts, archives, 1, 0))
+    }
+
+    /// A server that is started again with archives that were kept, one for each account, in order. It has no connections
+    /// and no sessions. Its next session gets the number `session`, which is 1 to 2^63. Its moment is `now`, or the greatest
+    /// stamp of an entry where that is later. Refusals are those of `new`.
+    pub fn start(
+        alloc: Global,
+        config: Config,
+        archives: Archives,
+        session: u64,
+        now: u64,
+    ) -> Result<Server, ConfigFault>
+        requires few { length config.accounts.items < 2 ^ 32 }
+        requires keep { 1 ≤ config.keep }
+        requires archives { AreArchivesOf config.domain config.keep config.accounts.items (map kept_of archives.items) }
+        requires low { 1 ≤ session }
+        requires high { session ≤ 2 ^ 63 }
+        ensures made { IfOk result (λ server. server ≡ at_restart config.domain config.accounts.items (map kept_of archives.items) session now) }
+        ensures right { OnOk result (config_fault config.domain config.accounts.items ≡ None) }
+        ensures refused { IfErr result (λ e. e ≢ ConfigFault.NoMemory → config_fault config.domain config.accounts.items ≡ Some e) }
+    {
+        if !is_normal_domain(alloc, config.domain.as_str())? {
+            return Err(ConfigFault::BadDomain);
+        }
+        let accounts = accounts_of(alloc, config.accounts)?;
+        let moment = greatest_of(archives.as_slice(), now);
+        let archives = archives.into_items();
+        Ok(idle(alloc, config.domain, accounts, archives, session, moment))
     }
 
     /// A connection comes, under a number that no connection has, with the bytes that were drawn for it at random and for

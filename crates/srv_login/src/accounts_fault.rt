@@ -21,13 +21,13 @@ impl fmt::Display for AccountsFault {
     fn fmt<W: fmt::Write>(&self, f: &mut fmt::Formatter<W>) -> fmt::Result {
         match self {
             AccountsFault::BadName(position) => {
-                write!(f, "the name of account {place} is not in normal form")
+                write!(f, "the name of account {position} is not in normal form")
             }
             AccountsFault::Twice(position) => {
-                write!(f, "an earlier account has the name of account {place}")
+                write!(f, "an earlier account has the name of account {position}")
             }
             AccountsFault::NoIterations(position) => {
-                write!(f, "account {place} counts no iteration")
+                write!(f, "account {position} counts no iteration")
             }
             AccountsFault::NoMemory => f.write_str("out of memory"),
         }

@@ -1,4 +1,5 @@
 use Rattle.std.specs.Prelude.{map}
+use Rattle.cmd_schedule.proofs.LineLists.{listed}
 use Rattle.cmd_run.proofs.laws.wire_reports_are_of_their_worlds.Goals as goal
 use Rattle.cmd_world.specs.Histories.{history_of, world_of}
 use Rattle.cmd_world.specs.WorldReports.{report_of}
@@ -7,4 +8,4 @@ use Rattle.sim_7_schedules.proofs.WholeRuns.{whole_run}
 use Rattle.sim_7_schedules.specs.ShownWorlds.{shown_of}
 
 pub returns : goal.returns
-returns c = λ s right. c.runs_are_of_their_worlds.ensures s (map shown_of (history_of s)) (report_of (world_of s)) (run_of s right (whole_run s right))
+returns c = λ s right. let list = listed s right in c.runs_are_of_their_worlds.ensures s (map shown_of (history_of s)) (report_of (world_of s)) (run_of s list (whole_run s list))

@@ -1,0 +1,3 @@
+pub use Rattle.mam_pages.specs.PageOf
+-- law: the entries of a page
+pub mod Pages

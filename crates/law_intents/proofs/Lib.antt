@@ -1,0 +1,14 @@
+pub mod Splits
+pub mod Numbers
+pub mod Ends
+pub mod Since
+pub mod Absent
+pub mod Nexts
+pub mod Pages
+pub mod Watching
+pub mod Handled
+pub mod Submitting
+pub mod Counts
+pub mod Runs
+pub mod Again
+pub mod Worked

@@ -1,0 +1,2 @@
+-- ---- one step of the queue
+pub mod RuleSteps
