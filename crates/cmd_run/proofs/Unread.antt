@@ -1,30 +1,30 @@
 -- A command that does not read can fail by no link, by no server, by no thread and by no random bytes.
-use Rattle.std.proofs.Common.{◌≡◌, ℕ, false, List, Option, Some}
+use Rattle.std.proofs.Common.{◌≡◌, ℕ, false, List, Some}
 use Rattle.cmd_run.specs.Dealings.{Dealings}
 use Rattle.cmd_run.specs.Words.{reads}
 use Rattle.cmd_run.specs.Table.{HasLinkFailed, HasPeerFailed, HasNoWorker, HasEntropyFailed}
 use Rattle.cmd_run.specs.declared.command.Command.{Command}
 use Rattle.cmd_run.specs.declared.command.Command.TheVariants.{Help, Version, Replay, Check, Rerun, Generate, Serve, Sync}
 
-pub unread_link : (command : Command) (known : Option (List ℕ)) (dealt : Dealings) → reads (Some command) ≡ false → ¬ (HasLinkFailed command known dealt)
-unread_link Help known dealt e failed = failed
-unread_link Version known dealt e failed = failed
-unread_link Replay known dealt e failed = failed
-unread_link Check known dealt e failed = failed
-unread_link Rerun known dealt e failed = failed
-unread_link (Generate number size) known dealt e failed = failed
-unread_link (Serve port connections) known dealt e failed = cc
-unread_link (Sync port) known dealt e failed = cc
+pub unread_link : (command : Command) (input : List ℕ) (dealt : Dealings) → reads (Some command) ≡ false → ¬ (HasLinkFailed command input dealt)
+unread_link Help input dealt e failed = failed
+unread_link Version input dealt e failed = failed
+unread_link Replay input dealt e failed = failed
+unread_link Check input dealt e failed = failed
+unread_link Rerun input dealt e failed = failed
+unread_link (Generate number size) input dealt e failed = failed
+unread_link (Serve port connections) input dealt e failed = cc
+unread_link (Sync port) input dealt e failed = cc
 
-pub unread_peer : (command : Command) (known : Option (List ℕ)) (dealt : Dealings) (text : List ℕ) → reads (Some command) ≡ false → ¬ (HasPeerFailed command known dealt text)
-unread_peer Help known dealt text e failed = failed
-unread_peer Version known dealt text e failed = failed
-unread_peer Replay known dealt text e failed = failed
-unread_peer Check known dealt text e failed = failed
-unread_peer Rerun known dealt text e failed = failed
-unread_peer (Generate number size) known dealt text e failed = failed
-unread_peer (Serve port connections) known dealt text e failed = failed
-unread_peer (Sync port) known dealt text e failed = cc
+pub unread_peer : (command : Command) (input : List ℕ) (dealt : Dealings) (text : List ℕ) → reads (Some command) ≡ false → ¬ (HasPeerFailed command input dealt text)
+unread_peer Help input dealt text e failed = failed
+unread_peer Version input dealt text e failed = failed
+unread_peer Replay input dealt text e failed = failed
+unread_peer Check input dealt text e failed = failed
+unread_peer Rerun input dealt text e failed = failed
+unread_peer (Generate number size) input dealt text e failed = failed
+unread_peer (Serve port connections) input dealt text e failed = failed
+unread_peer (Sync port) input dealt text e failed = cc
 
 pub unread_worker : (command : Command) (dealt : Dealings) → reads (Some command) ≡ false → ¬ (HasNoWorker command dealt)
 unread_worker Help dealt e failed = failed

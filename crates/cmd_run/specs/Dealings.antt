@@ -13,13 +13,13 @@ pub record DoorView : Type 0 where
   pub handed : ℕ
   pub given : List LinkView
 
--- a door and a dialer, the clock's moment and the random bytes where these are told, how many drawings failed, how many threads
--- could not be started, and how many were started
+-- a door and a dialer, the moments that the clock told so far and the random bytes that were drawn, how many drawings failed, how
+-- many threads could not be started, and how many were started
 pub record OutsideView : Type 0 where
   pub door : Option DoorView
   pub dialer : DialerView
-  pub moment : Option ℕ
-  pub drawn : Option (List ℕ)
+  pub told : List ℕ
+  pub drawn : List ℕ
   pub draws : ℕ
   pub starts : ℕ
   pub started : ℕ

@@ -18,6 +18,7 @@ pub use Rattle.net_hub.specs.GivenLinks
 pub use Rattle.net_hub.specs.Joined
 pub use Rattle.net_hub.specs.Served
 pub use Rattle.net_traits.specs.Links
+pub use Rattle.net_traits.specs.ToldSince
 pub use Rattle.cmd_sync.specs.Scripts
 pub use Rattle.cmd_sync.specs.Syncs
 pub use Rattle.cmd_world.specs.Histories

@@ -1,5 +1,5 @@
 -- When each answer comes, and the text that is due with it.
-use Rattle.std.specs.Prelude.{◌≡◌, ◌≢◌, ℕ, ◌<◌, ◌≤◌, ◌==◌, Bool, true, false, ◌||◌, List, length, map, Option, Some, None, Err, IfSome, IsOk, IsSomeAnd}
+use Rattle.std.specs.Prelude.{◌≡◌, ◌≢◌, ◌⊎◌, ◌++◌, ℕ, ◌<◌, ◌≤◌, ◌==◌, Bool, true, false, ◌||◌, List, length, map, Option, Some, None, Err, IfSome, IsOk, IsSomeAnd}
 use Rattle.std.specs.Bool.{MatchBool}
 use Rattle.std.specs.Io.KnownBytes.{IsAtEnd}
 use Rattle.xml_check.specs.Checked.{told}
@@ -29,6 +29,7 @@ use Rattle.cmd_sync.specs.ScriptReading.{script_reading}
 use Rattle.cmd_sync.specs.declared.script_fault.ScriptFault.TheVariants as scripts
 use Rattle.net_hub.specs.Served.{HasServed}
 use Rattle.net_hub.specs.GivenLinks.{AreFewer}
+use Rattle.net_traits.specs.ToldSince.{ToldSince}
 use Rattle.cmd_sync.specs.Syncs.{IsSynced, IsUnsynced}
 use Rattle.cmd_sync.specs.declared.failure.PeerFailure.{PeerFailure}
 use Rattle.cmd_sync.specs.declared.sync_fault.SyncFault.{SyncFault}
@@ -84,34 +85,33 @@ abbrev pub IsReportOf : Schedule → ReportView → Type 0
 IsReportOf (Direct schedule) report = IsDirectReport schedule report
 IsReportOf (Wire schedule) report = IsWireReport schedule report
 
--- The text is the report of one schedule, and the input, where it is known, is that schedule's text.
-abbrev pub IsReplayed : Option (List ℕ) → List ℕ → Type 0
-IsReplayed known text =
-    (schedule : Schedule) × (report : ReportView) × IsSchedule schedule × IfSome known (λ input. input ≡ schedule_text schedule)
+-- The text is the report of one schedule, and the input is that schedule's text.
+abbrev pub IsReplayed : List ℕ → List ℕ → Type 0
+IsReplayed input text =
+    (schedule : Schedule) × (report : ReportView) × IsSchedule schedule × (input ≡ schedule_text schedule)
     × IsReportOf schedule report × (text ≡ text_of report)
 
--- The text names the first bad line of the input and its reason, and the input, where it is known, is no schedule's
--- text.
-abbrev pub IsRefusal : Option (List ℕ) → List ℕ → Type 0
-IsRefusal known text =
-    (line : ℕ) × (reason : LineWhy) × IfSome known (λ input. (reading input ≡ Err (BadLine line reason)) × ¬ (InGrammar input))
+-- The text names the first bad line of the input and its reason, and the input is no schedule's text.
+abbrev pub IsRefusal : List ℕ → List ℕ → Type 0
+IsRefusal input text =
+    (line : ℕ) × (reason : LineWhy) × ((reading input ≡ Err (BadLine line reason)) × ¬ (InGrammar input))
     × (text ≡ bad_line line reason)
 
--- The text is what is told of a stream's bytes, sound or not, and they are the input where it is known. It is the grammar's: the
--- items, what is unfinished and the fault are those of the grammar of streams and of its table of faults.
-abbrev pub IsChecked : Bool → Option (List ℕ) → List ℕ → Type 0
-IsChecked sound known text =
-    (stream : List ℕ) × IfSome known (λ input. input ≡ stream) × ((told stream).sound ≡ sound) × (text ≡ (told stream).text)
-    × IsToldOf server_limits stream (record { text = text; sound = sound })
+-- The text is what is told of the input as a stream, sound or not. It is the grammar's: the items, what is unfinished and the
+-- fault are those of the grammar of streams and of its table of faults.
+abbrev pub IsChecked : Bool → List ℕ → List ℕ → Type 0
+IsChecked sound input text =
+    ((told input).sound ≡ sound) × (text ≡ (told input).text)
+    × IsToldOf server_limits input (record { text = text; sound = sound })
 
--- The text is what comes of one run that is done again, and the input, where it is known, says that run.
-abbrev pub IsRerun : Option (List ℕ) → List ℕ → Type 0
-IsRerun known text = (run : InputView) × IfSome known (λ input. Says input run) × (text ≡ rerun_of run)
+-- The text is what comes of one run that is done again, and the input says that run.
+abbrev pub IsRerun : List ℕ → List ℕ → Type 0
+IsRerun input text = (run : InputView) × Says input run × (text ≡ rerun_of run)
 
--- The text names the first bad line of the input and its reason, and the input, where it is known, says no run.
-abbrev pub IsRerunRefusal : Option (List ℕ) → List ℕ → Type 0
-IsRerunRefusal known text =
-    (line : ℕ) × (reason : LineWhy) × IfSome known (λ input. (rerun_reading input ≡ Err (inputs.BadLine line reason)) × ¬ (SaysRun input))
+-- The text names the first bad line of the input and its reason, and the input says no run.
+abbrev pub IsRerunRefusal : List ℕ → List ℕ → Type 0
+IsRerunRefusal input text =
+    (line : ℕ) × (reason : LineWhy) × ((rerun_reading input ≡ Err (inputs.BadLine line reason)) × ¬ (SaysRun input))
     × (text ≡ bad_line line reason)
 
 -- the summary of the report of the schedule that a number makes, with so many drawn lines
@@ -124,61 +124,59 @@ IsSummedUp number size text =
     (report : ReportView) × IsWireSchedule (generated number size) × IsWireReport (generated number size) report
     × (text ≡ summary_of (generated number size) report)
 
--- The text is the journal of a server that served so many connections at the same time, and the input, where it is known, is the
--- text of its accounts.
-abbrev pub IsServed : Option (List ℕ) → ℕ → Dealings → List ℕ → Type 0
-IsServed known connections dealt text =
-    (accounts : List ℕ) × IfSome known (λ input. input ≡ accounts)
-    × IsSomeAnd dealt.before.door (λ old. IsSomeAnd dealt.following.door (λ new.
-    HasServed accounts connections dealt.before.moment dealt.before.drawn old.given new.given text))
+-- The text is the journal of a server that served so many connections at the same time, and the input is the text of its
+-- accounts. The moments of its events and the bytes drawn for them are all that were told and drawn in the call.
+abbrev pub IsServed : List ℕ → ℕ → Dealings → List ℕ → Type 0
+IsServed input connections dealt text =
+    IsSomeAnd dealt.before.door (λ old. IsSomeAnd dealt.following.door (λ new.
+    ToldSince dealt.before.told dealt.before.drawn dealt.following.told dealt.following.drawn (λ told drawn.
+    HasServed input connections told drawn old.given new.given text)))
 
 -- some accounts have this text
 abbrev pub SaysAccounts : List ℕ → Type 0
 SaysAccounts input = (file : AccountsView) × IsAccountsFile file × (input ≡ accounts_text file)
 
--- The text names the first bad line of the input and its reason, and the input, where it is known, is no accounts' text.
-abbrev pub IsAccountsRefusal : Option (List ℕ) → List ℕ → Type 0
-IsAccountsRefusal known text =
-    (line : ℕ) × (reason : LineWhy) × IfSome known (λ input. (accounts_reading input ≡ Err (inputs.BadLine line reason)) × ¬ (SaysAccounts input))
+-- The text names the first bad line of the input and its reason, and the input is no accounts' text.
+abbrev pub IsAccountsRefusal : List ℕ → List ℕ → Type 0
+IsAccountsRefusal input text =
+    (line : ℕ) × (reason : LineWhy) × ((accounts_reading input ≡ Err (inputs.BadLine line reason)) × ¬ (SaysAccounts input))
     × (text ≡ bad_line line reason)
 
--- The text is the log of a client that did a script, and the input, where it is known, is the script's text.
-abbrev pub HasSynced : Option (List ℕ) → Dealings → List ℕ → Type 0
-HasSynced known dealt text =
-    (script : List ℕ) × IfSome known (λ input. input ≡ script)
-    × IsSynced script dealt.before.drawn dealt.before.dialer dealt.following.dialer text
+-- The text is the log of a client that did the script whose text the input is.
+abbrev pub HasSynced : List ℕ → Dealings → List ℕ → Type 0
+HasSynced input dealt text =
+    IsSynced input dealt.before.drawn dealt.following.drawn dealt.before.dialer dealt.following.dialer text
 
--- The text names the first bad line of the input and its reason, and the input, where it is known, is no script's text.
-abbrev pub IsScriptRefusal : Option (List ℕ) → List ℕ → Type 0
-IsScriptRefusal known text =
-    (line : ℕ) × (reason : LineWhy) × IfSome known (λ input. script_reading input ≡ Err (scripts.BadLine line reason))
+-- The text names the first bad line of the input and its reason, and the input is no script's text.
+abbrev pub IsScriptRefusal : List ℕ → List ℕ → Type 0
+IsScriptRefusal input text =
+    (line : ℕ) × (reason : LineWhy) × (script_reading input ≡ Err (scripts.BadLine line reason))
     × (text ≡ bad_line line reason)
 
--- Why a script was not done, where its text is known.
-abbrev pub IsStopped : Option (List ℕ) → Dealings → SyncFault → Type 0
-IsStopped known dealt fault =
-    (script : List ℕ) × IfSome known (λ input. input ≡ script)
-    × IsUnsynced script dealt.before.drawn dealt.before.dialer dealt.following.dialer fault
+-- Why the script was not done whose text the input is.
+abbrev pub IsStopped : List ℕ → Dealings → SyncFault → Type 0
+IsStopped input dealt fault =
+    IsUnsynced input dealt.before.drawn dealt.following.drawn dealt.before.dialer dealt.following.dialer fault
 
--- A case for each command: the text where it was done. `known` is the input where it is known.
-abbrev pub IsDone : Command → Option (List ℕ) → Dealings → List ℕ → Type 0
-IsDone Help known dealt text = text ≡ HELP.now
-IsDone Version known dealt text = text ≡ VERSION.now
-IsDone Replay known dealt text = IsReplayed known text
-IsDone Check known dealt text = IsChecked true known text
-IsDone Rerun known dealt text = IsRerun known text
-IsDone (Generate number size) known dealt text = (text ≡ generated_summary number size) × IsSummedUp number size text
-IsDone (Serve port connections) known dealt text = AreBack dealt × IsServed known connections dealt text
-IsDone (Sync port) known dealt text = HasSynced known dealt text
+-- A case for each command: the text where it was done.
+abbrev pub IsDone : Command → List ℕ → Dealings → List ℕ → Type 0
+IsDone Help input dealt text = text ≡ HELP.now
+IsDone Version input dealt text = text ≡ VERSION.now
+IsDone Replay input dealt text = IsReplayed input text
+IsDone Check input dealt text = IsChecked true input text
+IsDone Rerun input dealt text = IsRerun input text
+IsDone (Generate number size) input dealt text = (text ≡ generated_summary number size) × IsSummedUp number size text
+IsDone (Serve port connections) input dealt text = AreBack dealt × IsServed input connections dealt text
+IsDone (Sync port) input dealt text = HasSynced input dealt text
 
 -- A case for each command that can refuse its input: the text where it does.
-abbrev pub IsRefused : Command → Option (List ℕ) → Dealings → List ℕ → Type 0
-IsRefused Replay known dealt text = IsRefusal known text
-IsRefused Check known dealt text = IsChecked false known text
-IsRefused Rerun known dealt text = IsRerunRefusal known text
-IsRefused (Serve port connections) known dealt text = AreBack dealt × IsAccountsRefusal known text
-IsRefused (Sync port) known dealt text = IsScriptRefusal known text
-IsRefused command known dealt text = ⊥
+abbrev pub IsRefused : Command → List ℕ → Dealings → List ℕ → Type 0
+IsRefused Replay input dealt text = IsRefusal input text
+IsRefused Check input dealt text = IsChecked false input text
+IsRefused Rerun input dealt text = IsRerunRefusal input text
+IsRefused (Serve port connections) input dealt text = AreBack dealt × IsAccountsRefusal input text
+IsRefused (Sync port) input dealt text = IsScriptRefusal input text
+IsRefused command input dealt text = ⊥
 
 -- A case for each command that can refuse its input: which inputs it doesn't refuse.
 abbrev pub Accepts : Command → List ℕ → Type 0
@@ -196,15 +194,15 @@ HasDoorFailed connections dealt =
     Rose old.faults new.faults × (connections ≢ 0 → AreFewer connections old.given new.given)))
 
 -- A case for each command that goes out: a link or the door failed.
-abbrev pub HasLinkFailed : Command → Option (List ℕ) → Dealings → Type 0
-HasLinkFailed (Serve port connections) known dealt = AreBack dealt × HasDoorFailed connections dealt
-HasLinkFailed (Sync port) known dealt = IsStopped known dealt syncs.Link
-HasLinkFailed command known dealt = ⊥
+abbrev pub HasLinkFailed : Command → List ℕ → Dealings → Type 0
+HasLinkFailed (Serve port connections) input dealt = AreBack dealt × HasDoorFailed connections dealt
+HasLinkFailed (Sync port) input dealt = IsStopped input dealt syncs.Link
+HasLinkFailed command input dealt = ⊥
 
 -- The server has to answer for it, and the text names what it did.
-abbrev pub HasPeerFailed : Command → Option (List ℕ) → Dealings → List ℕ → Type 0
-HasPeerFailed (Sync port) known dealt text = (failure : PeerFailure) × IsStopped known dealt (syncs.Peer failure) × (text ≡ peer_line failure)
-HasPeerFailed command known dealt text = ⊥
+abbrev pub HasPeerFailed : Command → List ℕ → Dealings → List ℕ → Type 0
+HasPeerFailed (Sync port) input dealt text = (failure : PeerFailure) × IsStopped input dealt (syncs.Peer failure) × (text ≡ peer_line failure)
+HasPeerFailed command input dealt text = ⊥
 
 -- A thread could not be started.
 abbrev pub HasNoWorker : Command → Dealings → Type 0
@@ -218,40 +216,46 @@ HasEntropyFailed (Sync port) dealt = Rose dealt.before.draws dealt.following.dra
 HasEntropyFailed command dealt = ⊥
 
 -- what a command makes of its input
-abbrev pub IsAnswer : Command → Option (List ℕ) → Dealings → Outcome → List ℕ → Type 0
-IsAnswer command known dealt Done text = IsDone command known dealt text
-IsAnswer command known dealt Refused text = IsRefused command known dealt text
-IsAnswer command known dealt LinkFault text = HasLinkFailed command known dealt × (text ≡ link_fault_line)
-IsAnswer command known dealt PeerFault text = HasPeerFailed command known dealt text
-IsAnswer command known dealt NoWorker text = HasNoWorker command dealt × (text ≡ no_worker_line)
-IsAnswer command known dealt EntropyFault text = HasEntropyFailed command dealt × (text ≡ entropy_fault_line)
-IsAnswer command known dealt outcome text = ⊥
+abbrev pub IsAnswer : Command → List ℕ → Dealings → Outcome → List ℕ → Type 0
+IsAnswer command input dealt Done text = IsDone command input dealt text
+IsAnswer command input dealt Refused text = IsRefused command input dealt text
+IsAnswer command input dealt LinkFault text = HasLinkFailed command input dealt × (text ≡ link_fault_line)
+IsAnswer command input dealt PeerFault text = HasPeerFailed command input dealt text
+IsAnswer command input dealt NoWorker text = HasNoWorker command dealt × (text ≡ no_worker_line)
+IsAnswer command input dealt EntropyFault text = HasEntropyFailed command dealt × (text ≡ entropy_fault_line)
+IsAnswer command input dealt outcome text = ⊥
 
--- The source was read to its end, and gave no more than the bound.
-pub record IsReadWhole (known left : Option (List ℕ)) : Type 0 where
+-- What the source gave was read to its end, and is no more than the bound. Where the source tells what it had left before, that is
+-- what it gave; `left` is what it has left still.
+pub record IsReadWhole (input : List ℕ) (ahead left : Option (List ℕ)) : Type 0 where
+  pub all : IfSome ahead (λ bytes. input ≡ bytes)
   pub ended : IsAtEnd left
-  pub short : IfSome known (λ input. length input ≤ MOST_BYTES_READ)
+  pub short : length input ≤ MOST_BYTES_READ
 
--- What is due of a command with an outcome, where `rose` says that the source's count of faults rose. `left` is what is
--- left of the input. Where that is not read to its end, the outside is as it was.
-abbrev pub IsDueOf : Command → Option (List ℕ) → Option (List ℕ) → Type 0 → Dealings → Outcome → List ℕ → Type 0
-IsDueOf command known left rose dealt ReadFault text =
+-- the source gave more than the bound, and so had more left, where it tells that
+pub record IsTooLong (input : List ℕ) (ahead : Option (List ℕ)) : Type 0 where
+  pub given : MOST_BYTES_READ < length input
+  pub all : IfSome ahead (λ bytes. MOST_BYTES_READ < length bytes)
+
+-- What is due of a command with an outcome, where `input` is what the source gave in the call, and `rose` says that its count of
+-- faults rose. Where it was not read to its end, the outside is as it was.
+abbrev pub IsDueOf : Command → List ℕ → Option (List ℕ) → Option (List ℕ) → Type 0 → Dealings → Outcome → List ℕ → Type 0
+IsDueOf command input ahead left rose dealt ReadFault text =
     (reads (Some command) ≡ true) × rose × (text ≡ read_fault_line) × (dealt.following ≡ dealt.before)
-IsDueOf command known left rose dealt TooLong text =
-    (reads (Some command) ≡ true) × IfSome known (λ input. MOST_BYTES_READ < length input) × (text ≡ too_long_line)
-    × (dealt.following ≡ dealt.before)
-IsDueOf command known left rose dealt outcome text =
-    IsAnswer command known dealt outcome text × (reads (Some command) ≡ true → IsReadWhole known left)
+IsDueOf command input ahead left rose dealt TooLong text =
+    (reads (Some command) ≡ true) × IsTooLong input ahead × (text ≡ too_long_line) × (dealt.following ≡ dealt.before)
+IsDueOf command input ahead left rose dealt outcome text =
+    IsAnswer command input dealt outcome text × (reads (Some command) ≡ true → IsReadWhole input ahead left)
 
 -- what is due with an outcome, by the command that the words ask for, where they ask for one
-abbrev pub Due : Option Command → Option (List ℕ) → Option (List ℕ) → Type 0 → Dealings → Outcome → List ℕ → Type 0
-Due (Some command) known left rose dealt outcome text = IsDueOf command known left rose dealt outcome text
-Due None known left rose dealt WrongWords text = text ≡ words_line
-Due None known left rose dealt outcome text = ⊥
+abbrev pub Due : Option Command → List ℕ → Option (List ℕ) → Option (List ℕ) → Type 0 → Dealings → Outcome → List ℕ → Type 0
+Due (Some command) input ahead left rose dealt outcome text = IsDueOf command input ahead left rose dealt outcome text
+Due None input ahead left rose dealt WrongWords text = text ≡ words_line
+Due None input ahead left rose dealt outcome text = ⊥
 
 -- no server has to answer for anything
 abbrev pub IsBlameless : Command → List ℕ → Dealings → Type 0
-IsBlameless (Sync port) input dealt = (failure : PeerFailure) → ¬ (IsStopped (Some input) dealt (syncs.Peer failure))
+IsBlameless (Sync port) input dealt = (failure : PeerFailure) → ¬ (IsStopped input dealt (syncs.Peer failure))
 IsBlameless command input dealt = Unit {0}
 
 -- the outcome that an input must have
@@ -268,11 +272,13 @@ IsQuiet (Serve port connections) dealt =
 IsQuiet (Sync port) dealt = IsQuietDialer dealt × Quiet dealt.before.draws dealt.following.draws
 IsQuiet command dealt = Unit {0}
 
+-- the input of a call: what the source gave in it, and what it had left before, where it tells that
+abbrev pub IsInput : List ℕ → List ℕ → Option (List ℕ) → List ℕ → Type 0
+IsInput given_before given_now ahead input = (given_now ≡ given_before ++ input) ⊎ (ahead ≡ Some input)
+
 -- The converse of what is due: the outcome that there must be, where memory suffices and no write of it failed.
--- `nothing_failed` says that no read failed. Of a command that reads, it is said where the input is known.
-abbrev pub MustAnswer : Option Command → Option (List ℕ) → Type 0 → Dealings → Outcome → Type 0
-MustAnswer None known nothing_failed dealt outcome = outcome ≡ WrongWords
-MustAnswer (Some command) known nothing_failed dealt outcome =
-    MatchBool (reads (Some command))
-    (nothing_failed × IsQuiet command dealt × IsSomeAnd known (λ input. MustEnd command input dealt outcome))
-    (outcome ≡ Done)
+-- `nothing_failed` says that no read failed.
+abbrev pub MustAnswer : Option Command → List ℕ → Type 0 → Dealings → Outcome → Type 0
+MustAnswer None input nothing_failed dealt outcome = outcome ≡ WrongWords
+MustAnswer (Some command) input nothing_failed dealt outcome =
+    MatchBool (reads (Some command)) (nothing_failed × IsQuiet command dealt × MustEnd command input dealt outcome) (outcome ≡ Done)

@@ -3,6 +3,7 @@
 //! All text is made before a byte of it is written; want of memory is an answer of its own.
 ghost use Rattle.std.specs.Prelude.{◌≡◌, ◌⊎◌, false, true, ◌<◌, ◌≤◌, Some, IfOk, IsSome, OnOk};
 ghost use Rattle.base_io.specs.Counts.{Rose};
+ghost use Rattle.base_io.specs.Given.{Gave};
 ghost use Rattle.cmd_run.specs.Dealings.{AreJoined, AreKept, Dealings, IsBack, dealings_of};
 ghost use Rattle.cmd_run.specs.Words.{IsAskable, asked, goes_out, reads, serves};
 ghost use Rattle.cmd_run.specs.Table.{IsAnswer, IsReportOf, IsSummedUp, IsWireReport, Due, generated_summary};
@@ -60,7 +61,7 @@ fn reported(alloc: Global, schedule: Schedule) -> Result<Report, NoMemory>
 
 /// The report of the schedule whose text this is, or the refusal of the text. The input is dropped once it is read.
 fn replayed(alloc: Global, input: Bytes) -> Result<Answer, NoMemory>
-    ensures { IfOk result (λ answer. (dealt : Dealings) → IsAnswer Command.Replay (Some input.items) dealt answer.outcome answer.text.items) }
+    ensures { IfOk result (λ answer. (dealt : Dealings) → IsAnswer Command.Replay input.items dealt answer.outcome answer.text.items) }
 {
     let read = read_schedule(alloc, input.as_slice());
     drop(input);
@@ -83,7 +84,7 @@ fn replayed(alloc: Global, input: Bytes) -> Result<Answer, NoMemory>
 /// What is told of the stream with these bytes. The law is called for its fact, that this is the grammar's.
 #[tactic(auto, using(crate::proofs::Inputs::told_so))]
 fn checked(alloc: Global, input: &[u8]) -> Result<Answer, NoMemory>
-    ensures { IfOk result (λ answer. (dealt : Dealings) → IsAnswer Command.Check (Some input.now) dealt answer.outcome answer.text.items) }
+    ensures { IfOk result (λ answer. (dealt : Dealings) → IsAnswer Command.Check input.now dealt answer.outcome answer.text.items) }
 {
     told_is_the_grammars();
     let checked = check(alloc, input)?;
@@ -100,7 +101,7 @@ fn checked(alloc: Global, input: &[u8]) -> Result<Answer, NoMemory>
 
 /// What comes of the run whose text this is, done again, or the refusal of the text.
 fn reran(alloc: Global, input: Bytes) -> Result<Answer, NoMemory>
-    ensures { IfOk result (λ answer. (dealt : Dealings) → IsAnswer Command.Rerun (Some input.items) dealt answer.outcome answer.text.items) }
+    ensures { IfOk result (λ answer. (dealt : Dealings) → IsAnswer Command.Rerun input.items dealt answer.outcome answer.text.items) }
 {
     match rerun_bytes(alloc, input) {
         Ok(text) => Ok(Answer {
@@ -164,7 +165,7 @@ where
     D::Link: Send + 'static,
     requires there { IsSome outside.old.door }
     requires askable { IsAskable command }
-    ensures answer { IfOk result (λ answer. IsAnswer command (Some input.items)
+    ensures answer { IfOk result (λ answer. IsAnswer command input.items
         (dealings_of ⟦<Outside<D, L, C, E, P> as Surroundings>⟧.view outside.old outside.new) answer.outcome answer.text.items) }
     ensures door { IsSome outside.new.door ⊎ Rose (P.faults outside.old.spawner) (P.faults outside.new.spawner) }
     ensures kept { AreKept (dealings_of ⟦<Outside<D, L, C, E, P> as Surroundings>⟧.view outside.old outside.new) }
@@ -211,9 +212,9 @@ where
     requires there { IsSome outside.old.door }
     requires askable { IsAskable command }
     requires reading { reads (Some command) ≡ true }
-    ensures due { IfOk result (λ answer. Due (Some command) (S.left source.old) (S.left source.new)
-        (Rose (S.faults source.old) (S.faults source.new))
-        (dealings_of ⟦<Outside<D, L, C, E, P> as Surroundings>⟧.view outside.old outside.new) answer.outcome answer.text.items) }
+    ensures due { IfOk result (λ answer. Gave (S.given source.old) (S.given source.new) (λ input.
+        Due (Some command) input (S.left source.old) (S.left source.new) (Rose (S.faults source.old) (S.faults source.new))
+        (dealings_of ⟦<Outside<D, L, C, E, P> as Surroundings>⟧.view outside.old outside.new) answer.outcome answer.text.items)) }
     ensures read_fault { S.faults source.old < S.faults source.new → IfOk result (λ answer. answer.outcome ≡ Outcome.ReadFault) }
     ensures later { S.faults source.old ≤ S.faults source.new }
     ensures door { IsSome outside.new.door ⊎ Rose (P.faults outside.old.spawner) (P.faults outside.new.spawner) }
@@ -253,9 +254,9 @@ pub fn due<
 where
     D::Link: Send + 'static,
     requires { IsSome outside.old.door }
-    ensures due { IfOk result (λ answer. Due (asked words.now) (S.left source.old) (S.left source.new)
-        (Rose (S.faults source.old) (S.faults source.new))
-        (dealings_of ⟦<Outside<D, L, C, E, P> as Surroundings>⟧.view outside.old outside.new) answer.outcome answer.text.items) }
+    ensures due { IfOk result (λ answer. Gave (S.given source.old) (S.given source.new) (λ input.
+        Due (asked words.now) input (S.left source.old) (S.left source.new) (Rose (S.faults source.old) (S.faults source.new))
+        (dealings_of ⟦<Outside<D, L, C, E, P> as Surroundings>⟧.view outside.old outside.new) answer.outcome answer.text.items)) }
     ensures read_fault { S.faults source.old < S.faults source.new → IfOk result (λ answer. answer.outcome ≡ Outcome.ReadFault) }
     ensures later { S.faults source.old ≤ S.faults source.new }
     ensures unread { reads (asked words.now) ≡ false → source.new ≡ source.old }

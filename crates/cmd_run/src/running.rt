@@ -5,9 +5,10 @@
 //! `crates/cmd_run/proofs/Rows.antt`.
 //!
 //! The headline is one clause for both kinds of schedule. `IsReportOf` has a case for each, in the same words.
-ghost use Rattle.std.specs.Prelude.{◌≡◌, ◌≢◌, false, ◌<◌, ◌≤◌, ◌⊎◌, List, ℕ, IfSome, IsSome, IsTrue};
+ghost use Rattle.std.specs.Prelude.{◌≡◌, ◌≢◌, false, ◌<◌, ◌≤◌, ◌⊎◌, ◌++◌, List, ℕ, IfSome, IsSome, IsTrue};
 ghost use Rattle.std.specs.Io.KnownBytes.{Appends, Keeps, IsAtEnd};
 ghost use Rattle.base_io.specs.Counts.{Rose, Quiet};
+ghost use Rattle.base_io.specs.Given.{Gave};
 ghost use Rattle.base_io.specs.Prefixes.{AppendsPrefix};
 ghost use Rattle.cmd_generate.specs.Generated.{generated};
 ghost use Rattle.cmd_generate.specs.Summary.{summary_of};
@@ -18,7 +19,7 @@ ghost use Rattle.cmd_schedule.specs.WireGrammar.{IsWireSchedule};
 ghost use Rattle.cmd_schedule.specs.declared.schedule.Schedule.{Schedule};
 ghost use Rattle.cmd_run.specs.Dealings.{AreJoined, AreKept, IsBack, dealings_of};
 ghost use Rattle.cmd_run.specs.Words.{asked, goes_out, reads, serves};
-ghost use Rattle.cmd_run.specs.Table.{code_of, is_status, IsReportOf, IsWireReport, Due, MustAnswer, generated_summary};
+ghost use Rattle.cmd_run.specs.Table.{code_of, is_status, IsInput, IsReportOf, IsWireReport, Due, MustAnswer, generated_summary};
 
 use crate::answering::due;
 use crate::command::Command;
@@ -55,14 +56,16 @@ fn write_due<
 where
     D::Link: Send + 'static,
     requires { IsSome outside.old.door }
-    ensures told { result ≢ 5 → result ≢ 6 → (outcome : Outcome) × (text : List ℕ) × (result ≡ code_of outcome)
-        × Due (asked words.now) (S.left source.old) (S.left source.new) (Rose (S.faults source.old) (S.faults source.new))
+    ensures told { result ≢ 5 → result ≢ 6 → (outcome : Outcome) × (result ≡ code_of outcome)
+        × Gave (S.given source.old) (S.given source.new) (λ input. (text : List ℕ)
+        × Due (asked words.now) input (S.left source.old) (S.left source.new) (Rose (S.faults source.old) (S.faults source.new))
         (dealings_of ⟦<Outside<D, L, C, E, P> as Surroundings>⟧.view outside.old outside.new) outcome text
-        × Appends (K.written sink.old) (K.written sink.new) text }
-    ensures prefix { result ≡ 5 → Rose (K.faults sink.old) (K.faults sink.new) × ((outcome : Outcome) × (text : List ℕ)
-        × Due (asked words.now) (S.left source.old) (S.left source.new) (Rose (S.faults source.old) (S.faults source.new))
+        × Appends (K.written sink.old) (K.written sink.new) text) }
+    ensures prefix { result ≡ 5 → Rose (K.faults sink.old) (K.faults sink.new) × ((outcome : Outcome)
+        × Gave (S.given source.old) (S.given source.new) (λ input. (text : List ℕ)
+        × Due (asked words.now) input (S.left source.old) (S.left source.new) (Rose (S.faults source.old) (S.faults source.new))
         (dealings_of ⟦<Outside<D, L, C, E, P> as Surroundings>⟧.view outside.old outside.new) outcome text
-        × AppendsPrefix (K.written sink.old) (K.written sink.new) text) }
+        × AppendsPrefix (K.written sink.old) (K.written sink.new) text)) }
     ensures no_memory { result ≡ 6 → Keeps (K.written sink.old) (K.written sink.new) }
     ensures write_fault_only { K.faults sink.old < K.faults sink.new → result ≡ 5 }
     ensures read_fault_only { S.faults source.old < S.faults source.new → (result ≡ 4) ⊎ (result ≡ 5) ⊎ (result ≡ 6) }
@@ -106,7 +109,7 @@ where
 /// does the report that `generate` sums up. What `check` tells, at 0 and 3, is what the grammar of streams says.
 ///
 /// Each "exactly" yields to want of memory, and to what comes before it in the order words, read, length, grammar,
-/// write. Clauses speak of bytes where the source and the sink tell them.
+/// write. Clauses speak of what the source's calls gave, and of what the sink's took where it tells that, as `StdSink` does.
 pub fn run<
     R: Threads + Wait + Copy + Send + 'static,
     S: Source,
@@ -129,10 +132,12 @@ pub fn run<
 where
     D::Link: Send + 'static,
     requires { IsSome outside.old.door }
-    // What was read is the text of one schedule, direct or wire, of either version. What was written is the text of its report
+    // What the source gave in this call, to its end, is the text of one schedule, direct or wire, of either version; and so is
+    // what it had left before, where it tells that. What was written is the text of its report
     // and nothing else, and that report keeps the five laws of the schedule's version.
     ensures done_replay { result ≡ 0 → asked words.now ≡ Some Command.Replay → (schedule : Schedule) × (report : ReportView)
         × IsSchedule schedule
+        × (S.given source.new ≡ S.given source.old ++ schedule_text schedule)
         × IfSome (S.left source.old) (λ input. input ≡ schedule_text schedule)
         × IsAtEnd (S.left source.new)
         × IsReportOf schedule report
@@ -145,22 +150,24 @@ where
         × IsWireReport (generated number size) report
         × (generated_summary number size ≡ summary_of (generated number size) report)
         × Appends (K.written sink.old) (K.written sink.new) (generated_summary number size) }
-    // Whatever outcome the status is the code of, its text is due, and was written and nothing else.
-    ensures answered { (outcome : Outcome) → result ≡ code_of outcome → (text : List ℕ)
-        × Due (asked words.now) (S.left source.old) (S.left source.new) (Rose (S.faults source.old) (S.faults source.new))
+    // Whatever outcome the status is the code of, its text is due of what the source gave, and was written and nothing else.
+    ensures answered { (outcome : Outcome) → result ≡ code_of outcome → Gave (S.given source.old) (S.given source.new) (λ input. (text : List ℕ)
+        × Due (asked words.now) input (S.left source.old) (S.left source.new) (Rose (S.faults source.old) (S.faults source.new))
         (dealings_of ⟦<Outside<D, L, C, E, P> as Surroundings>⟧.view outside.old outside.new) outcome text
-        × Appends (K.written sink.old) (K.written sink.new) text }
-    // The converse: where nothing failed, the outcome that there must be is the one that there is.
-    ensures exactly { (outcome : Outcome)
-        → MustAnswer (asked words.now) (S.left source.old) (Quiet (S.faults source.old) (S.faults source.new))
+        × Appends (K.written sink.old) (K.written sink.new) text) }
+    // The converse: where nothing failed, the outcome that there must be for what the source gave, or for what it had left before,
+    // is the one that there is.
+    ensures exactly { (outcome : Outcome) (input : List ℕ) → IsInput (S.given source.old) (S.given source.new) (S.left source.old) input
+        → MustAnswer (asked words.now) input (Quiet (S.faults source.old) (S.faults source.new))
         (dealings_of ⟦<Outside<D, L, C, E, P> as Surroundings>⟧.view outside.old outside.new) outcome
         → Quiet (K.faults sink.old) (K.faults sink.new) → (result ≡ code_of outcome) ⊎ (result ≡ 6) }
     ensures read_fault_only { S.faults source.old < S.faults source.new → (result ≡ 4) ⊎ (result ≡ 5) ⊎ (result ≡ 6) }
     // What went out is a prefix of the text that was due.
-    ensures write_fault { result ≡ 5 → Rose (K.faults sink.old) (K.faults sink.new) × ((outcome : Outcome) × (text : List ℕ)
-        × Due (asked words.now) (S.left source.old) (S.left source.new) (Rose (S.faults source.old) (S.faults source.new))
+    ensures write_fault { result ≡ 5 → Rose (K.faults sink.old) (K.faults sink.new) × ((outcome : Outcome)
+        × Gave (S.given source.old) (S.given source.new) (λ input. (text : List ℕ)
+        × Due (asked words.now) input (S.left source.old) (S.left source.new) (Rose (S.faults source.old) (S.faults source.new))
         (dealings_of ⟦<Outside<D, L, C, E, P> as Surroundings>⟧.view outside.old outside.new) outcome text
-        × AppendsPrefix (K.written sink.old) (K.written sink.new) text) }
+        × AppendsPrefix (K.written sink.old) (K.written sink.new) text)) }
     ensures write_fault_only { K.faults sink.old < K.faults sink.new → result ≡ 5 }
     ensures no_memory { result ≡ 6 → Keeps (K.written sink.old) (K.written sink.new) }
     ensures door { IsSome outside.new.door ⊎ Rose (P.faults outside.old.spawner) (P.faults outside.new.spawner) }

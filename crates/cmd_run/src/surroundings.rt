@@ -29,8 +29,8 @@ impl<D: Halves, L: Dialer, C: Clock, E: Entropy, P: Spawner> Surroundings
     ghost view = { λ s. record {
       door = door_view D.faults D.handed D.given s.door;
       dialer = record { faults = L.faults s.dialer; ends = L.ends s.dialer; handed = L.handed s.dialer; given = L.given s.dialer };
-      moment = C.moment s.clock;
-      drawn = E.bytes s.entropy;
+      told = C.told s.clock;
+      drawn = E.drawn s.entropy;
       draws = E.faults s.entropy;
       starts = P.faults s.spawner;
       started = P.started s.spawner;
@@ -79,7 +79,7 @@ pub fn serve<
 where
     D::Link: Send + 'static,
     requires { IsSome outside.old.door }
-    ensures answer { IfOk result (λ answer. IsAnswer (Serve port connections) (Some accounts.now)
+    ensures answer { IfOk result (λ answer. IsAnswer (Serve port connections) accounts.now
         (dealings_of ⟦<Outside<D, L, C, E, P> as Surroundings>⟧.view outside.old outside.new) answer.outcome answer.text.items) }
     ensures door { IsSome outside.new.door ⊎ Rose (P.faults outside.old.spawner) (P.faults outside.new.spawner) }
     ensures kept { AreKept (dealings_of ⟦<Outside<D, L, C, E, P> as Surroundings>⟧.view outside.old outside.new) }
@@ -113,7 +113,7 @@ pub fn synchronise<D: Halves, L: Dialer, C: Clock, E: Entropy, P: Spawner>(
     script: &[u8],
     outside: &mut Outside<D, L, C, E, P>,
 ) -> Result<Answer, NoMemory>
-    ensures answer { IfOk result (λ answer. IsAnswer (Sync port) (Some script.now)
+    ensures answer { IfOk result (λ answer. IsAnswer (Sync port) script.now
         (dealings_of ⟦<Outside<D, L, C, E, P> as Surroundings>⟧.view outside.old outside.new) answer.outcome answer.text.items) }
     ensures back { IsBack (dealings_of ⟦<Outside<D, L, C, E, P> as Surroundings>⟧.view outside.old outside.new) }
     ensures door { outside.new.door ≡ outside.old.door }

@@ -1,6 +1,6 @@
 -- A script from its text to its answer.
-use Rattle.std.proofs.Common.{◌≡◌, ℕ, true, List, length, Option, Some, None, Result, Ok, Err, refl, sym, ap, ◌∙◌, inl, inr, arith}
-use Rattle.std.specs.Prelude.{◌⊎◌, ◌&&◌, IfOk, IfErr, OnOk, IfSome, IsOk, is_ok, is_some, is_none, nat_le, nat_lt}
+use Rattle.std.proofs.Common.{◌≡◌, ℕ, ◌++◌, true, List, length, Option, Some, None, Result, Ok, Err, refl, sym, ap, ◌∙◌, inl, inr, arith}
+use Rattle.std.specs.Prelude.{◌⊎◌, ◌&&◌, IfOk, IfErr, OnOk, IsOk, is_ok, is_some, is_none, nat_le, nat_lt}
 use Rattle.std.specs.List.{list_all}
 use Rattle.std.proofs.lemmas.Bool.{and_parts, and_from, false≢true}
 use Rattle.std.proofs.lemmas.Bool.Decides.{nat_tests}
@@ -98,30 +98,30 @@ pub on_ok : {A : Type 0} {P : Type 0} (r : Result A SyncFault) → P → OnOk r 
 on_ok (Ok a) p = p
 on_ok (Err fault) p = tt
 
-pub synced_ok : {A : Type 0} (r : Result A SyncFault) (items : A → List ℕ) (text : List ℕ) (drawn : Option (List ℕ)) (start : CourseStep) (old new : DialerView) → IsBegun text drawn start → IfOk r (λ a. IsTold start old new (items a))
-    → IfOk r (λ a. IsSynced text drawn old new (items a))
-synced_ok (Ok a) items text drawn start old new begins told = record { start = start; begins = begins; told = told }
-synced_ok (Err fault) items text drawn start old new begins told = tt
+pub synced_ok : {A : Type 0} (r : Result A SyncFault) (items : A → List ℕ) (text drawn_first drawn_now : List ℕ) (start : CourseStep) (old new : DialerView) → IsBegun text drawn_first drawn_now start → IfOk r (λ a. IsTold start old new (items a))
+    → IfOk r (λ a. IsSynced text drawn_first drawn_now old new (items a))
+synced_ok (Ok a) items text drawn_first drawn_now start old new begins told = record { start = start; begins = begins; told = told }
+synced_ok (Err fault) items text drawn_first drawn_now start old new begins told = tt
 
-why : (fault : SyncFault) (text : List ℕ) (drawn : Option (List ℕ)) (before after : ℕ) (start : CourseStep) (old new : DialerView) → IsBegun text drawn start → after ≡ before → IsUnrun fault start old new → IsWhy fault text drawn before after old new
-why (Peer failure) text drawn before after start old new begins quiet e = (record { start = start; begins = begins; untold = e }, quiet)
-why Link text drawn before after start old new begins quiet e = (record { start = start; begins = begins; untold = e }, quiet)
-why NoMemory text drawn before after start old new begins quiet (inl same) = (inl same, quiet)
-why NoMemory text drawn before after start old new begins quiet (inr e) = (inr (record { start = start; begins = begins; untold = e }), quiet)
-why (BadLine line reason) text drawn before after start old new begins quiet e = absurd e
-why Entropy text drawn before after start old new begins quiet e = absurd e
+why : (fault : SyncFault) (text drawn_first drawn_now : List ℕ) (before after : ℕ) (start : CourseStep) (old new : DialerView) → IsBegun text drawn_first drawn_now start → after ≡ before → IsUnrun fault start old new → IsWhy fault text drawn_first drawn_now before after old new
+why (Peer failure) text drawn_first drawn_now before after start old new begins quiet e = (record { start = start; begins = begins; untold = e }, quiet)
+why Link text drawn_first drawn_now before after start old new begins quiet e = (record { start = start; begins = begins; untold = e }, quiet)
+why NoMemory text drawn_first drawn_now before after start old new begins quiet (inl same) = (inl same, quiet)
+why NoMemory text drawn_first drawn_now before after start old new begins quiet (inr e) = (inr (record { start = start; begins = begins; untold = e }), quiet)
+why (BadLine line reason) text drawn_first drawn_now before after start old new begins quiet e = absurd e
+why Entropy text drawn_first drawn_now before after start old new begins quiet e = absurd e
 
-pub synced_err : {A : Type 0} (r : Result A SyncFault) (text : List ℕ) (drawn : Option (List ℕ)) (before after : ℕ) (start : CourseStep) (old new : DialerView) → IsBegun text drawn start → after ≡ before
-    → IfErr r (λ fault. IsUnrun fault start old new) → IfErr r (λ fault. IsWhy fault text drawn before after old new)
-synced_err (Ok a) text drawn before after start old new begins quiet unrun = tt
-synced_err (Err fault) text drawn before after start old new begins quiet unrun = why fault text drawn before after start old new begins quiet unrun
+pub synced_err : {A : Type 0} (r : Result A SyncFault) (text drawn_first drawn_now : List ℕ) (before after : ℕ) (start : CourseStep) (old new : DialerView) → IsBegun text drawn_first drawn_now start → after ≡ before
+    → IfErr r (λ fault. IsUnrun fault start old new) → IfErr r (λ fault. IsWhy fault text drawn_first drawn_now before after old new)
+synced_err (Ok a) text drawn_first drawn_now before after start old new begins quiet unrun = tt
+synced_err (Err fault) text drawn_first drawn_now before after start old new begins quiet unrun = why fault text drawn_first drawn_now before after start old new begins quiet unrun
 
-pub read_why : (fault : SyncFault) (text : List ℕ) (drawn : Option (List ℕ)) (n : ℕ) (old : DialerView) → IsUnread fault text → IsWhy fault text drawn n n old old
-read_why (BadLine line reason) text drawn n old e = (e, refl, refl)
-read_why NoMemory text drawn n old e = (inl refl, refl)
-read_why (Peer failure) text drawn n old e = absurd e
-read_why Link text drawn n old e = absurd e
-read_why Entropy text drawn n old e = absurd e
+pub read_why : (fault : SyncFault) (text drawn_first drawn_now : List ℕ) (n : ℕ) (old : DialerView) → IsUnread fault text → IsWhy fault text drawn_first drawn_now n n old old
+read_why (BadLine line reason) text drawn_first drawn_now n old e = (e, refl, refl)
+read_why NoMemory text drawn_first drawn_now n old e = (inl refl, refl)
+read_why (Peer failure) text drawn_first drawn_now n old e = absurd e
+read_why Link text drawn_first drawn_now n old e = absurd e
+read_why Entropy text drawn_first drawn_now n old e = absurd e
 
 abbrev script_of : User → List Step → ScriptView
 script_of account steps = record { user = account; steps = steps }
@@ -129,7 +129,7 @@ script_of account steps = record { user = account; steps = steps }
 pub read_ok : (text : List ℕ) (account : User) (steps : List Step) → IsRead text account steps → IsOk (script_reading text)
 read_ok text account steps e = script_ok text (script_of account steps) e.said
 
-pub begins_so : (text : List ℕ) (drawn : Option (List ℕ)) (account : User) (steps : List Step) (client : ClientValue) (entropy : List ℕ) → IsRead text account steps → made account.address account.password account.resource ≡ Ok client
-    → IfSome drawn (λ bytes. entropy ≡ bytes) → IsBegun text drawn (begun client entropy steps)
-begins_so text drawn account steps client entropy read is told =
-    record { script = script_of account steps; said = read.said; client = client; made_of = is; entropy = entropy; told = told; start_is = refl }
+pub begins_so : (text drawn_first drawn_now : List ℕ) (account : User) (steps : List Step) (client : ClientValue) (entropy : List ℕ) → IsRead text account steps → made account.address account.password account.resource ≡ Ok client
+    → drawn_now ≡ drawn_first ++ entropy → IsBegun text drawn_first drawn_now (begun client entropy steps)
+begins_so text drawn_first drawn_now account steps client entropy read is told =
+    record { script = script_of account steps; said = read.said; client = client; made_of = is; entropy = entropy; drawn = told; start_is = refl }

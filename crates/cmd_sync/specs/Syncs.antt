@@ -1,5 +1,5 @@
 -- What a script that is done came to, and why one was not done.
-use Rattle.std.specs.Prelude.{◌≡◌, ◌⊎◌, ℕ, List, Option, IfSome, IsOk, IsTrue, Ok, Err}
+use Rattle.std.specs.Prelude.{◌≡◌, ◌⊎◌, ◌++◌, ℕ, List, IsOk, IsTrue, Ok, Err}
 use Rattle.std.specs.List.{list_all}
 use Rattle.cl_core.specs.Making.{made}
 use Rattle.cl_core.specs.Values.{ClientValue}
@@ -65,31 +65,33 @@ IsUnread (BadLine line why) text = script_reading text ≡ Err (BadScriptLine li
 IsUnread NoMemory text = Unit {0}
 IsUnread _ text = ⊥
 
--- so it begins: the script that the text says, a client of its account, and the bytes that were drawn
-pub record IsBegun (text : List ℕ) (drawn : Option (List ℕ)) (start : CourseStep) : Type 0 where
+-- so it begins: the script that the text says, a client of its account, and the bytes that were drawn, which stand behind those that
+-- were drawn before
+pub record IsBegun (text drawn_first drawn_now : List ℕ) (start : CourseStep) : Type 0 where
   pub script : ScriptView
   pub said : script_reading text ≡ Ok script
   pub client : ClientValue
   pub made_of : made script.user.address script.user.password script.user.resource ≡ Ok client
   pub entropy : List ℕ
-  pub told : IfSome drawn (λ bytes. entropy ≡ bytes)
+  pub drawn : drawn_now ≡ drawn_first ++ entropy
   pub start_is : start ≡ begun client entropy script.steps
 
-pub record IsSynced (text : List ℕ) (drawn : Option (List ℕ)) (old new : DialerView) (output : List ℕ) : Type 0 where
+pub record IsSynced (text drawn_first drawn_now : List ℕ) (old new : DialerView) (output : List ℕ) : Type 0 where
   pub start : CourseStep
-  pub begins : IsBegun text drawn start
+  pub begins : IsBegun text drawn_first drawn_now start
   pub told : IsTold start old new output
 
-pub record IsUnsynced (text : List ℕ) (drawn : Option (List ℕ)) (old new : DialerView) (fault : SyncFault) : Type 0 where
+pub record IsUnsynced (text drawn_first drawn_now : List ℕ) (old new : DialerView) (fault : SyncFault) : Type 0 where
   pub start : CourseStep
-  pub begins : IsBegun text drawn start
+  pub begins : IsBegun text drawn_first drawn_now start
   pub untold : IsUntold fault start old new
 
--- What is so of each refusal, where `before` and `after` are how many drawings failed. Where no connection was to be made the
+-- What is so of each refusal, where `drawn_first` and `drawn_now` are the bytes that were drawn before and behind it, and `before`
+-- and `after` how many drawings failed. Where no connection was to be made the
 -- dialer is as it was.
-abbrev pub IsWhy : SyncFault → List ℕ → Option (List ℕ) → ℕ → ℕ → DialerView → DialerView → Type 0
-IsWhy (BadLine line why) text drawn before after old new = (script_reading text ≡ Err (BadScriptLine line why)) × (after ≡ before) × (new ≡ old)
-IsWhy Entropy text drawn before after old new = IsOk (script_reading text) × Rose before after × (new ≡ old)
-IsWhy Link text drawn before after old new = IsUnsynced text drawn old new Link × (after ≡ before)
-IsWhy (Peer failure) text drawn before after old new = IsUnsynced text drawn old new (Peer failure) × (after ≡ before)
-IsWhy NoMemory text drawn before after old new = ((new ≡ old) ⊎ IsUnsynced text drawn old new NoMemory) × (after ≡ before)
+abbrev pub IsWhy : SyncFault → List ℕ → List ℕ → List ℕ → ℕ → ℕ → DialerView → DialerView → Type 0
+IsWhy (BadLine line why) text drawn_first drawn_now before after old new = (script_reading text ≡ Err (BadScriptLine line why)) × (after ≡ before) × (new ≡ old)
+IsWhy Entropy text drawn_first drawn_now before after old new = IsOk (script_reading text) × Rose before after × (new ≡ old)
+IsWhy Link text drawn_first drawn_now before after old new = IsUnsynced text drawn_first drawn_now old new Link × (after ≡ before)
+IsWhy (Peer failure) text drawn_first drawn_now before after old new = IsUnsynced text drawn_first drawn_now old new (Peer failure) × (after ≡ before)
+IsWhy NoMemory text drawn_first drawn_now before after old new = ((new ≡ old) ⊎ IsUnsynced text drawn_first drawn_now old new NoMemory) × (after ≡ before)

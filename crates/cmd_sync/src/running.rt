@@ -158,11 +158,11 @@ pub fn sync<D: Dialer, E: Entropy>(
 ) -> Result<Bytes, SyncFault>
     ensures ok { let before : DialerView = record { faults = D.faults dialer.old; ends = D.ends dialer.old; handed = D.handed dialer.old; given = D.given dialer.old } in
         let after : DialerView = record { faults = D.faults dialer.new; ends = D.ends dialer.new; handed = D.handed dialer.new; given = D.given dialer.new } in
-        IfOk result (λ text. IsSynced script.now (E.bytes entropy.old) before after text.items) }
+        IfOk result (λ text. IsSynced script.now (E.drawn entropy.old) (E.drawn entropy.new) before after text.items) }
     ensures quiet { OnOk result (E.faults entropy.new ≡ E.faults entropy.old) }
     ensures err { let before : DialerView = record { faults = D.faults dialer.old; ends = D.ends dialer.old; handed = D.handed dialer.old; given = D.given dialer.old } in
         let after : DialerView = record { faults = D.faults dialer.new; ends = D.ends dialer.new; handed = D.handed dialer.new; given = D.given dialer.new } in
-        IfErr result (λ fault. IsWhy fault script.now (E.bytes entropy.old) (E.faults entropy.old) (E.faults entropy.new) before after) }
+        IfErr result (λ fault. IsWhy fault script.now (E.drawn entropy.old) (E.drawn entropy.new) (E.faults entropy.old) (E.faults entropy.new) before after) }
 {
     let (user, steps) = match read(alloc, script) {
         Ok(read) => read,

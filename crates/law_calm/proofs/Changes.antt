@@ -25,11 +25,8 @@ pub record GoesOn {A : Type 0} (c d : Conn A) : Type 0 where
   pub flows : is_flowing d.wires ≡ true → is_flowing c.wires ≡ true
   pub comes : ComesOn c d
 
-same_le : (n : ℕ) → n ≤ n
-same_le n = omega arith
-
 pub unmoved : {A : Type 0} (c : Conn A) → GoesOn c c
-unmoved c = record { flows = λ e. e; comes = inl (same_le (rounds_to_go c.client), λ e. e) }
+unmoved c = record { flows = λ e. e; comes = inl ((omega arith), λ e. e) }
 
 -- it is a connection of the next view, of which this is so
 abbrev pub Changed : {A : Type 0} → (Conn A → Conn A → Type 0) → ℕ → Conn A → View A → Type 0
@@ -52,26 +49,26 @@ at_none {A = A} so same_so k c v next gives is = (c, ap (λ (t : Table (Conn A))
 pub taken_goes : {A : Type 0} (c d : Conn A) (word : UpWord A) (rest : List (UpWord A)) (puts : List (DownWord A)) → up_words c.wires ≡ word ∷ rest → d.client ≡ c.client → d.wires ≡ send_down puts (left_up rest c.wires) → GoesOn c d
 taken_goes {A = A} c d word rest puts first client wires = record {
   flows = λ e. sym (ap is_flowing wires ∙ flow_down puts rest c.wires) ∙ e;
-  comes = inl (subst (λ (x : Client). rounds_to_go x ≤ rounds_to_go c.client) (sym client) (same_le (rounds_to_go c.client)), λ e. absurd (let no_way : ⊥ = cc in no_way));
+  comes = inl (subst (λ (x : Client). rounds_to_go x ≤ rounds_to_go c.client) (sym client) (omega arith), λ e. absurd (let no_way : ⊥ = cc in no_way));
 }
 
 -- it puts words
 pub put_goes : {A : Type 0} (c d : Conn A) (puts : List (DownWord A)) → d.client ≡ c.client → d.wires ≡ send_down puts c.wires → GoesOn c d
 put_goes c d puts client wires = record {
   flows = λ e. sym (ap is_flowing wires ∙ same_flow_down puts c.wires) ∙ e;
-  comes = inl (subst (λ (x : Client). rounds_to_go x ≤ rounds_to_go c.client) (sym client) (same_le (rounds_to_go c.client)), λ e. ap up_words wires ∙ same_up puts c.wires ∙ e);
+  comes = inl (subst (λ (x : Client). rounds_to_go x ≤ rounds_to_go c.client) (sym client) (omega arith), λ e. ap up_words wires ∙ same_up puts c.wires ∙ e);
 }
 
 -- it shuts the connection
 pub shut_goes : {A : Type 0} (c : Conn A) (ending : Ending) → GoesOn c (shut ending c)
 shut_goes c ending = record {
   flows = λ e. absurd (let no : is_flowing (halt (send_down (tail_of ending) c.wires)) ≡ false = halted (tail_of ending) c.wires in let no_way : ⊥ = cc in no_way);
-  comes = inl (same_le (rounds_to_go c.client), λ e. halted_up (tail_of ending) c.wires);
+  comes = inl ((omega arith), λ e. halted_up (tail_of ending) c.wires);
 }
 
 -- it hears of the end
 pub told_goes : {A : Type 0} (c : Conn A) → GoesOn c (record c { gone = true })
-told_goes c = record { flows = λ e. e; comes = inl (same_le (rounds_to_go c.client), λ e. e) }
+told_goes c = record { flows = λ e. e; comes = inl ((omega arith), λ e. e) }
 
 -- the client takes a word, and puts words
 abbrev pub reads : {A : Type 0} → Client → List (DownWord A) → List (UpWord A) → Conn A → Conn A
@@ -95,11 +92,11 @@ say_goes c puts p is = record { flows = λ e. sym (same_flow_up puts c.wires) �
 
 -- a word of the handshake before a session is asked for
 hand_comes : {A : Type 0} (c : Client) (word : DownWord A) (to : Client) (puts : List (UpWord A)) → IsEarly c → client_hand None c word ≡ Goes to puts → ((rounds_to_go to ≤ rounds_to_go c) × (puts ≡ [])) ⊎ (rounds_to_go to + 1 ≤ rounds_to_go c)
-hand_comes InHeader1 Head to puts early is = inl (let e : InFeatures1 ≡ to = cc in subst (λ (x : Client). rounds_to_go x ≤ 7) e (same_le 7), (let f : puts ≡ [] = cc in f))
-hand_comes InFeatures1 Feat to puts early is = inr (let e : InAuth ≡ to = cc in subst (λ (x : Client). rounds_to_go x + 1 ≤ 7) e (same_le 7))
-hand_comes InAuth Chal to puts early is = inr (let e : InResponse ≡ to = cc in subst (λ (x : Client). rounds_to_go x + 1 ≤ 6) e (same_le 6))
-hand_comes InResponse Succ to puts early is = inr (let e : InHeader2 ≡ to = cc in subst (λ (x : Client). rounds_to_go x + 1 ≤ 5) e (same_le 5))
-hand_comes InHeader2 Head to puts early is = inl (let e : InFeatures2 ≡ to = cc in subst (λ (x : Client). rounds_to_go x ≤ 4) e (same_le 4), (let f : puts ≡ [] = cc in f))
+hand_comes InHeader1 Head to puts early is = inl (let e : InFeatures1 ≡ to = cc in subst (λ (x : Client). rounds_to_go x ≤ 7) e (omega arith), (let f : puts ≡ [] = cc in f))
+hand_comes InFeatures1 Feat to puts early is = inr (let e : InAuth ≡ to = cc in subst (λ (x : Client). rounds_to_go x + 1 ≤ 7) e (omega arith))
+hand_comes InAuth Chal to puts early is = inr (let e : InResponse ≡ to = cc in subst (λ (x : Client). rounds_to_go x + 1 ≤ 6) e (omega arith))
+hand_comes InResponse Succ to puts early is = inr (let e : InHeader2 ≡ to = cc in subst (λ (x : Client). rounds_to_go x + 1 ≤ 5) e (omega arith))
+hand_comes InHeader2 Head to puts early is = inl (let e : InFeatures2 ≡ to = cc in subst (λ (x : Client). rounds_to_go x ≤ 4) e (omega arith), (let f : puts ≡ [] = cc in f))
 hand_comes InFeatures2 word to puts early is = absurd early
 hand_comes (InResume p) word to puts early is = absurd early
 hand_comes InBind word to puts early is = absurd early

@@ -1,12 +1,12 @@
 -- Each round leaves one round less to go until the client is online.
-use Rattle.std.proofs.Common.{arith, ◌≡◌, ◌⊎◌, ℕ, zero, suc, ◌+◌, ◌≤◌, ◌<◌, true, false, List, [], ◌∷◌, ◌++◌, refl, sym, ap, ◌∙◌, subst, inl, inr, Some}
+use Rattle.std.proofs.Common.{arith, ◌≡◌, ◌⊎◌, ℕ, zero, suc, ◌+◌, ◌≤◌, ◌<◌, true, List, [], ◌∷◌, ◌++◌, refl, sym, ap, ◌∙◌, subst, inl, inr, Some}
 use Rattle.std.proofs.lemmas.List.{append-nil}
 use Rattle.sim_2_links.proofs.CutLinks.{some_one}
 use Rattle.sim_2_links.proofs.Entries.{is_has}
 use Rattle.sim_2_links.proofs.Reached.{link_kept, move_keeps}
 use Rattle.sim_2_links.specs.Words.{Client, InHeader1, InFeatures1, InAuth, InResponse, InHeader2, InFeatures2, InResume, InBind, InEnable, InOnline}
 use Rattle.sim_2_links.specs.Wires.{Wires, Flow, Stop, is_flowing, up_words, down_words, up_whole, down_whole}
-use Rattle.sim_2_links.specs.Stages.{Stage, AsksResume, Refused, Resumes, Binds, AsksEnable, Enables, Runs, client_of, up_of, down_of, tail_of, foot_of, Stands, Conn}
+use Rattle.sim_2_links.specs.Stages.{Stage, AsksResume, Refused, Resumes, Binds, AsksEnable, Enables, Runs, client_of, up_of, down_of, tail_of, foot_of, Conn}
 use Rattle.sim_2_links.specs.Views.{View, has}
 use Rattle.sim_2_links.specs.Links.{ConnKept, LinkKept}
 use Rattle.sim_2_links.specs.Machine.{LinkMove, LinkMoves, LinkReached}
@@ -52,16 +52,13 @@ idle_online {A = A} v k c kept here is flows no_up no_down = (row.0, old.at.clie
     works : has v.here k ≡ true
     works = is_has v.here k here
 
-    stands : (has v.here k ≡ true) × (c.ending ≡ Stands) × (c.gone ≡ false)
-    stands = old.piped.flowing flows
-
     whole : (up_whole c.wires ≡ up_words c.wires) × (down_whole c.wires ≡ down_words c.wires)
     whole = flowing_whole c.wires flows
 
     row : (p : ℕ) × (client_of old.stage ≡ InOnline p)
     row = idle_row old.stage
         (sym (append-nil (up_of old.stage)) ∙ ap (λ x. up_of old.stage ++ foot_of x) (sym (old.piped.unfooted works)) ∙ sym old.at.up ∙ whole.0 ∙ no_up)
-        (sym (append-nil (down_of old.stage)) ∙ ap (λ x. down_of old.stage ++ tail_of x) (sym stands.1) ∙ sym old.at.down ∙ whole.1 ∙ no_down)
+        (sym (append-nil (down_of old.stage)) ∙ ap (λ x. down_of old.stage ++ tail_of x) (sym ((old.piped.flowing flows).1)) ∙ sym old.at.down ∙ whole.1 ∙ no_down)
 
 -- with nothing to go it is, and the other way
 pub nothing_to_go : (c : Client) → rounds_to_go c ≤ 0 → (p : ℕ) × (c ≡ InOnline p)

@@ -1,5 +1,5 @@
-//! What comes of a device once the network is calm: in how many rounds its client is online, its session is resumed, and nothing
-//! is under way any more.
+//! What comes of a device once the network is calm: in how many rounds its client is online, its session is resumed, and
+//! nothing is under way any more.
 #![tactic(auto)]
 
 mod rounds;

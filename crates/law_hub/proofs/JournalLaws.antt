@@ -1,5 +1,5 @@
 -- The journal of several connections is the input of a rerun, which ends with its archives.
-use Rattle.std.proofs.Common.{◌≡◌, ℕ, List, [], ◌∷◌, ◌++◌, Option, Result, Ok, Err, ap, sym, ◌∙◌, inr, append_assoc, codes}
+use Rattle.std.proofs.Common.{◌≡◌, ℕ, List, [], ◌∷◌, ◌++◌, Result, Ok, Err, ap, sym, ◌∙◌, inr, append_assoc, codes}
 use Rattle.std.specs.List.{flat_map}
 use Rattle.net_hub.specs.Served.{HasServed}
 use Rattle.law_hub.proofs.CarriedRuns.{all_carried}
@@ -18,7 +18,7 @@ use Rattle.cmd_rerun.specs.Journaling.{ending_text, journal_text}
 use Rattle.law_hub.proofs.JournalInputs.{ending_after, input_is}
 use Rattle.law_hub.specs.Again.{EndsAlike, IsRerunOf, rerun_input}
 
-module _ (accounts : List ℕ) (n : ℕ) (told : Option ℕ) (drawn : Option (List ℕ)) (old new : List LinkView) (journal : List ℕ) (served : HasServed accounts n told drawn old new journal) where
+module _ (accounts : List ℕ) (n : ℕ) (told drawn : List ℕ) (old new : List LinkView) (journal : List ℕ) (served : HasServed accounts n told drawn old new journal) where
   abbrev input : InputView
   input = record { accounts = served.file; events = served.is.events }
 

@@ -7,5 +7,3 @@ pub mod PutRuns
 pub mod CarriedRuns
 pub mod JournalInputs
 pub mod JournalLaws
--- ---- a connection that is not open
-pub mod UntoldRuns

@@ -2,5 +2,3 @@
 pub mod Again
 -- ---- law: what links carried, as it is done again
 pub mod Carried
--- ---- law: what a connection is told that is not open
-pub mod Untold

@@ -1,14 +1,8 @@
 //! The laws.
-ghost use Rattle.std.specs.Prelude.{◌≡◌, ℕ, true, List, [], ◌∷◌, ◌++◌, None, Ok, Option};
-ghost use Rattle.std.specs.List.{AllByRecursion};
-ghost use Rattle.srv_state.specs.State.{conn_at};
-ghost use Rattle.srv_core.specs.Telling.{is_told};
-ghost use Rattle.cmd_rerun.specs.Silence.{IsOther};
+ghost use Rattle.std.specs.Prelude.{◌≡◌, ℕ, List, Ok};
 ghost use Rattle.net_hub.specs.Served.{HasServed};
 ghost use Rattle.law_hub.specs.Carried.{ArePutAgain, IsOutOf};
-ghost use Rattle.law_hub.specs.Untold.{TellsOthers, ran};
-ghost use Rattle.cmd_journal.specs.AccountsFiles.{AccountsView};
-ghost use Rattle.cmd_journal.specs.Journals.{AreEvents, EventView, Gone, Says};
+ghost use Rattle.cmd_journal.specs.Journals.{Says};
 ghost use Rattle.cmd_journal.specs.Reading.{rerun_reading};
 ghost use Rattle.net_traits.specs.Links.{LinkView};
 ghost use Rattle.net_hub.specs.Records.{run_of_file};
@@ -18,11 +12,11 @@ ghost use Rattle.law_hub.specs.Again.{EndsAlike, IsRerunOf, rerun_input};
 /// from: these accounts, and exactly these events, and so it is read. What `rerun_bytes` answers of it ends with the archives
 /// that the journal ends with, byte for byte.
 pub fn journal_is_rerun()
-    ensures says { (accounts : List ℕ) (n : ℕ) (told : Option ℕ) (drawn : Option (List ℕ)) (old new : List LinkView) (journal : List ℕ) (served : HasServed accounts n told drawn old new journal)
+    ensures says { (accounts : List ℕ) (n : ℕ) (told drawn : List ℕ) (old new : List LinkView) (journal : List ℕ) (served : HasServed accounts n told drawn old new journal)
         → Says (rerun_input accounts journal) (record { accounts = served.file; events = served.is.events }) }
-    ensures read { (accounts : List ℕ) (n : ℕ) (told : Option ℕ) (drawn : Option (List ℕ)) (old new : List LinkView) (journal : List ℕ) (served : HasServed accounts n told drawn old new journal)
+    ensures read { (accounts : List ℕ) (n : ℕ) (told drawn : List ℕ) (old new : List LinkView) (journal : List ℕ) (served : HasServed accounts n told drawn old new journal)
         → rerun_reading (rerun_input accounts journal) ≡ Ok (record { accounts = served.file; events = served.is.events }) }
-    ensures ends { (accounts : List ℕ) (n : ℕ) (told : Option ℕ) (drawn : Option (List ℕ)) (old new : List LinkView) (journal again : List ℕ)
+    ensures ends { (accounts : List ℕ) (n : ℕ) (told drawn : List ℕ) (old new : List LinkView) (journal again : List ℕ)
         → HasServed accounts n told drawn old new journal → IsRerunOf (rerun_input accounts journal) again → EndsAlike journal again }
 {}
 
@@ -31,17 +25,8 @@ pub fn journal_is_rerun()
 /// from its link, and what is put out again are those that were written on it; where a write failed, it begins with those.
 /// Each connection is gone in the journal, and nothing is put out for one that was not served.
 pub fn rerun_puts_the_same()
-    ensures puts { (accounts : List ℕ) (n : ℕ) (told : Option ℕ) (drawn : Option (List ℕ)) (old new : List LinkView) (journal again : List ℕ) (served : HasServed accounts n told drawn old new journal)
+    ensures puts { (accounts : List ℕ) (n : ℕ) (told drawn : List ℕ) (old new : List LinkView) (journal again : List ℕ) (served : HasServed accounts n told drawn old new journal)
         → IsRerunOf (rerun_input accounts journal) again → IsOutOf (run_of_file served.file served.is.events).outs again }
-    ensures carried { (accounts : List ℕ) (n : ℕ) (told : Option ℕ) (drawn : Option (List ℕ)) (old new : List LinkView) (journal again : List ℕ)
+    ensures carried { (accounts : List ℕ) (n : ℕ) (told drawn : List ℕ) (old new : List LinkView) (journal again : List ℕ)
         → HasServed accounts n told drawn old new journal → IsRerunOf (rerun_input accounts journal) again → ArePutAgain n old new journal again }
-{}
-
-/// A law: whatever happens to a server, nothing is put out for a connection that is not open, until it comes. It is not open
-/// once the server shut it, and once it is gone (RFC 6120, section 4.4).
-pub fn who_is_not_open_is_told_nothing()
-    ensures quiet { (file : AccountsView) (events later : List EventView) (k : ℕ) → AreEvents 0 events → conn_at k (ran file events).server.server_state ≡ None → AllByRecursion (IsOther k) later
-        → TellsOthers k (ran file events).outs (ran file (events ++ later)).outs }
-    ensures shut { (file : AccountsView) (events : List EventView) (k : ℕ) → AreEvents 0 events → is_told k (ran file events).outs ≡ true → conn_at k (ran file events).server.server_state ≡ None }
-    ensures gone { (file : AccountsView) (events : List EventView) (k moment : ℕ) → AreEvents 0 events → conn_at k (ran file (events ++ Gone k moment ∷ [])).server.server_state ≡ None }
 {}

@@ -46,6 +46,7 @@ pub mod RowsDue
 pub mod PutsDue
 pub mod PassedOn
 pub mod Reached
+pub mod KeptMessages
 pub mod SentPuts
 pub mod WorkedLive
 -- ---- passwords that were proved

@@ -71,7 +71,7 @@ all_live h numbers = living h.sessions h.sessions (all_found h.next 1 h.sessions
 
 -- ---- the plan
 
-abbrev IsLiveOf : {A : Type 0} → List (Session A) → ℕ → Session A → Type 0
+abbrev pub IsLiveOf : {A : Type 0} → List (Session A) → ℕ → Session A → Type 0
 IsLiveOf sessions account t = Lives sessions t × (t.shown.account ≡ account)
 
 abbrev WantsCopy : {A : Type 0} → List (Session A) → ℕ → Session A → Type 0
@@ -163,7 +163,7 @@ names_addressee true true sender account = rw (eq-eqb account account refl) refl
 names_addressee true false sender account = rw (eq-eqb account account refl) (or_either (sender == account))
 names_addressee false same sender account = refl
 
-names_sender : (archived same : Bool) (sender account : ℕ) → (sender == account) ≡ same → list_any (λ other. other == sender) (archives_of (cond archived (cond same (Once account) (Both sender account)) Nowhere)) ≡ archived
+pub names_sender : (archived same : Bool) (sender account : ℕ) → (sender == account) ≡ same → list_any (λ other. other == sender) (archives_of (cond archived (cond same (Once account) (Both sender account)) Nowhere)) ≡ archived
 names_sender true true sender account is = rw (eq-eqb account sender (sym (eqb-true sender account is))) refl
 names_sender true false sender account is = rw (eq-eqb sender sender refl) refl
 names_sender false same sender account is = refl

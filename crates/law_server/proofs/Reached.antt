@@ -42,7 +42,7 @@ use Rattle.xml_writer.specs.Items.{ItemOut}
 
 -- ---- among these, by recursion
 
-abbrev Has : {T : Type 0} → T → List T → Type 0
+abbrev pub Has : {T : Type 0} → T → List T → Type 0
 Has t [] = ⊥
 Has t (x ∷ xs) = (x ≡ t) ⊎ Has t xs
 
@@ -51,14 +51,14 @@ has_contains t [] has = absurd has
 has_contains {T = T} t (x ∷ xs) (inl here) = subst (λ (y : T). Contains (x ∷ xs) y) here (Contains-append_left (x ∷ []) xs x (Contains-push [] x))
 has_contains {T = T} t (x ∷ xs) (inr later) = Contains-append_right (x ∷ []) xs t (has_contains t xs later)
 
-has_filtered : {T : Type 0} (t : T) (p : T → Bool) (xs : List T) → p t ≡ true → Has t xs → Has t (filter p xs)
+pub has_filtered : {T : Type 0} (t : T) (p : T → Bool) (xs : List T) → p t ≡ true → Has t xs → Has t (filter p xs)
 has_filtered t p [] is has = absurd has
 has_filtered {T = T} t p (x ∷ xs) is (inl here) = (let passes : p x ≡ true = ap p here ∙ is in rw passes (inl here))
 has_filtered t p (x ∷ xs) is (inr later) =
     let rest = has_filtered t p xs is later in
     elim (cases_Bool (p x)) [ inl stays ↦ rw stays (inr rest) | inr goes ↦ rw goes rest ]
 
-has_found : {T : Type 0} (p : T → Bool) (xs : List T) (t : T) → find p xs ≡ Some t → Has t xs
+pub has_found : {T : Type 0} (p : T → Bool) (xs : List T) (t : T) → find p xs ≡ Some t → Has t xs
 has_found p [] t found = absurd (none-some t found)
 has_found p (x ∷ xs) t found =
     elim (cases_Bool (p x)) [
@@ -66,7 +66,7 @@ has_found p (x ∷ xs) t found =
       | inr other ↦ inr (has_found p xs t (rw other at found))
     ]
 
-found_passes : {T : Type 0} (p : T → Bool) (xs : List T) (t : T) → find p xs ≡ Some t → p t ≡ true
+pub found_passes : {T : Type 0} (p : T → Bool) (xs : List T) (t : T) → find p xs ≡ Some t → p t ≡ true
 found_passes p [] t found = absurd (none-some t found)
 found_passes p (x ∷ xs) t found =
     elim (cases_Bool (p x)) [
@@ -76,7 +76,7 @@ found_passes p (x ∷ xs) t found =
 
 -- ---- archives that can take an entry
 
-none_full : (f : ℕ → Bool) (archived same : Bool) (sender account : ℕ) → f sender ≡ false → f account ≡ false → list_any f (archives_of (cond archived (cond same (Once account) (Both sender account)) Nowhere)) ≡ false
+pub none_full : (f : ℕ → Bool) (archived same : Bool) (sender account : ℕ) → f sender ≡ false → f account ≡ false → list_any f (archives_of (cond archived (cond same (Once account) (Both sender account)) Nowhere)) ≡ false
 none_full f true true sender account one other = rw other refl
 none_full f true false sender account one other = rw (one, other) refl
 none_full f false same sender account one other = refl
@@ -99,7 +99,7 @@ module _ {A : Type 0} (say : ItemOut → A) (h : ServerState A) (sender : Sessio
     has_after n None more has = has
     has_after n (Some u) more has = inr has
 
-    has_delivering : (ss : List (Session A)) (more : List (Act A)) → Has t ss → Has given (delivering say (going_on sender m h) accounts (map number_of ss) h more)
+    pub has_delivering : (ss : List (Session A)) (more : List (Act A)) → Has t ss → Has given (delivering say (going_on sender m h) accounts (map number_of ss) h more)
     has_delivering [] more has = absurd has
     has_delivering (s ∷ ss) more (inl here) =
         subst (λ (x : Session A). Has given (delivering_to say (going_on sender m h) accounts (number_of x) (info_of (number_of x) h.sessions) h (delivering say (going_on sender m h) accounts (map number_of ss) h more))) (sym here)
@@ -131,7 +131,7 @@ for_users kind (chat is) = ap is_for_users is
 for_users kind (normal is) = ap is_for_users is
 for_users kind (headline is) = ap is_for_users is
 
-to_user_is : {A : Type 0} (m : MessageView) (t : SessionInfo) (account : ℕ) (deliver sessions : List (Session A)) → is_for_users m.kind ≡ true → to_user m t account deliver sessions ≡ routed m t account deliver sessions
+pub to_user_is : {A : Type 0} (m : MessageView) (t : SessionInfo) (account : ℕ) (deliver sessions : List (Session A)) → is_for_users m.kind ≡ true → to_user m t account deliver sessions ≡ routed m t account deliver sessions
 to_user_is m t account deliver sessions is = rw is refl
 
 to_absent_is : {A : Type 0} (m : MessageView) (t : SessionInfo) (account : ℕ) (sessions : List (Session A)) → m.kind ≡ Chat → to_full m t account None sessions ≡ routed m t account (ready_of account sessions) sessions
@@ -158,7 +158,7 @@ module _ {A : Type 0} (say : ItemOut → A) (k : ℕ) (h : ServerState A) (sende
       ∙ ap (λ (o : Option (Session A)). at_ready_or_bound say k taken.login (word.Stanza false (Ok (stanza.Message m))) (option_map told o) st h) taken.is.is_on
       ∙ ap (λ (b : Bool). judging say k (Ok (stanza.Message m)) (told sender) st (unless_own b) h) taken.own
 
-  reached : (i : Item) (a : Act A) → IsTaken k i h sender m account → Has a (at_message say m (told sender) h) → Contains (at_open say k i (standing_at k h) h) a
+  pub reached : (i : Item) (a : Act A) → IsTaken k i h sender m account → Has a (at_message say m (told sender) h) → Contains (at_open say k i (standing_at k h) h) a
   reached (item.Element e) a taken has =
       subst (λ (acts : List (Act A)). Contains acts a) (sym (acts_are e taken))
       (has_contains a (counting (told sender) (at_message say m (told sender) h)) (either_has a sender.shown.counted _ _ (inr has) has))

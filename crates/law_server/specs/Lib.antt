@@ -11,6 +11,7 @@ pub mod Taken
 -- ---- what goes out live
 pub mod Live
 pub mod Ready
+pub mod Copied
 -- ---- sessions and logins
 pub mod Sound
 pub mod Numbers

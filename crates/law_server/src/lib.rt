@@ -16,8 +16,9 @@ pub use gone_sessions::{
     events_are_those_of_the_server,
 };
 pub use live_messages::{
-    connections_get_what_is_theirs, copies_have_the_message, messages_go_to_their_accounts,
-    messages_reach_their_sessions, what_is_passed_on_is_the_message, what_is_sent_is_put,
+    connections_get_what_is_theirs, copies_have_the_message, copies_reach_their_sessions,
+    messages_are_archived, messages_go_to_their_accounts, messages_reach_their_sessions,
+    what_is_passed_on_is_the_message, what_is_sent_is_put,
 };
 pub use nonces::nonces_are_told_apart;
 pub use proved_logins::{servers_are_sound_after_events, sessions_are_of_proved_accounts};

@@ -1,6 +1,6 @@
 //! Laws of messages that go out live (RFC 6121, section 8.5; XEP-0280).
 ghost use Rattle.std.specs.Prelude.{◌≡◌, ◌≢◌, ◌⊎◌, ◌==◌, ℕ, true, false, not, List, [], ◌∷◌, ◌++◌, All, Contains, None, Ok, Option, Some, codes, filter, length};
-ghost use Rattle.im_extensions.specs.Given.{is_given_by};
+ghost use Rattle.im_extensions.specs.Given.{is_given_by, is_private};
 ghost use Rattle.im_extensions.specs.Carbons.{carbon_name};
 ghost use Rattle.im_extensions.specs.Forwarding.{delay_elem};
 ghost use Rattle.im_forwarding.specs.Copies.{CopyView, copy_elem};
@@ -13,7 +13,8 @@ ghost use Rattle.im_stanza.specs.Stanzas.{attr_named};
 ghost use Rattle.im_stanza.specs.Views.{MessageView};
 ghost use Rattle.im_stanza.specs.Written.{unless_empty};
 ghost use Rattle.im_stanza.specs.declared.kinds.MessageKind.TheVariants.{Chat};
-ghost use Rattle.law_server.specs.Live.{ArrivesWhereDue, GoesWhereDue, IsOn, delivery};
+ghost use Rattle.law_server.specs.Copied.{IsCopied, IsForArchives, entry};
+ghost use Rattle.law_server.specs.Live.{ArrivesWhereDue, GoesWhereDue, IsOn, copy, delivery};
 ghost use Rattle.law_server.specs.Numbers.{HaveNumbers};
 ghost use Rattle.law_server.specs.Ready.{IsForUsers, IsReady, IsTaken};
 ghost use Rattle.sm_acks.specs.declared.end.TheConstants.{MOST_UNACKNOWLEDGED};
@@ -22,7 +23,7 @@ ghost use Rattle.srv_core.specs.Events.{at_fault};
 ghost use Rattle.srv_core.specs.Table.{after_item, at_open};
 ghost use Rattle.srv_route.specs.Destinations.{Bare, Full, destination_of};
 ghost use Rattle.srv_state.specs.State.{Out, Put, ServerState, Step};
-ghost use Rattle.srv_state.specs.Steps.{Send, send};
+ghost use Rattle.srv_state.specs.Steps.{Archive, Send, send};
 ghost use Rattle.srv_state.specs.Streams.{standing_at};
 ghost use Rattle.xml_framer.specs.declared.fault.Fault.{Fault};
 ghost use Rattle.xml_framer.specs.declared.items.Item.{Item};
@@ -105,4 +106,27 @@ pub fn what_is_sent_is_put<A>()
         → (more : List (Out A)) × ((send say n a s).outs ≡ s.outs ++ more) × All (IsOn t.shown.conn) more }
     ensures others { (say : ItemOut → A) (m n : ℕ) (a : A) (t : Session A) (s : Step A) → session_of n s.server_state.sessions ≡ Some t → (m == n) ≡ false → (t.shown.counted ≡ false) ⊎ (length t.waiting ≢ MOST_UNACKNOWLEDGED)
         → session_of m (send say n a s).server_state.sessions ≡ session_of m s.server_state.sessions }
+{}
+
+/// A law: what users say is archived. A chat or a normal message with a body, to an account that exists, goes into the archive
+/// of the account that sent it and into that of the account that it is to, whatever its size (XEP-0313, section 5). Both
+/// archives can take an entry.
+pub fn messages_are_archived<A>()
+    ensures senders { (say : ItemOut → A) (k : ℕ) (i : Item) (h : ServerState A) (sender : Session A) (m : MessageView) (account : ℕ) → HaveNumbers h → IsTaken k i h sender m account → IsForArchives m
+        → Contains (at_open say k i (standing_at k h) h) (Archive sender.shown.account (entry sender m h)) }
+    ensures addressees { (say : ItemOut → A) (k : ℕ) (i : Item) (h : ServerState A) (sender : Session A) (m : MessageView) (account : ℕ) → HaveNumbers h → IsTaken k i h sender m account → IsForArchives m
+        → Contains (at_open say k i (standing_at k h) h) (Archive account (entry sender m h)) }
+{}
+
+/// A law: each session that asked for copies gets them. Of a message that is archived and isn't private, to another account,
+/// each other session of the account that sent it is sent a copy as sent, and each session of the account that it is to is
+/// sent the message itself or a copy as received (XEP-0280, sections 6 to 8).
+pub fn copies_reach_their_sessions<A>()
+    ensures sent { (say : ItemOut → A) (k : ℕ) (i : Item) (h : ServerState A) (sender t : Session A) (m : MessageView) (account : ℕ) → HaveNumbers h → IsTaken k i h sender m account → IsForArchives m
+        → is_private m.payload ≡ false → sender.shown.account ≢ account → IsCopied h sender t → t.shown.account ≡ sender.shown.account
+        → Contains (at_open say k i (standing_at k h) h) (Send t.shown.number (say (copy true sender m sender.shown.account t h))) }
+    ensures received { (say : ItemOut → A) (k : ℕ) (i : Item) (h : ServerState A) (sender t : Session A) (m : MessageView) (account : ℕ) → HaveNumbers h → IsTaken k i h sender m account → IsForArchives m
+        → is_private m.payload ≡ false → sender.shown.account ≢ account → IsCopied h sender t → t.shown.account ≡ account
+        → Contains (at_open say k i (standing_at k h) h) (Send t.shown.number (say (delivery sender m account h)))
+        ⊎ Contains (at_open say k i (standing_at k h) h) (Send t.shown.number (say (copy false sender m account t h))) }
 {}

@@ -10,6 +10,8 @@ pub mod Closed
 pub mod Joins
 -- events, and one more
 pub mod MoreEvents
+-- a moment that was told for an event
+pub mod Moments
 -- nothing is put for a connection that has not begun
 pub mod NotBegun
 -- the server, and its halves

@@ -1,17 +1,18 @@
 -- Events of a journal, and one more.
-use Rattle.std.proofs.Common.{◌≡◌, ℕ, suc, ◌<◌, ◌≤◌, ◌==◌, true, List, [], ◌∷◌, ◌++◌, length, map, Option, Fits, get_or, w8, ap, refl, subst, sym, ◌∙◌, arith}
+use Rattle.std.proofs.Common.{◌≡◌, ℕ, suc, ◌<◌, ◌≤◌, ◌==◌, true, List, [], ◌∷◌, ◌++◌, length, map, append-nil, Fits, get_or, w8, ap, refl, subst, sym, ◌∙◌, arith}
 use Rattle.std.proofs.lemmas.Bool.{and_from, and_parts, le-leb, lt-ltb, ltb-true}
+use Rattle.std.proofs.lemmas.Grind.{flat_map-append}
 use Rattle.std.proofs.lemmas.List.{map-append}
 use Rattle.std.specs.List.{AllByRecursion}
 use Rattle.std.specs.Prelude.{IsTrue, ◌&&◌, nat_le, nat_lt}
 use Rattle.cmd_journal.specs.Journals.{AreEvents, Connect, EventView, Gone, Piece, are_bytes, begun_last, event_view, is_connection, is_moment, may_happen}
 use Rattle.cmd_journal.specs.declared.event.Event.{Event}
 use Rattle.cmd_journal.specs.declared.event.TheConstants.{LAST_CONNECTION}
-use Rattle.net_hub.specs.Records.{AllDrawn, IsDrawn, bare, bares_of, last_begun, views_of}
+use Rattle.net_hub.specs.Records.{bare, bares_of, entropies_of, entropy_of, last_begun, moments_of, views_of}
 use Rattle.cmd_rerun.specs.Reruns.{AreFresh, IsFresh, Run, after_event, after_events}
 use Rattle.cmd_schedule.specs.Reading.{not_empty}
 use Rattle.net_hub.proofs.Numbers.{other_number}
-use Rattle.cmd_rerun.specs.Happening.{AreAt}
+use Rattle.cmd_rerun.specs.Happening.{moment_of}
 use Rattle.cmd_rerun.specs.Silence.{IsOther}
 
 pub views_more : (events : List Event) (e : Event) → views_of (events ++ e ∷ []) ≡ views_of events ++ event_view e ∷ []
@@ -34,13 +35,12 @@ pub last_more : (last : ℕ) (events : List EventView) (e : EventView) → last_
 last_more last [] e = refl
 last_more last (x ∷ events) e = last_more (begun_last last x) events e
 
-pub at_more : (moment : Option ℕ) (events : List EventView) (e : EventView) → AreAt moment events → AreAt moment (e ∷ []) → AreAt moment (events ++ e ∷ [])
-at_more moment [] e are is = is
-at_more moment (x ∷ events) e are is = (are.0, at_more moment events e are.1 is)
+pub told_more : (moments : List ℕ) (events : List EventView) (e : EventView) → moments_of events ≡ moments → moments_of (events ++ e ∷ []) ≡ moments ++ moment_of e ∷ []
+told_more moments events e are = map-append moment_of events (e ∷ []) ∙ ap (λ l. l ++ moment_of e ∷ []) are
 
-pub drawn_more : (drawn : Option (List ℕ)) (events : List EventView) (e : EventView) → AllDrawn drawn events → IsDrawn drawn e → AllDrawn drawn (events ++ e ∷ [])
-drawn_more drawn [] e are is = (is, tt)
-drawn_more drawn (x ∷ events) e are is = (are.0, drawn_more drawn events e are.1 is)
+pub drawn_more : (drawn : List ℕ) (events : List EventView) (e : EventView) → entropies_of events ≡ drawn → entropies_of (events ++ e ∷ []) ≡ drawn ++ entropy_of e
+drawn_more drawn events e are =
+    flat_map-append entropy_of events (e ∷ []) ∙ ap (λ l. l ++ (entropy_of e ++ [])) are ∙ ap (λ l. drawn ++ l) (append-nil (entropy_of e))
 
 pub fresh_last : (events : List EventView) (e : EventView) (r : Run) → AreFresh (events ++ e ∷ []) r → IsFresh e (after_events events r).server
 fresh_last [] e r fresh = fresh.0

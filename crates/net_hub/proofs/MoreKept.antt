@@ -1,5 +1,5 @@
 -- A server that serves several connections, and one event more.
-use Rattle.std.proofs.Common.{zero, suc, inl, inr, ◌≡◌, ℕ, ◌+◌, ◌<◌, ◌≤◌, ◌⊎◌, ⊎_elim, List, [], ◌∷◌, ◌++◌, length, length-append, Option, Result, Ok, Err, OnOk, OnErr, append-nil, ap, refl, subst, sym, ◌∙◌, arith}
+use Rattle.std.proofs.Common.{zero, suc, inl, inr, ◌≡◌, ℕ, ◌+◌, ◌<◌, ◌≤◌, ◌⊎◌, ⊎_elim, List, [], ◌∷◌, ◌++◌, length, length-append, Result, Ok, Err, OnOk, OnErr, append-nil, ap, refl, subst, sym, ◌∙◌, arith}
 use Rattle.std.specs.Prelude.{IsTrue, None, ◌^◌}
 use Rattle.std.proofs.lemmas.Grind.{flat_map-append}
 use Rattle.std.proofs.lemmas.List.{length-map, map-append}
@@ -15,9 +15,9 @@ use Rattle.cmd_journal.specs.declared.event.Event.{Event}
 use Rattle.cmd_journal.specs.declared.event.TheConstants.{LAST_CONNECTION}
 use Rattle.net_owner.proofs.HeldHalves.{first_same}
 use Rattle.net_owner.specs.Halves.{AreFirst}
-use Rattle.net_hub.proofs.MoreEvents.{are_more, at_more, drawn_more, fresh_last, is_connection_of, last_more, may_connect, may_give, may_leave, some_bytes}
+use Rattle.net_hub.proofs.MoreEvents.{are_more, drawn_more, fresh_last, is_connection_of, last_more, may_connect, may_give, may_leave, some_bytes, told_more}
 use Rattle.net_hub.proofs.NotBegun.{nothing_put}
-use Rattle.net_hub.specs.Records.{AddsHalf, IsDrawn, IsKeptBy, last_begun, run_of_file, views_of}
+use Rattle.net_hub.specs.Records.{AddsHalf, IsKeptBy, entropy_of, last_begun, run_of_file, views_of}
 use Rattle.cmd_rerun.proofs.EventRuns as runs
 use Rattle.cmd_rerun.proofs.Numbers.{start_fresh}
 use Rattle.cmd_rerun.specs.Reruns.{IsFresh, Run, after_event, run_at_start, run_of}
@@ -27,7 +27,7 @@ use Rattle.net_hub.specs.Sendings.{HasSent, HaveSent, numbers_of}
 use Rattle.net_hub.specs.declared.sender.Sender.{Sender}
 use Rattle.srv_core.specs.Events.{IsAfterBytes, Whole, after_connect, after_gone, framer_at}
 use Rattle.cmd_rerun.proofs.Adding.{connects, from_start, happens_both, leaves, leaves_quietly, nothing_happens, piece_happens}
-use Rattle.cmd_rerun.specs.Happening.{AreAt, happens}
+use Rattle.cmd_rerun.specs.Happening.{happens, moment_of}
 use Rattle.xml_writer.specs.Items.{written_item}
 
 -- what a list that is longer by one has at a place
@@ -80,29 +80,29 @@ run_more file events e w is =
     ∙ ap (λ (v : Whole (List ℕ)). both (happens (e ∷ []) v).server ((run_of_file file events).outs ++ (happens (e ∷ []) v).outs)) (sym is)
 
 -- a connection that comes is fresh
-pub fresh : {O : Type 0} (told : O → OutgoingView) (moment : Option ℕ) (drawn : Option (List ℕ)) (file : AccountsView) (es : List EventView) (server : Whole (List ℕ)) (senders : List (Sender O)) (k now : ℕ) (entropy : List ℕ)
-    → IsKeptBy told moment drawn file es server senders → k ≡ length senders + 1 → k ≤ LAST_CONNECTION → IsTrue (is_moment now) → length entropy ≡ 24 → IsTrue (are_bytes entropy)
+pub fresh : {O : Type 0} (told : O → OutgoingView) (moments drawn : List ℕ) (file : AccountsView) (es : List EventView) (server : Whole (List ℕ)) (senders : List (Sender O)) (k now : ℕ) (entropy : List ℕ)
+    → IsKeptBy told moments drawn file es server senders → k ≡ length senders + 1 → k ≤ LAST_CONNECTION → IsTrue (is_moment now) → length entropy ≡ 24 → IsTrue (are_bytes entropy)
     → (conn_at k server.server_state ≡ None) × (framer_at k server.framers ≡ None)
-fresh told moment drawn file es server senders k now entropy kept position most time many bytes =
+fresh told moments drawn file es server senders k now entropy kept position most time many bytes =
     let e = Connect k now entropy in
     let may = may_connect (last_begun 0 es) k now entropy (omega (arith, kept.last, position)) most time many bytes in
     let all = are_more 0 es e kept.are may in
     subst (IsFresh e) (sym (kept.made ∙ ap (λ (u : Run). u.server) (from_start es file))) (fresh_last es e (run_at_start file) (start_fresh file (es ++ e ∷ []) all))
 
-module _ {O : Type 0} (told : O → OutgoingView) (moment : Option ℕ) (drawn : Option (List ℕ)) (file : AccountsView) (es : List EventView) (server : Whole (List ℕ)) (senders : List (Sender O))
-    (kept : IsKeptBy told moment drawn file es server senders) where
+module _ {O : Type 0} (told : O → OutgoingView) (moments drawn : List ℕ) (file : AccountsView) (es : List EventView) (server : Whole (List ℕ)) (senders : List (Sender O))
+    (kept : IsKeptBy told moments drawn file es server senders) where
   -- one event more, of which these senders have sent what is put
-  more : (e : EventView) (new : Whole (List ℕ)) (now_senders : List (Sender O)) → IsTrue (may_happen (last_begun 0 es) e) → AreAt moment (e ∷ []) → IsDrawn drawn e
+  more : (e : EventView) (new : Whole (List ℕ)) (now_senders : List (Sender O)) → IsTrue (may_happen (last_begun 0 es) e)
       → begun_last (last_begun 0 es) e ≡ length now_senders → length now_senders ≤ LAST_CONNECTION → new ≡ (happens (e ∷ []) server).server
       → HaveSent told (λ k. put_for k (run_of_file file es).outs ++ put_for k (happens (e ∷ []) server).outs) now_senders
-      → IsKeptBy told moment drawn file (es ++ e ∷ []) new now_senders
-  more e new now_senders may at is_drawn last small is sent =
+      → IsKeptBy told (moments ++ moment_of e ∷ []) (drawn ++ entropy_of e) file (es ++ e ∷ []) new now_senders
+  more e new now_senders may last small is sent =
       let run = run_more file es e server kept.made in record {
         right = kept.right;
         few = kept.few;
         are = are_more 0 es e kept.are may;
-        moments = at_more moment es e kept.moments at;
-        entropies = drawn_more drawn es e kept.entropies is_drawn;
+        moments_are = told_more moments es e kept.moments_are;
+        entropies = drawn_more drawn es e kept.entropies;
         last = last_more 0 es e ∙ last;
         small = small;
         made = is ∙ sym (ap (λ (r : Run). r.server) run);
@@ -112,11 +112,11 @@ module _ {O : Type 0} (told : O → OutgoingView) (moment : Option ℕ) (drawn :
 
   -- a connection begins
   pub kept_connect : (k now : ℕ) (entropy : List ℕ) (new : Whole (List ℕ)) (now_senders : List (Sender O)) (s : Sender O) → k ≡ length senders + 1 → k ≤ LAST_CONNECTION → IsTrue (is_moment now)
-      → length entropy ≡ 24 → IsTrue (are_bytes entropy) → AreAt moment (Connect k now entropy ∷ []) → IsDrawn drawn (Connect k now entropy) → new ≡ after_connect k entropy now server
-      → now_senders ≡ senders ++ s ∷ [] → HasSent [] s.broken (told s.half) → IsKeptBy told moment drawn file (es ++ Connect k now entropy ∷ []) new now_senders
-  kept_connect k now entropy new now_senders s position most time many bytes at is_drawn is grown none =
+      → length entropy ≡ 24 → IsTrue (are_bytes entropy) → new ≡ after_connect k entropy now server
+      → now_senders ≡ senders ++ s ∷ [] → HasSent [] s.broken (told s.half) → IsKeptBy told (moments ++ now ∷ []) (drawn ++ entropy) file (es ++ Connect k now entropy ∷ []) new now_senders
+  kept_connect k now entropy new now_senders s position most time many bytes is grown none =
       let wide : length now_senders ≡ length senders + 1 = ap length grown ∙ length-append senders (s ∷ []) in
-      more (Connect k now entropy) new now_senders (may_connect (last_begun 0 es) k now entropy (omega (arith, kept.last, position)) most time many bytes) at is_drawn
+      more (Connect k now entropy) new now_senders (may_connect (last_begun 0 es) k now entropy (omega (arith, kept.last, position)) most time many bytes)
       (position ∙ sym wide) (omega (arith, wide, position, most)) (is ∙ sym (connects k now entropy server))
       (same_sent told (λ j. put_for j (run_of_file file es).outs) (λ j. put_for j (run_of_file file es).outs ++ put_for j (happens (Connect k now entropy ∷ []) server).outs) now_senders
       (λ j. ap (λ (o : List (Out (List ℕ))). put_for j (run_of_file file es).outs ++ put_for j o) (connects_quietly k now entropy server) ∙ append-nil (put_for j (run_of_file file es).outs))
@@ -133,47 +133,51 @@ module _ {O : Type 0} (told : O → OutgoingView) (moment : Option ℕ) (drawn :
   begun_number : (k : ℕ) → 1 ≤ k → k ≤ length senders → IsTrue (is_connection k)
   begun_number k least most = is_connection_of k least (omega (arith, most, kept.small))
 
+  -- no bytes were drawn besides
+  as_drawn : {ms : List ℕ} {events : List EventView} {new : Whole (List ℕ)} {now_senders : List (Sender O)} → IsKeptBy told ms (drawn ++ []) file events new now_senders → IsKeptBy told ms drawn file events new now_senders
+  as_drawn {ms} {events} {new} {now_senders} is = subst (λ ds. IsKeptBy told ms ds file events new now_senders) (append-nil drawn) is
+
   -- a piece came, and what it leads to was sent
   pub kept_piece : (k now : ℕ) (bytes : List ℕ) (new : Whole (List ℕ)) (outs : List Output) (now_senders : List (Sender O)) → 1 ≤ k → k ≤ length senders → IsTrue (is_moment now) → 0 < length bytes → IsTrue (are_bytes bytes)
-      → AreAt moment (Piece k now bytes ∷ []) → run_of new outs ≡ happens (Piece k now bytes ∷ []) server → numbers_of told now_senders ≡ numbers_of told senders
+      → run_of new outs ≡ happens (Piece k now bytes ∷ []) server → numbers_of told now_senders ≡ numbers_of told senders
       → ((before : ℕ → List ℕ) → HaveSent told before senders → HaveSent told (λ j. before j ++ put_for j (outs_of outs)) now_senders)
-      → IsKeptBy told moment drawn file (es ++ Piece k now bytes ∷ []) new now_senders
-  kept_piece k now bytes new outs now_senders least most time any are at run same sends =
+      → IsKeptBy told (moments ++ now ∷ []) drawn file (es ++ Piece k now bytes ∷ []) new now_senders
+  kept_piece k now bytes new outs now_senders least most time any are run same sends =
       let wide : length now_senders ≡ length senders = as_many told now_senders senders same in
-      more (Piece k now bytes) new now_senders (may_give (last_begun 0 es) k now bytes (begun_number k least most) time (some_bytes bytes any) are) at tt
+      as_drawn (more (Piece k now bytes) new now_senders (may_give (last_begun 0 es) k now bytes (begun_number k least most) time (some_bytes bytes any) are)
       (kept.last ∙ sym wide) (omega (arith, wide, kept.small)) (ap (λ (r : Run). r.server) run)
       (same_sent told (λ j. put_for j (run_of_file file es).outs ++ put_for j (outs_of outs)) (λ j. put_for j (run_of_file file es).outs ++ put_for j (happens (Piece k now bytes ∷ []) server).outs) now_senders
       (λ j. ap (λ (r : Run). put_for j (run_of_file file es).outs ++ put_for j r.outs) (sym run))
-      (sends (λ j. put_for j (run_of_file file es).outs) kept.sent))
+      (sends (λ j. put_for j (run_of_file file es).outs) kept.sent)))
 
   -- a connection is gone
-  pub kept_gone : (k now : ℕ) (new : Whole (List ℕ)) (now_senders : List (Sender O)) → 1 ≤ k → k ≤ length senders → IsTrue (is_moment now) → AreAt moment (Gone k now ∷ []) → new ≡ after_gone k now server
+  pub kept_gone : (k now : ℕ) (new : Whole (List ℕ)) (now_senders : List (Sender O)) → 1 ≤ k → k ≤ length senders → IsTrue (is_moment now) → new ≡ after_gone k now server
       → numbers_of told now_senders ≡ numbers_of told senders → ((before : ℕ → List ℕ) → HaveSent told before senders → HaveSent told before now_senders)
-      → IsKeptBy told moment drawn file (es ++ Gone k now ∷ []) new now_senders
-  kept_gone k now new now_senders least most time at is same sends =
+      → IsKeptBy told (moments ++ now ∷ []) drawn file (es ++ Gone k now ∷ []) new now_senders
+  kept_gone k now new now_senders least most time is same sends =
       let wide : length now_senders ≡ length senders = as_many told now_senders senders same in
-      more (Gone k now) new now_senders (may_leave (last_begun 0 es) k now (begun_number k least most) time) at tt
+      as_drawn (more (Gone k now) new now_senders (may_leave (last_begun 0 es) k now (begun_number k least most) time)
       (kept.last ∙ sym wide) (omega (arith, wide, kept.small)) (is ∙ sym (leaves k now server))
       (same_sent told (λ j. put_for j (run_of_file file es).outs) (λ j. put_for j (run_of_file file es).outs ++ put_for j (happens (Gone k now ∷ []) server).outs) now_senders
       (λ j. ap (λ (o : List (Out (List ℕ))). put_for j (run_of_file file es).outs ++ put_for j o) (leaves_quietly k now server) ∙ append-nil (put_for j (run_of_file file es).outs))
-      (sends (λ j. put_for j (run_of_file file es).outs) kept.sent))
+      (sends (λ j. put_for j (run_of_file file es).outs) kept.sent)))
 
 -- at first
-kept_empty : {O : Type 0} (told : O → OutgoingView) (moment : Option ℕ) (drawn : Option (List ℕ)) (file : AccountsView) → IsAccountsFile file → length file.accounts < 2 ^ 32
-    → IsKeptBy told moment drawn file [] (run_at_start file).server []
-kept_empty told moment drawn file right few = record {
+kept_empty : {O : Type 0} (told : O → OutgoingView) (file : AccountsView) → IsAccountsFile file → length file.accounts < 2 ^ 32
+    → IsKeptBy told [] [] file [] (run_at_start file).server []
+kept_empty told file right few = record {
   right = right;
   few = few;
   are = tt;
-  moments = tt;
-  entropies = tt;
+  moments_are = refl;
+  entropies = refl;
   last = refl;
   small = omega arith;
   made = sym (nothing_happens (run_at_start file).server);
   sent = λ i s at. absurd (some-ne-none s (sym at));
 }
 
-pub kept_none : {O : Type 0} (told : O → OutgoingView) (moment : Option ℕ) (drawn : Option (List ℕ)) (file : AccountsView) (events : List Event) (server : Whole (List ℕ)) (senders : List (Sender O))
-    → IsAccountsFile file → length file.accounts < 2 ^ 32 → events ≡ [] → senders ≡ [] → server ≡ (run_at_start file).server → IsKeptBy told moment drawn file (views_of events) server senders
-kept_none told moment drawn file events server senders right few no_events no_senders is =
-    subst (λ (y : List Event × Whole (List ℕ) × List (Sender _)). IsKeptBy told moment drawn file (views_of y.0) y.1 y.2) (λ n. (sym no_events n, sym is n, sym no_senders n)) (kept_empty told moment drawn file right few)
+pub kept_none : {O : Type 0} (told : O → OutgoingView) (file : AccountsView) (events : List Event) (server : Whole (List ℕ)) (senders : List (Sender O))
+    → IsAccountsFile file → length file.accounts < 2 ^ 32 → events ≡ [] → senders ≡ [] → server ≡ (run_at_start file).server → IsKeptBy told [] [] file (views_of events) server senders
+kept_none told file events server senders right few no_events no_senders is =
+    subst (λ (y : List Event × Whole (List ℕ) × List (Sender _)). IsKeptBy told [] [] file (views_of y.0) y.1 y.2) (λ n. (sym no_events n, sym is n, sym no_senders n)) (kept_empty told file right few)

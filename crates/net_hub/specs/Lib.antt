@@ -9,6 +9,7 @@ pub use Rattle.cmd_rerun.specs.Reruns
 pub use Rattle.cmd_rerun.specs.Journaling
 pub use Rattle.cmd_rerun.specs.Happening
 pub use Rattle.net_traits.specs.Links
+pub use Rattle.net_traits.specs.ToldSince
 pub use Rattle.net_owner.specs.StartedReaders
 pub use Rattle.net_owner.specs.Acceptors
 -- law

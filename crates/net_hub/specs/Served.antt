@@ -1,5 +1,5 @@
 -- What is so once a server has served connections at the same time.
-use Rattle.std.specs.Prelude.{◌≡◌, ◌⊎◌, ℕ, ◌+◌, ◌<◌, ◌≤◌, List, [], ◌∷◌, ◌++◌, length, map, Option, Err, IfSome}
+use Rattle.std.specs.Prelude.{◌≡◌, ◌⊎◌, ℕ, ◌+◌, ◌<◌, ◌≤◌, List, [], ◌∷◌, ◌++◌, length, map, Err, IfSome}
 use Rattle.std.specs.List.{flat_map}
 use Rattle.cmd_journal.specs.AccountsFiles.{AccountsView, IsAccountsFile, accounts_text}
 use Rattle.cmd_journal.specs.Journals.{AreEvents, EventView}
@@ -8,10 +8,9 @@ use Rattle.cmd_journal.specs.declared.fault.InputFault.TheVariants as inputs
 use Rattle.net_traits.specs.Links.{LinkView}
 use Rattle.net_owner.specs.Events.{Connect, Gave, Gone, Told, shown}
 use Rattle.net_owner.specs.declared.reading.TheConstants.{MOST_BYTES_GIVEN}
-use Rattle.net_hub.specs.Records.{AllDrawn, bare, run_of_file}
+use Rattle.net_hub.specs.Records.{bare, entropies_of, moments_of, run_of_file}
 use Rattle.net_hub.specs.Puts.{IsFront, put_for}
 use Rattle.cmd_rerun.specs.Journaling.{journal_text}
-use Rattle.cmd_rerun.specs.Happening.{AreAt}
 use Rattle.net_hub.specs.declared.fault.HubFault.{HubFault}
 use Rattle.net_hub.specs.declared.fault.HubFault.TheVariants.{BadLine}
 
@@ -39,9 +38,10 @@ AreServed file events k [] = Unit {0}
 AreServed file events k (link ∷ links) = IsLinkServed file events k link × AreServed file events (k + 1) links
 
 -- A server of this accounts file served n connections, with the numbers from 1, and its journal is this text: of these events,
--- which are a merge of the connections' feeds. `told` and `drawn` are the clock's moment and the random bytes, where these are
--- told; `old` and `new` are the links that were given back to the door before and behind it.
-pub record IsWritten (file : AccountsView) (n : ℕ) (told : Option ℕ) (drawn : Option (List ℕ)) (old new : List LinkView) (text : List ℕ) : Type 0 where
+-- which are a merge of the connections' feeds. `told` and `drawn` are the moments that the clock told meanwhile and the random
+-- bytes that were drawn: the events' own, in order. `old` and `new` are the links that were given back to the door before and
+-- behind it.
+pub record IsWritten (file : AccountsView) (n : ℕ) (told drawn : List ℕ) (old new : List LinkView) (text : List ℕ) : Type 0 where
   pub events : List EventView
   pub links : List LinkView
   pub many : length links ≡ n
@@ -49,12 +49,12 @@ pub record IsWritten (file : AccountsView) (n : ℕ) (told : Option ℕ) (drawn 
   pub served : AreServed file events 1 links
   pub others : (k : ℕ) → (k ≡ 0) ⊎ (n < k) → shown k (map bare events) ≡ []
   pub are : AreEvents 0 events
-  pub moments : AreAt told events
-  pub entropies : AllDrawn drawn events
+  pub moments : moments_of events ≡ told
+  pub entropies : entropies_of events ≡ drawn
   pub journal : text ≡ journal_text file events
 
 -- the same of the accounts file with this text
-pub record HasServed (accounts : List ℕ) (n : ℕ) (told : Option ℕ) (drawn : Option (List ℕ)) (old new : List LinkView) (text : List ℕ) : Type 0 where
+pub record HasServed (accounts : List ℕ) (n : ℕ) (told drawn : List ℕ) (old new : List LinkView) (text : List ℕ) : Type 0 where
   pub file : AccountsView
   pub right : IsAccountsFile file
   pub whole : accounts ≡ accounts_text file

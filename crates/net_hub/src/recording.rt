@@ -1,11 +1,10 @@
 //! What happens to a server, and what it puts out.
-ghost use Rattle.std.specs.Prelude.{◌≡◌, ◌<◌, ◌≤◌, ◌^◌, ◌+◌, ◌∷◌, ◌++◌, ℕ, List, Option, [], IfOk, IsTrue, OnErr, OnOk, length};
+ghost use Rattle.std.specs.Prelude.{◌≡◌, ◌<◌, ◌≤◌, ◌^◌, ◌+◌, ◌∷◌, ◌++◌, ℕ, List, [], IfOk, IsTrue, OnErr, OnOk, length};
 ghost use Rattle.cmd_journal.specs.AccountsFiles.{IsAccountsFile};
 ghost use Rattle.cmd_journal.specs.Journals.{Connect, Gone, Piece, are_bytes as all_bytes, event_view, is_moment};
 ghost use Rattle.net_owner.specs.Halves.{AreFirst, IsBlank};
-ghost use Rattle.net_hub.specs.Records.{AddsHalf, IsDrawn, IsKept, views_of};
+ghost use Rattle.net_hub.specs.Records.{AddsHalf, IsKept, views_of};
 ghost use Rattle.net_hub.specs.Sendings.{numbers_of};
-ghost use Rattle.cmd_rerun.specs.Happening.{AreAt};
 
 use crate::facts::are_bytes;
 use crate::joining::join;
@@ -44,7 +43,7 @@ impl<O: Outgoing + Drop> Recorder<O> {
     pub fn new(alloc: Global, file: AccountsFile) -> Result<Recorder<O>, NoMemory>
         requires right { IsAccountsFile file }
         requires few { length file.accounts < 2 ^ 32 }
-        ensures kept { IfOk result (λ r. (moment : Option ℕ) (drawn : Option (List ℕ)) → IsKept O.told moment drawn r) }
+        ensures kept { IfOk result (λ r. IsKept O.told [] [] r) }
         ensures file { IfOk result (λ r. r.file ≡ file) }
         ensures events { IfOk result (λ r. r.events.items ≡ []) }
         ensures senders { IfOk result (λ r. r.senders.items ≡ []) }
@@ -69,7 +68,7 @@ impl<O: Outgoing + Drop> Recorder<O> {
         entropy: &[u8; 24],
         half: O,
     ) -> Result<(), NoMemory>
-        requires kept { (moment : Option ℕ) × (drawn : Option (List ℕ)) × IsKept O.told moment drawn self.old }
+        requires kept { (moments drawn : List ℕ) × IsKept O.told moments drawn self.old }
         requires position { k ≡ length (numbers_of O.told self.old.senders.items) + 1 }
         requires moment { IsTrue (is_moment now) }
         requires entropy { IsTrue (all_bytes entropy.now) × (length entropy.now ≡ 24) }
@@ -78,8 +77,7 @@ impl<O: Outgoing + Drop> Recorder<O> {
         ensures half { OnOk result (numbers_of O.told self.new.senders.items ≡ numbers_of O.told self.old.senders.items ++ (O.told half).number ∷ []) }
         ensures halves { AreFirst (numbers_of O.told self.old.senders.items) (numbers_of O.told self.new.senders.items) }
         ensures file { self.new.file ≡ self.old.file }
-        ensures kept { (moment : Option ℕ) (drawn : Option (List ℕ)) → IsKept O.told moment drawn self.old → AreAt moment (Connect k now entropy.now ∷ []) → IsDrawn drawn (Connect k now entropy.now)
-            → OnOk result (IsKept O.told moment drawn self.new) }
+        ensures kept { (moments drawn : List ℕ) → IsKept O.told moments drawn self.old → OnOk result (IsKept O.told (moments ++ now ∷ []) (drawn ++ entropy.now) self.new) }
     {
         if k > LAST_CONNECTION {
             return Err(NoMemory);
@@ -102,7 +100,7 @@ impl<O: Outgoing + Drop> Recorder<O> {
         ensures events { OnOk result (views_of self.new.events.items ≡ views_of self.old.events.items ++ Piece k now piece.items ∷ []) }
         ensures halves { numbers_of O.told self.new.senders.items ≡ numbers_of O.told self.old.senders.items }
         ensures file { self.new.file ≡ self.old.file }
-        ensures kept { (moment : Option ℕ) (drawn : Option (List ℕ)) → IsKept O.told moment drawn self.old → AreAt moment (Piece k now piece.items ∷ []) → OnOk result (IsKept O.told moment drawn self.new) }
+        ensures kept { (moments drawn : List ℕ) → IsKept O.told moments drawn self.old → OnOk result (IsKept O.told (moments ++ now ∷ []) drawn self.new) }
     {
         let read = piece.as_slice();
         are_bytes(read);
@@ -126,7 +124,7 @@ impl<O: Outgoing + Drop> Recorder<O> {
         ensures events { OnOk result (views_of self.new.events.items ≡ views_of self.old.events.items ++ Gone k now ∷ []) }
         ensures halves { numbers_of O.told self.new.senders.items ≡ numbers_of O.told self.old.senders.items }
         ensures file { self.new.file ≡ self.old.file }
-        ensures kept { (moment : Option ℕ) (drawn : Option (List ℕ)) → IsKept O.told moment drawn self.old → AreAt moment (Gone k now ∷ []) → OnOk result (IsKept O.told moment drawn self.new) }
+        ensures kept { (moments drawn : List ℕ) → IsKept O.told moments drawn self.old → OnOk result (IsKept O.told (moments ++ now ∷ []) drawn self.new) }
     {
         close(&mut self.senders, k);
         self.server.gone(k, now);

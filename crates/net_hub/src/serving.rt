@@ -2,7 +2,7 @@
 //!
 //! The door listens once the server is ready: the keys of all accounts are derived before, so that who connects is
 //! answered at once. That a port can't be listened on is told behind them.
-ghost use Rattle.std.specs.Prelude.{◌≡◌, ◌≢◌, ◌⊎◌, ◌<◌, ◌^◌, ◌∷◌, ◌++◌, ℕ, List, Option, None, Some, Err, IfErr, IfOk, IfSome, IsErrOf, length, true};
+ghost use Rattle.std.specs.Prelude.{◌≡◌, ◌≢◌, ◌⊎◌, ◌<◌, ◌^◌, ◌∷◌, ◌++◌, ℕ, List, [], None, Some, Err, IfErr, IfOk, IfSome, IsErrOf, length, true};
 ghost use Rattle.crossbeam_channel.specs.Claims.{IsSeatAt, view};
 ghost use Rattle.crossbeam_channel.specs.Ends.{sends_on};
 ghost use Rattle.base_io.specs.Counts.{Rose};
@@ -11,6 +11,7 @@ ghost use Rattle.net_hub.specs.Joined.{AreMore, HasReaders};
 ghost use Rattle.net_hub.specs.Served.{HasServed, IsOwn, IsRefusal, IsWritten};
 ghost use Rattle.cmd_journal.specs.AccountsFiles.{accounts_text};
 ghost use Rattle.net_traits.specs.Links.{LinkView};
+ghost use Rattle.net_traits.specs.ToldSince.{ToldSince};
 ghost use Rattle.net_owner.specs.Arrivals.{has_closed};
 ghost use Rattle.net_owner.specs.Halves.{IsHeld};
 ghost use Rattle.net_owner.specs.Owners.{IsGoing};
@@ -80,9 +81,9 @@ fn finish<
     requires closed { has_closed (items_of number 0 (view owner.pass).got) ≡ true }
     requires met { owner.met ≡ None }
     requires queue { sends_on acceptor.to ≡ sends_on owner.to }
-    requires kept { (moment : Option ℕ) × (drawn : Option (List ℕ)) × IsKept O.told moment drawn owner.taker }
-    ensures served { (moment : Option ℕ) (drawn : Option (List ℕ)) → IsKept O.told moment drawn owner.taker
-        → IfOk result.0 (λ text. IsWritten owner.taker.file acceptor.count moment drawn (D.given acceptor.door) (D.given result.1) text.items) }
+    requires kept { (moments drawn : List ℕ) × IsKept O.told moments drawn owner.taker }
+    ensures served { (moments drawn : List ℕ) → IsKept O.told moments drawn owner.taker
+        → IfOk result.0 (λ text. IsWritten owner.taker.file acceptor.count moments drawn (D.given acceptor.door) (D.given result.1) text.items) }
     ensures all_back { AreGivenBack (D.handed acceptor.door) (D.handed result.1) (D.given acceptor.door) (D.given result.1) }
     ensures readers { AreMore (readers_in owner.positions.items) (D.given acceptor.door) (D.given result.1) }
     ensures faults { IfErr result.0 (λ e. (e ≡ HubFault.LinkFault) ⊎ (e ≡ HubFault.NoMemory)) }
@@ -118,7 +119,8 @@ fn finish<
 /// out on its link.
 /// Answers the journal of what happened, with the archives in the end, and gives back the door with the links of the readers that
 /// were started, in the order of the connections. The journal's events are a merge of what each reader read, each piece once and
-/// in order. A connection is gone where a read fails, where its end is read, and where it gave as much as one may.
+/// in order. Their moments are all that the clock told meanwhile, and for each connection the bytes were drawn that its event
+/// has, and no others. A connection is gone where a read fails, where its end is read, and where it gave as much as one may.
 ///
 /// `LinkFault`, `NoWorker` and `EntropyFault` come only where the count of faults rose of the door, of the spawner and of the
 /// source of random bytes: where several did, that which was met first. After `LinkFault` all links that the door handed out
@@ -145,10 +147,11 @@ pub fn serve_started<
     requires going { IsGoing (λ r. bares_of r.events.items) owner }
     requires held { IsHeld I.told (λ r. numbers_of O.told r.senders.items) owner }
     requires many { length (numbers_of O.told owner.taker.senders.items) ≡ length owner.positions.items }
-    requires kept { IsKept O.told (C.moment clock.old) (E.bytes entropy.old) owner.taker }
+    requires kept { IsKept O.told [] [] owner.taker }
     requires met { owner.met ≡ None }
     requires queue { sends_on acceptor.to ≡ sends_on owner.to }
-    ensures served { IfOk result.0 (λ text. HasServed (accounts_text owner.taker.file) acceptor.count (C.moment clock.old) (E.bytes entropy.old) (D.given acceptor.door) (D.given result.1) text.items) }
+    ensures served { IfOk result.0 (λ text. ToldSince (C.told clock.old) (E.drawn entropy.old) (C.told clock.new) (E.drawn entropy.new)
+        (λ told drawn. HasServed (accounts_text owner.taker.file) acceptor.count told drawn (D.given acceptor.door) (D.given result.1) text.items)) }
     ensures given { AreAfter (D.given acceptor.door) (D.given result.1) }
     ensures readers { HasReaders (readers_in owner.positions.items) (D.given acceptor.door) (D.given result.1) (S.started spawner.old) (S.started spawner.new) }
     ensures faults { IfErr result.0 (λ e. IsOwn e) }

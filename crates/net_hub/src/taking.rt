@@ -15,7 +15,7 @@ impl<O: Outgoing + Drop> Taker<O> for Recorder<O> {
 
     ghost numbers = { λ s. numbers_of O.told s.senders.items };
 
-    ghost keeps = { λ s moment drawn. IsKept O.told moment drawn s };
+    ghost keeps = { λ s moments drawn. IsKept O.told moments drawn s };
 
     ghost fixed = { λ s. accounts_text s.file };
 

@@ -2,7 +2,7 @@
 //!
 //! `serve_together` takes the door by value and answers it: a spawner that refuses the acceptor's job drops it, and
 //! the door with it. A fault of the door is none of the owner's troubles: no connection comes behind it.
-ghost use Rattle.std.specs.Prelude.{◌≡◌, ◌≢◌, ◌⊎◌, ℕ, List, Option, [], Err, IfErr, IfOk, IfSome, IsErrOf, IsSome, MatchOption};
+ghost use Rattle.std.specs.Prelude.{◌≡◌, ◌≢◌, ◌⊎◌, ℕ, List, [], Err, IfErr, IfOk, IfSome, IsErrOf, IsSome, MatchOption};
 ghost use Rattle.base_io.specs.Counts.{Rose};
 ghost use Rattle.net_hub.specs.Backs.{AreAfter};
 ghost use Rattle.net_hub.specs.Joined.{HasWorkers};
@@ -10,6 +10,7 @@ ghost use Rattle.net_hub.specs.Served.{HasServed, IsOwn, IsRefusal};
 ghost use Rattle.cmd_journal.specs.AccountsFiles.{IsAccountsFile, accounts_text};
 ghost use Rattle.net_hub.specs.Records.{IsKept};
 ghost use Rattle.net_hub.specs.GivenLinks.{AreFewer, AreGivenBack};
+ghost use Rattle.net_traits.specs.ToldSince.{ToldSince};
 
 use crate::fault::HubFault;
 use crate::recorder::Recorder;
@@ -43,9 +44,10 @@ fn serve_with<
 ) -> (Result<Bytes, HubFault>, Option<D>)
 where
     D::Link: Send + 'static,
-    requires kept { IsKept O.told (C.moment clock.old) (E.bytes entropy.old) recorder }
+    requires kept { IsKept O.told [] [] recorder }
     requires fresh { (recorder.events.items ≡ []) × (recorder.senders.items ≡ []) }
-    ensures served { IfOk result.0 (λ text. IfSome result.1 (λ new. HasServed (accounts_text recorder.file) n (C.moment clock.old) (E.bytes entropy.old) (D.given door) (D.given new) text.items)) }
+    ensures served { IfOk result.0 (λ text. IfSome result.1 (λ new. ToldSince (C.told clock.old) (E.drawn entropy.old) (C.told clock.new) (E.drawn entropy.new)
+        (λ told drawn. HasServed (accounts_text recorder.file) n told drawn (D.given door) (D.given new) text.items))) }
     ensures given { IfSome result.1 (λ new. AreAfter (D.given door) (D.given new)) }
     ensures workers { MatchOption result.1 (S.started spawner.new ≡ S.started spawner.old) (λ new. HasWorkers (D.given door) (D.given new) (S.started spawner.old) (S.started spawner.new)) }
     ensures faults { IfErr result.0 (λ e. IsOwn e) }
@@ -74,7 +76,7 @@ where
 // milliseconds each.
 fn ready<O: Outgoing + Drop>(alloc: Global, file: AccountsFile) -> Result<Recorder<O>, NoMemory>
     requires right { IsAccountsFile file }
-    ensures kept { IfOk result (λ r. (moment : Option ℕ) (drawn : Option (List ℕ)) → IsKept O.told moment drawn r) }
+    ensures kept { IfOk result (λ r. IsKept O.told [] [] r) }
     ensures fresh { IfOk result (λ r. (r.events.items ≡ []) × (r.senders.items ≡ [])) }
     ensures text { IfOk result (λ r. accounts_text r.file ≡ accounts_text file) }
 {
@@ -119,7 +121,8 @@ pub fn serve_together<
 ) -> (Result<Bytes, HubFault>, Option<D>)
 where
     D::Link: Send + 'static,
-    ensures served { IfOk result.0 (λ text. IfSome result.1 (λ new. HasServed accounts.now n (C.moment clock.old) (E.bytes entropy.old) (D.given door) (D.given new) text.items)) }
+    ensures served { IfOk result.0 (λ text. IfSome result.1 (λ new. ToldSince (C.told clock.old) (E.drawn entropy.old) (C.told clock.new) (E.drawn entropy.new)
+        (λ told drawn. HasServed accounts.now n told drawn (D.given door) (D.given new) text.items))) }
     ensures bad { IfErr result.0 (λ e. IsRefusal accounts.now e) }
     ensures back { IfSome result.1 (λ new. AreAfter (D.given door) (D.given new)) }
     ensures workers { MatchOption result.1 (S.started spawner.new ≡ S.started spawner.old) (λ new. HasWorkers (D.given door) (D.given new) (S.started spawner.old) (S.started spawner.new)) }

@@ -1,7 +1,9 @@
 -- Links, doors and dialers in memory: what clauses see of them, and what a call does to them.
-use Rattle.std.specs.Prelude.{◌≡◌, ℕ, List, [], Some, None, map}
+use Rattle.std.specs.Prelude.{◌≡◌, ◌≤◌, ◌++◌, ℕ, zero, suc, List, [], Some, None, map}
+use Rattle.std.specs.List.{AllByRecursion}
 use Rattle.base_io.specs.Counts.{counted}
 use Rattle.net_traits.specs.Links.{LinkView}
+use Rattle.net_traits.specs.declared.clock.TheConstants.{LAST_MOMENT_TOLD}
 
 -- the calls made so far, and the numbers of those that fail, from 1
 pub record CallsView : Type 0 where
@@ -80,11 +82,33 @@ pub record MemoryDialerView : Type 0 where
 abbrev pub new_dialer : List MemoryLinkView → List ℕ → MemoryDialerView
 new_dialer links fails = record { supply = new_supply links fails; given = []; faults = 0; ends = 0; handed = 0 }
 
--- what gives the same bytes at each call
+-- a clock that stands still, and what it told
+pub record MemoryClockView : Type 0 where
+  pub moment : ℕ
+  pub told : List ℕ
+
+abbrev pub new_clock : ℕ → MemoryClockView
+new_clock moment = record { moment = moment; told = [] }
+
+-- the moment may be told, and no other was
+pub record IsStill (moment : ℕ) (told : List ℕ) : Type 0 where
+  pub last : moment ≤ LAST_MOMENT_TOLD
+  pub same : AllByRecursion (λ m. m ≡ moment) told
+
+-- what gives the same bytes at each call, and what was drawn of it
 pub record MemoryEntropyView : Type 0 where
   pub bytes : List ℕ
   pub calls : CallsView
   pub faults : ℕ
+  pub drawn : List ℕ
+
+-- bytes so many times
+abbrev pub times : ℕ → List ℕ → List ℕ
+times zero bytes = []
+times (suc n) bytes = times n bytes ++ bytes
+
+abbrev pub AreRepeated : List ℕ → List ℕ → Type 0
+AreRepeated bytes drawn = (n : ℕ) × (drawn ≡ times n bytes)
 
 abbrev pub new_entropy : List ℕ → List ℕ → MemoryEntropyView
-new_entropy bytes fails = record { bytes = bytes; calls = not_called fails; faults = 0 }
+new_entropy bytes fails = record { bytes = bytes; calls = not_called fails; faults = 0; drawn = [] }

@@ -1,5 +1,6 @@
 pub use Rattle.base_io.specs.Counts
 pub use Rattle.net_traits.specs.Links
+pub use Rattle.net_traits.specs.ToldSince
 -- law
 pub mod Merge
 -- machine

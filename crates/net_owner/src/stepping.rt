@@ -1,9 +1,10 @@
 //! How the owner goes on from item to item.
-ghost use Rattle.std.specs.Prelude.{◌≡◌, ◌≤◌, ◌<◌, ◌+◌, ◌++◌, ◌∷◌, [], true, false, length, vec_len, ℕ, Bool, List, None, Option, IfOk, MatchOption, OnOk};
+ghost use Rattle.std.specs.Prelude.{◌≡◌, ◌≤◌, ◌<◌, ◌+◌, ◌++◌, ◌∷◌, [], true, false, length, vec_len, ℕ, Bool, List, None, IfOk, MatchOption, OnOk};
 ghost use Rattle.std.specs.Vec.{vec_capacity};
 ghost use Rattle.crossbeam_channel.specs.Claims.{IsSeatAt, view};
 ghost use Rattle.crossbeam_channel.specs.Ends.{sends_on};
 ghost use Rattle.net_traits.specs.Halves.{IsUnusedPair};
+ghost use Rattle.net_traits.specs.ToldSince.{ToldSince};
 ghost use Rattle.net_owner.specs.Arrivals.{has_closed};
 ghost use Rattle.net_owner.specs.Events.{AreMerged};
 ghost use Rattle.net_owner.specs.Halves.{IsHeld};
@@ -128,17 +129,16 @@ impl<
         requires going { IsGoing T.events self.old }
         requires held { IsHeld I.told T.numbers self.old }
         requires many { length (T.numbers self.old.taker) ≡ length self.old.positions.items }
-        requires right { T.keeps self.old.taker (C.moment clock.old) (E.bytes entropy.old) }
+        requires right { (moments drawn : List ℕ) × T.keeps self.old.taker moments drawn }
         ensures going { OnOk result (IsGoing T.events self.new) }
         ensures queue { self.new.to ≡ self.old.to }
         ensures held { IsHeld I.told T.numbers self.new }
         ensures readers { HasStarted self.old.positions.items self.new.positions.items (S.started spawner.old) (S.started spawner.new) }
         ensures many { OnOk result (length (T.numbers self.new.taker) ≡ length self.new.positions.items) }
-        ensures right { OnOk result (T.keeps self.new.taker (C.moment clock.old) (E.bytes entropy.old)) }
+        ensures right { (told drawn : List ℕ) → ToldSince told drawn (C.told clock.old) (E.drawn entropy.old) (T.keeps self.old.taker)
+            → OnOk result (ToldSince told drawn (C.told clock.new) (E.drawn entropy.new) (T.keeps self.new.taker)) }
         ensures met { (s e : ℕ) → HasMet self.old.met s e (S.faults spawner.old) (E.faults entropy.old) → OnOk result (HasMet self.new.met s e (S.faults spawner.new) (E.faults entropy.new)) }
         ensures fixed { T.fixed self.new.taker ≡ T.fixed self.old.taker }
-        ensures moment { C.moment clock.new ≡ C.moment clock.old }
-        ensures bytes { E.bytes entropy.new ≡ E.bytes entropy.old }
     {
         let item = take(&self.rt, &self.at, &mut self.pass);
         self.hear(spawner, clock, entropy, item)
@@ -156,17 +156,16 @@ impl<
         requires going { IsPending T.events self.old item }
         requires held { IsHeld I.told T.numbers self.old }
         requires many { length (T.numbers self.old.taker) ≡ length self.old.positions.items }
-        requires right { T.keeps self.old.taker (C.moment clock.old) (E.bytes entropy.old) }
+        requires right { (moments drawn : List ℕ) × T.keeps self.old.taker moments drawn }
         ensures going { OnOk result (IsGoing T.events self.new) }
         ensures queue { self.new.to ≡ self.old.to }
         ensures held { IsHeld I.told T.numbers self.new }
         ensures readers { HasStarted self.old.positions.items self.new.positions.items (S.started spawner.old) (S.started spawner.new) }
         ensures many { OnOk result (length (T.numbers self.new.taker) ≡ length self.new.positions.items) }
-        ensures right { OnOk result (T.keeps self.new.taker (C.moment clock.old) (E.bytes entropy.old)) }
+        ensures right { (told drawn : List ℕ) → ToldSince told drawn (C.told clock.old) (E.drawn entropy.old) (T.keeps self.old.taker)
+            → OnOk result (ToldSince told drawn (C.told clock.new) (E.drawn entropy.new) (T.keeps self.new.taker)) }
         ensures met { (s e : ℕ) → HasMet self.old.met s e (S.faults spawner.old) (E.faults entropy.old) → OnOk result (HasMet self.new.met s e (S.faults spawner.new) (E.faults entropy.new)) }
         ensures fixed { T.fixed self.new.taker ≡ T.fixed self.old.taker }
-        ensures moment { C.moment clock.new ≡ C.moment clock.old }
-        ensures bytes { E.bytes entropy.new ≡ E.bytes entropy.old }
     {
         let Item { from, what } = item;
         match what {
@@ -196,10 +195,10 @@ impl<
         ensures held { IsHeld I.told T.numbers self.new }
         ensures workers { workers_of self.new.positions.items ≡ workers_of self.old.positions.items }
         ensures many { length (T.numbers self.new.taker) ≡ length self.new.positions.items }
-        ensures right { (drawn : Option (List ℕ)) → T.keeps self.old.taker (C.moment clock.old) drawn → OnOk result (T.keeps self.new.taker (C.moment clock.old) drawn) }
+        ensures right { (told drawn now : List ℕ) → ToldSince told drawn (C.told clock.old) now (T.keeps self.old.taker)
+            → OnOk result (ToldSince told drawn (C.told clock.new) now (T.keeps self.new.taker)) }
         ensures met { self.new.met ≡ self.old.met }
         ensures fixed { T.fixed self.new.taker ≡ T.fixed self.old.taker }
-        ensures moment { C.moment clock.new ≡ C.moment clock.old }
     {
         match started(self.positions.as_slice(), from) {
             None => Ok(()),
@@ -217,10 +216,10 @@ impl<
         ensures held { IsHeld I.told T.numbers self.new }
         ensures workers { workers_of self.new.positions.items ≡ workers_of self.old.positions.items }
         ensures many { length (T.numbers self.new.taker) ≡ length self.new.positions.items }
-        ensures right { (drawn : Option (List ℕ)) → T.keeps self.old.taker (C.moment clock.old) drawn → OnOk result (T.keeps self.new.taker (C.moment clock.old) drawn) }
+        ensures right { (told drawn now : List ℕ) → ToldSince told drawn (C.told clock.old) now (T.keeps self.old.taker)
+            → OnOk result (ToldSince told drawn (C.told clock.new) now (T.keeps self.new.taker)) }
         ensures met { self.new.met ≡ self.old.met }
         ensures fixed { T.fixed self.new.taker ≡ T.fixed self.old.taker }
-        ensures moment { C.moment clock.new ≡ C.moment clock.old }
     {
         match started(self.positions.as_slice(), from) {
             None => Ok(()),
@@ -256,17 +255,16 @@ impl<
         requires coming { IsComing T.events self.old }
         requires held { IsHeld I.told T.numbers self.old }
         requires many { length (T.numbers self.old.taker) ≡ length self.old.positions.items }
-        requires right { T.keeps self.old.taker (C.moment clock.old) (E.bytes entropy.old) }
+        requires right { (moments drawn : List ℕ) × T.keeps self.old.taker moments drawn }
         ensures going { OnOk result (IsGoing T.events self.new) }
         ensures queue { self.new.to ≡ self.old.to }
         ensures held { IsHeld I.told T.numbers self.new }
         ensures readers { HasStarted self.old.positions.items self.new.positions.items (S.started spawner.old) (S.started spawner.new) }
         ensures many { OnOk result (length (T.numbers self.new.taker) ≡ length self.new.positions.items) }
-        ensures right { OnOk result (T.keeps self.new.taker (C.moment clock.old) (E.bytes entropy.old)) }
+        ensures right { (told drawn : List ℕ) → ToldSince told drawn (C.told clock.old) (E.drawn entropy.old) (T.keeps self.old.taker)
+            → OnOk result (ToldSince told drawn (C.told clock.new) (E.drawn entropy.new) (T.keeps self.new.taker)) }
         ensures met { (s e : ℕ) → HasMet self.old.met s e (S.faults spawner.old) (E.faults entropy.old) → OnOk result (HasMet self.new.met s e (S.faults spawner.new) (E.faults entropy.new)) }
         ensures fixed { T.fixed self.new.taker ≡ T.fixed self.old.taker }
-        ensures moment { C.moment clock.new ≡ C.moment clock.old }
-        ensures bytes { E.bytes entropy.new ≡ E.bytes entropy.old }
     {
         self.make_room()?;
         let (incoming, outgoing) = pair.apart();
@@ -301,7 +299,7 @@ impl<
         requires coming { IsComing T.events self.old }
         requires held { IsHeld I.told T.numbers self.old }
         requires many { length (T.numbers self.old.taker) ≡ length self.old.positions.items }
-        requires right { T.keeps self.old.taker (C.moment clock.old) (E.bytes entropy.old) }
+        requires right { (moments drawn : List ℕ) × T.keeps self.old.taker moments drawn }
         requires room { vec_len self.old.positions < vec_capacity self.old.positions }
         requires pair { IsUnusedPair (I.told incoming) (O.told outgoing) }
         ensures going { OnOk result (IsGoing T.events self.new) }
@@ -309,11 +307,10 @@ impl<
         ensures held { IsHeld I.told T.numbers self.new }
         ensures readers { HasStarted self.old.positions.items self.new.positions.items (S.started spawner.old) (S.started spawner.new) }
         ensures many { OnOk result (length (T.numbers self.new.taker) ≡ length self.new.positions.items) }
-        ensures right { OnOk result (T.keeps self.new.taker (C.moment clock.old) (E.bytes entropy.old)) }
+        ensures right { (told drawn : List ℕ) → ToldSince told drawn (C.told clock.old) (E.drawn entropy.old) (T.keeps self.old.taker)
+            → OnOk result (ToldSince told drawn (C.told clock.new) (E.drawn entropy.new) (T.keeps self.new.taker)) }
         ensures met { (s e : ℕ) → HasMet self.old.met s e (S.faults spawner.old) (E.faults entropy.old) → OnOk result (HasMet self.new.met s e (S.faults spawner.new) (E.faults entropy.new)) }
         ensures fixed { T.fixed self.new.taker ≡ T.fixed self.old.taker }
-        ensures moment { C.moment clock.new ≡ C.moment clock.old }
-        ensures bytes { E.bytes entropy.new ≡ E.bytes entropy.old }
     {
         let number = self.positions.as_slice().len() as u64 + 1;
         let to = self.to.try_clone()?;
@@ -346,8 +343,9 @@ impl<
     /// Goes on until no more connections are taken in, and each reader that was started has ended. The events are a merge of
     /// what was taken of each reader. Where nothing went wrong outside, each connection that was taken of the acceptor has its
     /// place and its reader. What went wrong is kept in `met`, and the run goes on. Whatever the answer, no reader that was started
-    /// is lost: each stands at its place, behind those that were there.
-    #[tactic(auto, using(crate::proofs::MoreReaders::as_they_were, crate::proofs::MoreReaders::started_on))]
+    /// is lost: each stands at its place, behind those that were there. What the taker keeps is of all that the clock told and of
+    /// all that was drawn meanwhile.
+    #[tactic(auto, using(crate::proofs::MoreReaders::as_they_were, crate::proofs::MoreReaders::started_on, net_traits::proofs::ToldSince::since_start))]
     pub fn run<S: Spawner, C: Clock, E: Entropy>(
         &mut self,
         spawner: &mut S,
@@ -357,7 +355,7 @@ impl<
         requires going { IsGoing T.events self.old }
         requires held { IsHeld I.told T.numbers self.old }
         requires many { length (T.numbers self.old.taker) ≡ length self.old.positions.items }
-        requires right { T.keeps self.old.taker (C.moment clock.old) (E.bytes entropy.old) }
+        requires right { T.keeps self.old.taker [] [] }
         requires met { self.old.met ≡ None }
         ensures going { OnOk result (IsGoing T.events self.new) }
         ensures over { OnOk result (are_over self.new.positions.items ≡ true) }
@@ -367,11 +365,9 @@ impl<
         ensures held { IsHeld I.told T.numbers self.new }
         ensures readers { HasStarted self.old.positions.items self.new.positions.items (S.started spawner.old) (S.started spawner.new) }
         ensures many { OnOk result (length (T.numbers self.new.taker) ≡ length self.new.positions.items) }
-        ensures right { OnOk result (T.keeps self.new.taker (C.moment clock.old) (E.bytes entropy.old)) }
+        ensures right { OnOk result (ToldSince (C.told clock.old) (E.drawn entropy.old) (C.told clock.new) (E.drawn entropy.new) (T.keeps self.new.taker)) }
         ensures met { OnOk result (HasMet self.new.met (S.faults spawner.old) (E.faults entropy.old) (S.faults spawner.new) (E.faults entropy.new)) }
         ensures fixed { T.fixed self.new.taker ≡ T.fixed self.old.taker }
-        ensures moment { C.moment clock.new ≡ C.moment clock.old }
-        ensures bytes { E.bytes entropy.new ≡ E.bytes entropy.old }
     {
         let rt = self.rt;
         for _ in rt.forever() {

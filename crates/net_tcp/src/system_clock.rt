@@ -1,19 +1,26 @@
 //! The system's clock.
-ghost use Rattle.std.specs.Prelude.{None};
+ghost use Rattle.std.specs.Prelude.{◌≡◌, []};
 
+use base_log::Log;
 use net_traits::{Clock, LAST_MOMENT_TOLD};
 use std::time::{self, SystemTime};
 
-/// The system's clock. Where the system tells no time, or one before 1970, it is 0.
+/// The system's clock. It tells what it answered. Where the system tells no time, or one before 1970, it is 0.
 #[derive(Drop)]
 pub struct SystemClock<'a, R> {
     clock: &'a R,
+    log: Log,
 }
 
 impl<'a, R: time::Clock> SystemClock<'a, R> {
-    /// The clock.
-    pub fn new(clock: &'a R) -> SystemClock<'a, R> {
-        SystemClock { clock }
+    /// The clock, which has answered nothing yet.
+    pub fn new(clock: &'a R) -> SystemClock<'a, R>
+        ensures { ⟦<SystemClock<'a, R> as Clock>⟧.told result ≡ [] }
+    {
+        SystemClock {
+            clock,
+            log: Log::new(),
+        }
     }
 }
 
@@ -29,9 +36,11 @@ fn since_1970<R: time::Clock>(clock: &R) -> u128 {
 }
 
 impl<'a, R: time::Clock> Clock for SystemClock<'a, R> {
-    ghost moment = { λ _. None };
+    ghost told = { λ s. s.log.items };
 
     fn now_ms(&mut self) -> u64 {
-        since_1970(self.clock).min(u128::from(LAST_MOMENT_TOLD)) as u64
+        let now = since_1970(self.clock).min(u128::from(LAST_MOMENT_TOLD)) as u64;
+        self.log.note_number(now);
+        now
     }
 }

@@ -1,6 +1,8 @@
 pub use Rattle.base_io.specs.Counts
 pub use Rattle.base_io.specs.Prefixes
 pub mod Links
+-- law
+pub mod ToldSince
 -- view
 pub mod GivenBack
 pub mod Halves

@@ -1,19 +1,19 @@
 //! Sources of random bytes.
-ghost use Rattle.std.specs.Prelude.{List, Option, ℕ, ◌≡◌, OnOk, IfSome};
+ghost use Rattle.std.specs.Prelude.{List, ℕ, ◌≡◌, ◌++◌, OnErr, OnOk};
 ghost use Rattle.base_io.specs.Counts.{HasCause};
 
 use base_io::Failed;
 
-/// A source of bytes that are drawn at random. Contracts alone see two things of it: `bytes`, which it gives at each call,
-/// where it tells them, and `faults`, how many of its calls failed, which stays at 2^64 - 1 once there.
+/// A source of bytes that are drawn at random. Contracts alone see two things of it: `drawn`, the bytes that its calls gave so
+/// far, in order, and `faults`, how many of its calls failed, which stays at 2^64 - 1 once there.
 pub trait Entropy {
-    ghost bytes: { Self → Option (List ℕ) };
+    ghost drawn: { Self → List ℕ };
 
     ghost faults: { Self → ℕ };
 
-    /// Draws 24 bytes. `Failed` comes only where `faults` rose in this call.
+    /// Draws 24 bytes. `Failed` comes only where `faults` rose in this call, and then none were drawn.
     fn fill(&mut self, out: &mut [u8; 24]) -> Result<(), Failed>
-        ensures told { OnOk result (IfSome (bytes self.old) (λ bytes. out.new ≡ bytes)) }
-        ensures kept { bytes self.new ≡ bytes self.old }
+        ensures drawn { OnOk result (drawn self.new ≡ drawn self.old ++ out.new) }
+        ensures none { OnErr result (drawn self.new ≡ drawn self.old) }
         ensures cause { HasCause (faults self.old) (faults self.new) result };
 }

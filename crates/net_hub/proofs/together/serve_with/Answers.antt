@@ -5,12 +5,13 @@ use Rattle.net_hub.proofs.Served.{ok_then, served_as}
 use Rattle.net_hub.proofs.together.serve_with.Goals as goal
 use Rattle.cmd_journal.specs.AccountsFiles.{accounts_text}
 use Rattle.net_hub.specs.GivenLinks.{AreFewer, AreGivenBack}
+use Rattle.net_traits.proofs.ToldSince.{since_such}
 
 pub returns-in-Ok-start-clause-served : goal.returns-in-Ok-start-clause-served
 returns-in-Ok-start-clause-served g c =
     ok_then _ _ c.serve_started-served.result.0
-    (λ text is. served_as _ _ _ c.args.n (g.C.Clock.moment c.args.clock.now) (g.E.Entropy.bytes c.args.entropy.now) _ _ _ text.items (ap (λ r. accounts_text r.file) c.in-Ok.ensures.taker)
-    (ap (λ j. j.count) c.in-Ok-start.ensures.job ∙ c.new-2.ensures.count) (ap g.D.Door.given (ap (λ j. j.door) c.in-Ok-start.ensures.job ∙ c.new-2.ensures.door)) is)
+    (λ text since. since_such _ _ since (served_as _ _ _ c.args.n since.moments since.bytes _ _ _ text.items (ap (λ r. accounts_text r.file) c.in-Ok.ensures.taker)
+    (ap (λ j. j.count) c.in-Ok-start.ensures.job ∙ c.new-2.ensures.count) (ap g.D.Door.given (ap (λ j. j.door) c.in-Ok-start.ensures.job ∙ c.new-2.ensures.door)) since.such))
     c.serve_started-served.ensures.served
 
 pub returns-in-Ok-start-clause-all_back : goal.returns-in-Ok-start-clause-all_back

@@ -1,4 +1,4 @@
-use Rattle.std.proofs.Common.{◌≤◌, ◌++◌, ap, sym, subst}
+use Rattle.std.proofs.Common.{◌≤◌, [], ◌∷◌, ◌++◌, ap, sym, subst}
 use Rattle.std.specs.Prelude.{IsTrue}
 use Rattle.srv_state.specs.Seen.{outs_of}
 use Rattle.cmd_journal.specs.Journals.{are_bytes}
@@ -12,12 +12,12 @@ use Rattle.srv_core.specs.Events.{IsAfterBytes}
 use Rattle.xml_writer.specs.Items.{written_item}
 
 pub returns-clause-kept : goal.returns-clause-kept
-returns-clause-kept g c = λ moment drawn kept at.
+returns-clause-kept g c = λ moments drawn kept.
     let told = g.O.Outgoing.told in let old = c.args.self.now in let outs = c.bytes.new.outputs.items in let new = c.send_all.new.senders.items in
-    subst (λ es. IsKeptBy told moment drawn old.file es c.bytes.new.self new) (sym c.in_ok-add_event.ensures)
-    (kept_piece told moment drawn old.file (views_of old.events.items) old.server old.senders.items kept c.args.k c.args.now c.args.piece.items c.bytes.new.self outs new
+    subst (λ es. IsKeptBy told (moments ++ c.args.now ∷ []) drawn old.file es c.bytes.new.self new) (sym c.in_ok-add_event.ensures)
+    (kept_piece told moments drawn old.file (views_of old.events.items) old.server old.senders.items kept c.args.k c.args.now c.args.piece.items c.bytes.new.self outs new
     c.requires.position.0 (subst (λ n. c.args.k ≤ n) (many told old.senders.items) c.requires.position.1) c.requires.moment c.requires.some
-    (subst (λ b. IsTrue (are_bytes b)) c.as_slice-read.ensures c.are_bytes.ensures) at
+    (subst (λ b. IsTrue (are_bytes b)) c.as_slice-read.ensures c.are_bytes.ensures)
     (piece_is c.args.k c.args.piece.items c.args.now old.server c.bytes.new.self c.new-outputs.result.items outs c.new-outputs.ensures
     (subst (λ b. IsAfterBytes written_item c.args.k b c.args.now old.server (outs_of c.new-outputs.result.items) c.bytes.new.self (outs_of outs)) c.as_slice-read.ensures c.in_ok-bytes.ensures.ok))
     c.send_all.ensures.numbers

@@ -61,10 +61,8 @@ returns-in_err-gone-in-Err-clause-held g c =
     (c.connect.ensures.halves.0, c.gone.ensures.halves ∙ c.connect.ensures.halves.1) c.requires.held
 
 pub returns-in_ok-gone-in-Err-clause-right : goal.returns-in_ok-gone-in-Err-clause-right
-returns-in_ok-gone-in-Err-clause-right g c =
-    let drawn = g.E.Entropy.bytes c.args.entropy.now in
-    subst (λ m. g.T.Taker.keeps c.gone.new.self m drawn) c.connect.ensures.moment
-    (c.in_ok-gone-in-Err.ensures.right drawn (subst (λ m. g.T.Taker.keeps c.connect.new.self m drawn) (sym c.connect.ensures.moment) c.in_ok-connect.ensures.right))
+returns-in_ok-gone-in-Err-clause-right g c = λ told drawn since.
+    c.in_ok-gone-in-Err.ensures.right told drawn (g.E.Entropy.drawn c.connect.new.entropy) (c.in_ok-connect.ensures.right told drawn since)
 
 pub returns-in-Ok-clause-readers : goal.returns-in-Ok-clause-readers
 returns-in-Ok-clause-readers g c =

@@ -6,3 +6,6 @@ returns-then-all_ended-clause-merged g c = merged _ _ _ c.loop.invariant.going.k
 
 pub returns-then-all_ended-clause-closed : goal.returns-then-all_ended-clause-closed
 returns-then-all_ended-clause-closed g c = c.loop.invariant.going.here.last c.if-self.true
+
+pub step-requires-clause-right : goal.step-requires-clause-right
+step-requires-clause-right g c κs within = let right = c.loop.invariant.right in (right.moments, right.bytes, right.such)

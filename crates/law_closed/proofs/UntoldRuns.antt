@@ -1,4 +1,4 @@
--- A connection that is not open is told nothing until it comes.
+-- Nothing is put for a connection that is not open, until it comes, and it stays so.
 use Rattle.std.proofs.Common.{◌≡◌, ◌==◌, ◌||◌, ℕ, ◌<◌, true, false, List, [], ◌∷◌, ◌++◌, None, length, ap, refl, subst, sym, ◌∙◌, arith}
 use Rattle.std.proofs.lemmas.Bool.{and_parts, ltb-true}
 use Rattle.std.specs.List.{AllByRecursion}
@@ -8,14 +8,14 @@ use Rattle.cmd_journal.specs.AccountsFiles.{AccountsView}
 use Rattle.cmd_journal.specs.Journals.{AreEvents, Connect, EventView, Gone, Piece, are_bytes, begun_last, is_connection, is_moment, may_happen}
 use Rattle.cmd_rerun.specs.Reruns.{Run, after_event, after_events, run_at_start}
 use Rattle.srv_core.specs.Telling.{is_shut, is_told}
-use Rattle.cmd_rerun.proofs.Adding.{events_add, events_then}
-use Rattle.cmd_rerun.specs.Happening.{still}
+use Rattle.cmd_rerun.proofs.Adding.{adds, events_add, events_then}
+use Rattle.cmd_rerun.specs.Happening.{happens, still}
 use Rattle.cmd_rerun.proofs.Entries.{absent_found, apart_from, found_absent, same_is}
 use Rattle.cmd_rerun.proofs.EventSteps.{comes_sound, event_gone, events_gone, gone_closed, later_sound, step_of}
 use Rattle.cmd_rerun.proofs.Silence.{IsGone}
 use Rattle.cmd_rerun.proofs.Soundness.{IsSound}
 use Rattle.cmd_rerun.specs.Silence.{IsApart, IsOther, Quiet}
-use Rattle.law_hub.specs.Untold.{TellsOthers, ran}
+use Rattle.law_closed.specs.Untold.{TellsOthers, ran}
 
 quiet_shut : {A : Type 0} (k : ℕ) (o : Out A) → IsApart k o → is_shut k o ≡ false
 quiet_shut k (Put j a) apart = refl
@@ -69,17 +69,36 @@ start_orderly file = record {
 ran_sound : (file : AccountsView) (events : List EventView) → AreEvents 0 events → (k : ℕ) → IsSound k (step_of (ran file events))
 ran_sound file events are k = events_sound 0 events (run_at_start file) are (start_orderly file) k
 
-pub told_nothing : (file : AccountsView) (events later : List EventView) (k : ℕ) → AreEvents 0 events → conn_at k (ran file events).server.server_state ≡ None → AllByRecursion (IsOther k) later
-    → TellsOthers k (ran file events).outs (ran file (events ++ later)).outs
-told_nothing file events later k are closed others =
+-- it is not open, and so it stays; what later events put out is not of it
+later_gone : (file : AccountsView) (events later : List EventView) (k : ℕ) → AreEvents 0 events → conn_at k (ran file events).server.server_state ≡ None → AllByRecursion (IsOther k) later
+    → IsGone k (step_of (after_events later (still (ran file events).server)))
+later_gone file events later k are closed others =
     let r = ran file events in
     let absent = found_absent k r.server.server_state.conns closed in
     let gone : IsGone k (step_of (still r.server)) = record { absent = absent; none = (ran_sound file events are k).left absent; quiet = tt } in
-    record {
-      more = (after_events later (still r.server)).outs;
-      added = ap (λ (u : Run). u.outs) (events_then events later (run_at_start file) ∙ events_add later r);
-      quiet = (events_gone k later (still r.server) others gone).quiet;
-    }
+    events_gone k later (still r.server) others gone
+
+later_added : (file : AccountsView) (events later : List EventView) → ran file (events ++ later) ≡ adds (ran file events).outs (after_events later (still (ran file events).server))
+later_added file events later = events_then events later (run_at_start file) ∙ events_add later (ran file events)
+
+pub quiet_later : (file : AccountsView) (events later : List EventView) (k : ℕ) → AreEvents 0 events → conn_at k (ran file events).server.server_state ≡ None → AllByRecursion (IsOther k) later
+    → Quiet k (happens later (ran file events).server).outs
+unfolding happens
+quiet_later file events later k are closed others = (later_gone file events later k are closed others).quiet
+
+pub told_nothing : (file : AccountsView) (events later : List EventView) (k : ℕ) → AreEvents 0 events → conn_at k (ran file events).server.server_state ≡ None → AllByRecursion (IsOther k) later
+    → TellsOthers k (ran file events).outs (ran file (events ++ later)).outs
+told_nothing file events later k are closed others = record {
+  more = (after_events later (still (ran file events).server)).outs;
+  added = ap (λ (u : Run). u.outs) (later_added file events later);
+  quiet = (later_gone file events later k are closed others).quiet;
+}
+
+pub stays_closed : (file : AccountsView) (events later : List EventView) (k : ℕ) → AreEvents 0 events → conn_at k (ran file events).server.server_state ≡ None → AllByRecursion (IsOther k) later
+    → conn_at k (ran file (events ++ later)).server.server_state ≡ None
+stays_closed file events later k are closed others =
+    ap (λ (u : Run). conn_at k u.server.server_state) (later_added file events later)
+    ∙ absent_found k (after_events later (still (ran file events).server)).server.server_state.conns (later_gone file events later k are closed others).absent
 
 pub shut_closed : (file : AccountsView) (events : List EventView) (k : ℕ) → AreEvents 0 events → is_told k (ran file events).outs ≡ true → conn_at k (ran file events).server.server_state ≡ None
 shut_closed file events k are told = absent_found k (ran file events).server.server_state.conns ((ran_sound file events are k).honest told)

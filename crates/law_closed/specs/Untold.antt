@@ -1,4 +1,4 @@
--- What a connection is told that is not open.
+-- What is put for a connection that is not open.
 use Rattle.std.specs.Prelude.{◌≡◌, ℕ, List, ◌++◌}
 use Rattle.srv_state.specs.State.{Out}
 use Rattle.cmd_journal.specs.AccountsFiles.{AccountsView}

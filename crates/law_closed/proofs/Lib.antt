@@ -1,0 +1,2 @@
+-- ---- a connection that is not open
+pub mod UntoldRuns

@@ -1,0 +1,2 @@
+-- ---- law: what is put for a connection that is not open
+pub mod Untold

@@ -1,0 +1,3 @@
+-- ---- law
+pub mod Standing
+pub mod Stopping
