@@ -1,6 +1,8 @@
 -- what moves leave
 pub mod Changes
 pub mod Calm
+pub mod Staying
+pub mod Spared
 -- rounds
 pub mod Online
 pub mod Counts
