@@ -1,10 +1,9 @@
 -- What reading gives is a file of intents.
-use Rattle.std.proofs.Common.{◌≡◌, ℕ, suc, ◌+◌, ◌<◌, ◌≤◌, Bool, true, false, List, [], ◌∷◌, ◌++◌, Option, Some, None, Result, Ok, Err, length, refl, sym, ap, ◌∙◌, inl, inr, arith}
-use Rattle.std.specs.Prelude.{◌⊎◌, IfOk, IsTrue, nat_lt}
+use Rattle.std.proofs.Common.{◌≡◌, ℕ, ◌+◌, ◌≤◌, Bool, true, false, List, [], ◌∷◌, ◌++◌, Option, Some, None, Result, Ok, Err, length, refl, sym, inl, inr, arith}
+use Rattle.std.specs.Prelude.{◌⊎◌, IfOk, nat_lt}
 use Rattle.std.proofs.lemmas.Bool.{ltb-true}
 use Rattle.cmd_schedule.proofs.BothKinds.{reading_found}
 use Rattle.cmd_schedule.specs.Reading.{Piece, pieces_of}
-use Rattle.cmd_schedule.specs.Schedules.{ScheduleView, WireView}
 use Rattle.cmd_schedule.specs.WireReading.{reading}
 use Rattle.cmd_schedule.specs.declared.fault.ScheduleFault.{ScheduleFault}
 use Rattle.cmd_schedule.specs.declared.fault.ScheduleFault.TheVariants as faults

@@ -1,15 +1,14 @@
 -- Files worked out: what reading short texts answers.
-use Rattle.std.proofs.Common.{◌≡◌, ℕ, List, [], ◌∷◌, ◌++◌, Result, Ok, Err, codes, refl, true, false}
+use Rattle.std.proofs.Common.{◌≡◌, ℕ, List, [], ◌∷◌, ◌++◌, Ok, Err, codes, refl, true}
 use Rattle.std.specs.Str.{chars, is_utf8}
-use Rattle.cmd_schedule.specs.Reading.{Piece, read_account, read_catchup, read_device, read_heading, read_message, read_mode, read_one, read_say, read_two, read_version, read_words}
+use Rattle.cmd_schedule.specs.Reading.{Piece, read_account, read_catchup, read_device, read_heading, read_message, read_mode, read_say, read_two, read_version, read_words}
 use Rattle.cmd_schedule.specs.WireReading.{read_common, read_moves, read_wire_line, read_wire_words, reading}
 use Rattle.cmd_schedule.specs.declared.fault.LineWhy.TheVariants as why
-use Rattle.cmd_schedule.specs.declared.fault.ScheduleFault.{ScheduleFault}
 use Rattle.cmd_schedule.specs.declared.fault.ScheduleFault.TheVariants.{BadLine}
 use Rattle.cmd_schedule.specs.declared.schedule.Step.TheVariants.{Account, Device, Say, Catchup}
 use Rattle.cmd_schedule.specs.declared.schedule.Version.TheVariants.{Two}
 use Rattle.cmd_schedule.specs.declared.schedule.WireStep.TheVariants.{Common}
-use Rattle.cmd_intents.specs.Files.{FileView, beyond, reading_intents, within}
+use Rattle.cmd_intents.specs.Files.{beyond, reading_intents, within}
 
 -- a text of one line, and one of two
 abbrev one : List ℕ → List ℕ

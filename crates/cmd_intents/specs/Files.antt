@@ -5,7 +5,6 @@ use Rattle.cmd_schedule.specs.Reading.{Cut, Piece, cut_of, pieces_of}
 use Rattle.cmd_schedule.specs.Schedules.{WireView}
 use Rattle.cmd_schedule.specs.WireGrammar.{IsWireSchedule}
 use Rattle.cmd_schedule.specs.WireReading.{reading}
-use Rattle.cmd_schedule.specs.declared.fault.LineWhy.{LineWhy}
 use Rattle.cmd_schedule.specs.declared.fault.ScheduleFault.{ScheduleFault}
 use Rattle.cmd_schedule.specs.declared.fault.ScheduleFault.TheVariants.{BadLine}
 use Rattle.cmd_schedule.specs.declared.schedule.Schedule.{Schedule}

@@ -1,4 +1,4 @@
-use Rattle.std.proofs.Common.{◌≡◌, ◌∙◌, ◌+◌, ◌∷◌, ◌++◌, ap, sym, subst, arith, rules, length, List, [], false, true}
+use Rattle.std.proofs.Common.{◌≡◌, ◌∙◌, ◌+◌, ◌++◌, ap, sym, subst, arith, length, [], false, true}
 use Rattle.std.proofs.lemmas.List.{nil_from_length}
 use Rattle.cmd_schedule.specs.Reading.{Piece, pieces_of}
 use Rattle.cmd_intents.specs.Files.{beyond, is_beyond, is_intent, is_resolve, kind_of_line, number_if, within}
