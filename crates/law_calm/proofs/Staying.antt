@@ -2,6 +2,7 @@
 use Rattle.std.proofs.Common.{◌≡◌, ◌≢◌, ℕ, zero, suc, true, false, List, [], ◌∷◌, refl, sym, ap, ◌∙◌, subst, None, Some}
 use Rattle.sim_2_links.proofs.CutLinks.{some_one}
 use Rattle.sim_2_links.proofs.Entries.{at_other, at_same, is_has}
+use Rattle.sim_2_links.proofs.Tables.{cut_stops}
 use Rattle.sim_2_links.specs.Wires.{Wires, Flow, Stop, cut, is_flowing}
 use Rattle.sim_2_links.specs.EndMoves.{with_foot}
 use Rattle.sim_2_links.specs.Stages.{Conn}
@@ -18,10 +19,6 @@ FlowedBefore c d = is_flowing d.wires ≡ true → is_flowing c.wires ≡ true
 
 same_flow : {A : Type 0} (c : Conn A) → FlowedBefore c c
 same_flow c = λ e. e
-
-cut_stops : {A : Type 0} (i j : ℕ) (x : Wires A) → is_flowing (cut i j x) ≡ false
-cut_stops i j (Flow us ds) = refl
-cut_stops i j (Stop us ds lu ld) = refl
 
 foot_flow : {A : Type 0} (x : Wires A) → is_flowing (with_foot x) ≡ is_flowing x
 foot_flow (Flow us ds) = refl
