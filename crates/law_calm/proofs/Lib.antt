@@ -8,4 +8,5 @@ pub mod Online
 pub mod Counts
 pub mod Quiet
 pub mod Sparing
+pub mod Handled
 pub mod Settling

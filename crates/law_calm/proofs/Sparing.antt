@@ -119,11 +119,11 @@ own_enable own epoch sessions (AsksEnable m) e fits = fits.0
 own_enable own epoch sessions (Enables m downs) e fits = fits.0
 own_enable own epoch sessions _ e fits = absurd (let no_way : ⊥ = cc in no_way)
 
-own_online : {A : Type 0} (own : Option (Own A)) (epoch : ℕ) (sessions : Table (Session A)) (s : Stage A) (p : ℕ) → client_of s ≡ InOnline p → FitsOwn own epoch sessions s → IsOwn own p
+pub own_online : {A : Type 0} (own : Option (Own A)) (epoch : ℕ) (sessions : Table (Session A)) (s : Stage A) (p : ℕ) → client_of s ≡ InOnline p → FitsOwn own epoch sessions s → IsOwn own p
 own_online own epoch sessions (Runs q ups downs) p e fits = let same : q ≡ p = cc in subst (IsOwn own) same fits
 own_online own epoch sessions _ p e fits = absurd (let no_way : ⊥ = cc in no_way)
 
-fits_of : {A : Type 0} (v : View A) (k : ℕ) (c : Conn A) → LinkKept v → v.here ≡ Some k → (is : v.conns k ≡ Some c) → (s : Stage A) × (c.client ≡ client_of s) × FitsOwn v.own v.epoch v.sessions s × (up_whole c.wires ≡ up_of s ++ foot_of c.footed) × (down_whole c.wires ≡ down_of s ++ tail_of c.ending)
+pub fits_of : {A : Type 0} (v : View A) (k : ℕ) (c : Conn A) → LinkKept v → v.here ≡ Some k → (is : v.conns k ≡ Some c) → (s : Stage A) × (c.client ≡ client_of s) × FitsOwn v.own v.epoch v.sessions s × (up_whole c.wires ≡ up_of s ++ foot_of c.footed) × (down_whole c.wires ≡ down_of s ++ tail_of c.ending)
 fits_of v k c kept here is =
     let old = kept.conns k c is in
     (old.stage, old.at.client, old.fits (is_has v.here k here), old.at.up, old.at.down)

@@ -30,7 +30,7 @@ cut_flow i j c = λ e. absurd (let no = cut_stops i j c.wires in let no_way : �
 abbrev conns_of : {A : Type 0} (v : View A) → Table (Conn A)
 conns_of v = v.conns
 
-never_fresh : {A : Type 0} (j k : ℕ) (c : Conn A) (v : View A) → v.conns j ≡ None → v.conns k ≡ Some c → j ≢ k
+pub never_fresh : {A : Type 0} (j k : ℕ) (c : Conn A) (v : View A) → v.conns j ≡ None → v.conns k ≡ Some c → j ≢ k
 never_fresh {A = A} j k c v none is same = let no : v.conns k ≡ None = subst (λ x. v.conns x ≡ None) same none in let no_way : ⊥ = cc in no_way
 
 any_flows : {A : Type 0} (move : LinkMove A) (v next : View A) (k : ℕ) (c : Conn A) → LinkMoves move v next → v.conns k ≡ Some c → Changed FlowedBefore k c next

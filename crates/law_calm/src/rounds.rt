@@ -1,9 +1,10 @@
 //! Rounds on the links of one device.
-ghost use Rattle.std.specs.Prelude.{Bool, ◌≡◌, ◌⊎◌, ℕ, ◌≤◌, ◌<◌, [], Some, true};
+ghost use Rattle.std.specs.Prelude.{Bool, ◌≡◌, ◌⊎◌, ℕ, ◌+◌, ◌≤◌, ◌<◌, [], Some, true};
+ghost use Rattle.sm_acks.specs.Delivery.{IsPrefix};
 ghost use Rattle.sim_2_links.specs.Words.{InHeader1, InOnline};
 ghost use Rattle.sim_2_links.specs.Wires.{down_words, is_flowing, up_words};
 ghost use Rattle.sim_2_links.specs.Stages.{Conn};
-ghost use Rattle.sim_2_links.specs.Views.{Own, Row, View};
+ghost use Rattle.sim_2_links.specs.Views.{Own, Row, Session, View};
 ghost use Rattle.sim_2_links.specs.Machine.{LinkReached};
 ghost use Rattle.sim_2_links.specs.Covers.{IsSettled, PromptReached};
 ghost use Rattle.law_calm.specs.Rounds.{AreRounds, IsAny, IsRound, IsStill, rounds_to_go};
@@ -43,4 +44,12 @@ pub fn a_session_that_stays_is_resumed<A>()
     ensures { (v last : View A) (k n : ℕ) (c d : Conn A) (own : Own A) (row ended : Row A) → LinkReached v → v.here ≡ Some k → v.conns k ≡ Some c → v.own ≡ Some own → v.row ≡ Some row → row.number ≡ own.number →
         c.client ≡ InHeader1 → AreRounds IsAny k n v last → 5 ≤ n → last.conns k ≡ Some d → is_flowing d.wires ≡ true → last.row ≡ Some ended → ended.number ≡ row.number →
         (d.client ≡ InOnline own.number) × (last.epoch ≡ v.epoch) }
+{}
+
+/// What the client had put in its session when the rounds began, the server has handled in the end, in its order: where
+/// the connection is open in the end, and the client had fewer rounds to go than there are. What waited is put again by
+/// then, and the last round hands it over.
+pub fn what_was_put_is_handled<A>()
+    ensures { (v last : View A) (k n p : ℕ) (c d : Conn A) (s t : Session A) → LinkReached v → v.here ≡ Some k → v.conns k ≡ Some c → AreRounds IsAny k n v last → rounds_to_go c.client + 1 ≤ n →
+        last.conns k ≡ Some d → is_flowing d.wires ≡ true → d.client ≡ InOnline p → v.sessions p ≡ Some s → last.sessions p ≡ Some t → IsPrefix s.up.put t.up.got }
 {}
