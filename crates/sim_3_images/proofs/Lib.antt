@@ -13,6 +13,7 @@ pub mod Beginnings
 pub mod Emissions
 pub mod ItemsServed
 -- moves
+pub mod NotesTold
 pub mod NetworkMoves
 pub mod UpMoves
 pub mod UserMoves

@@ -15,6 +15,7 @@ use Rattle.sim_3_images.proofs.ServerStatesRendered.{gone_rendered, moment_rende
 use Rattle.sim_3_images.proofs.Lookups.{found_after_removal, get_changed_other, get_changed_same, length_changed, set_changes}
 use Rattle.sim_3_images.proofs.PipeSteps.{due_encodes, is_due, items_due}
 use Rattle.sim_3_images.proofs.WireSteps.{wire_cut, wire_up_told}
+use Rattle.sim_3_images.proofs.NotesTold.{nothing_noted}
 use Rattle.sim_3_images.specs.EncodingsCores.{CoresFit, writer_at, writer_of}
 use Rattle.sim_3_images.specs.ItemRuns.{moved_where}
 use Rattle.sim_3_images.specs.WireEncodings.{WireEncodes}
@@ -90,6 +91,7 @@ module _ (UpFits DownFits : ItemOut → Type 0) (ServerFits : ℕ → ServerStat
       wires = i.wires;
       takes = i.takes;
     };
+    notes = λ j. nothing_noted (slice_get w.devices j);
   }
 
   -- ---- a cut, whose counts hang on what is there
@@ -119,6 +121,7 @@ module _ (UpFits DownFits : ItemOut → Type 0) (ServerFits : ℕ → ServerStat
           wires = both_changed (WireAt UpFits DownFits w v) (WireAt UpFits DownFits w v) (cut_at up down) (pipes.cut_at h.0 h.1) w.wires v.wires position h.2 (λ q other c r x. x) i.wires;
           takes = i.takes;
         };
+        notes = λ j. nothing_noted (slice_get w.devices j);
       }
 
   -- ---- the end of a connection is told to the server

@@ -359,4 +359,4 @@ client_step_is t = ap₂ (λ p e. record { client = t.client; out = record { put
 pub step_adds : (i : Item) (t : Rendered) → Adds t (item_step in_items (silent_client_step t.client) i) (item_step in_items t i)
 step_adds i t =
     let is = ap (λ u. item_step in_items u i) (client_step_is t) ∙ step_b t.out (silent_client_step t.client) i in
-    record { client_is = ap (λ (u : Rendered). u.client) is; put_is = ap (λ (u : Rendered). u.out.put) is }
+    record { client_is = ap (λ (u : Rendered). u.client) is; put_is = ap (λ (u : Rendered). u.out.put) is; notes_is = ap (λ (u : Rendered). u.out.notes) is }

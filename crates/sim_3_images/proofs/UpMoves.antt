@@ -26,6 +26,7 @@ use Rattle.sim_3_images.proofs.ItemsServed.{at_once, changed_none, many_up, serv
 use Rattle.sim_3_images.proofs.Lookups.{get_changed_other, found_after_other_value, found_after_value, length_changed, set_changes}
 use Rattle.sim_3_images.proofs.NetworkMoves.{both_changed, end_is, found_both, number_apart}
 use Rattle.sim_3_images.proofs.WireSteps.{IsUpHanded, all_taken, wire_up}
+use Rattle.sim_3_images.proofs.NotesTold.{up_noted}
 use Rattle.sim_3_images.specs.EncodingsCores.{CoresFit, writer_at}
 use Rattle.sim_3_images.specs.ItemRuns.{AreServedUps, moved_where, ups}
 use Rattle.sim_3_images.specs.PipeEncodings.{AreRead, over, standing}
@@ -306,4 +307,5 @@ module _ (UpFits DownFits : ItemOut → Type 0) (ServerFits : ℕ → ServerStat
         moves = a.moves ++ moved_where (items.UpEnd position) z.ended;
         is_run = (a.moves, z.ended, a.is_served, refl);
         encodes = subst (WorldEncodes UpFits DownFits ServerFits ClientFits (end_reported_up position (served_by position count (slice_get w.wires position) w))) (sym (moved_joined a.moves (moved_where (items.UpEnd position) z.ended) v)) z.encodes;
+        notes = up_noted position count w a.moves z.ended v a.is_served;
       }

@@ -1,4 +1,6 @@
 pub use Rattle.base_io.specs.Listed
+-- machine: what clients note down in a move
+pub mod Notes
 -- law: pipes, connections and worlds of bytes as encodings of those of items
 pub mod PipeEncodings
 pub mod WireEncodings

@@ -173,4 +173,4 @@ module _ (schedule : WireView) (b : Bounds) (says : ℕ) (w : ItemWorld) (x : Ap
   }
 
   pub silent_runs : MoveSimulates schedule b says (Up position) w x runs
-  silent_runs = quiet_move schedule b says w x runs (Up position) 0 refl (λ i d e same. same) (subst (λ (a : ItemWorld). SilentWorld schedule b w x a 0) (sym is_after) quiet)
+  silent_runs = quiet_move schedule b says w x runs (Up position) 0 refl (λ i d e same. same) (λ i. ([], [], refl)) (subst (λ (a : ItemWorld). SilentWorld schedule b w x a 0) (sym is_after) quiet)

@@ -43,7 +43,7 @@ use Rattle.xml_writer.specs.Items.{ItemOut}
 pub record Stands (schedule : WireView) (after : ItemWorld) (x : AppWorld) (i : ℕ) (d : Device) (last : Sessions) (o : Owned) (from : View ItemOut) : Type 0 where
   pub logins : ℕ → Login
   pub view : View ItemOut
-  pub leads : Leads from view
+  pub leads : Leads (λ ds. ds ≡ []) from view
   pub in_time : PagingReached paging_here view
   pub prompt : PromptReached awaits view
   pub represents : Represents (identity_at schedule i o) logins after view
@@ -119,7 +119,7 @@ module _ (schedule : WireView) (b : Bounds) (says : ℕ) (w : ItemWorld) (x : Ap
   next = record x { clock = x.clock + passed; devices = all.devices }
 
   abbrev Comes : (i : ℕ) (o : Owned) → IsOwned schedule i o → Type 0
-  Comes i o is = (e : DeviceSimulates schedule after next i o) × Leads (views i o is) e.view
+  Comes i o is = (e : DeviceSimulates schedule after next i o) × Leads (λ ds. ds ≡ []) (views i o is) e.view
 
   device_comes : (i : ℕ) (o : Owned) (is : IsOwned schedule i o) → Comes i o is
   device_comes i o owned =

@@ -31,7 +31,7 @@ goes schedule w after x i o history done old logins f timely put built =
     record {
       logins = logins;
       view = f.next;
-      leads = (f.moves, f.leads);
+      leads = (f.moves, f.leads, f.does);
       reached = reached_along f.moves old.view f.next reached f.leads;
       in_time = paging_stays f.moves old.view f.next old.device.sessions old.in_time f.leads f.prompt old.sessions (subst (λ ds. AreInTime ds old.device.sessions.now) (sym f.does) timely);
       prompt = prompt_stays f.moves old.view f.next old.prompt f.leads f.prompt;

@@ -48,6 +48,8 @@ pub mod FullQueues
 pub mod MessageEvents
 pub mod ReplyEvents
 pub mod LabelEvents
+-- what devices do
+pub mod Doing
 -- connections
 pub mod Still
 -- one device
