@@ -72,7 +72,10 @@ pub mod Chains
 pub mod BoundSessions
 pub mod TakenAfter
 pub mod HandledBinds
--- the sessions of a device along a history
+-- the sessions of a device along a history, and what its client notes down
+pub mod LabelledLists
+pub mod HistorySteps
+pub mod NotedPairs
 pub mod SessionCourses
 pub mod Further
 -- which faults there are
