@@ -209,14 +209,14 @@ present_of now e p q t u at present same for =
 
 module _ (now e p q : ℕ) (t : Table S) (present : IsPresent now p t) (once : (a b k : ℕ) (u w : S) → t a ≡ Some u → t b ≡ Some w → u.epoch ≡ Some k → w.epoch ≡ Some k → a ≡ b) where
   -- what enters a list is of the epoch, or it is another session
-  entered : (u : S) → t q ≡ Some u → IsFor e (Some u) now → (l : List ItemOut) (z : ItemOut) → cond (nat_eq p q) (l ++ z ∷ []) l ≡ l ++ cond (now == e) (z ∷ []) [] ++ []
+  entered : (u : S) → t q ≡ Some u → IsFor e (Some u) now → (l : List ItemOut) (z : ItemOut) → cond (nat_eq p q) (l ++ z ∷ []) l ≡ l ++ (cond (now == e) (z ∷ []) [] ++ [])
   entered u at for l z = by (nat_eq p q) refl
     where
-      by : (b : Bool) → nat_eq p q ≡ b → cond b (l ++ z ∷ []) l ≡ l ++ cond (now == e) (z ∷ []) [] ++ []
+      by : (b : Bool) → nat_eq p q ≡ b → cond b (l ++ z ∷ []) l ≡ l ++ (cond (now == e) (z ∷ []) [] ++ [])
       by true same = ap (λ m. l ++ m) (sym (all_of (now == e) (z ∷ []) (present_of now e p q t u at present same for)))
       by false other = sym (append-nil l) ∙ ap (λ m. l ++ m) (sym (none_of (now == e) (z ∷ []) (apart_of now e p q t (Some u) at present once other for)))
 
-  still : (l : List ItemOut) → l ≡ l ++ cond (now == e) [] [] ++ []
+  still : (l : List ItemOut) → l ≡ l ++ (cond (now == e) [] [] ++ [])
   still l = sym (append-nil l) ∙ ap (λ m. l ++ m) (sym (nothing_of (now == e)))
 
   -- nothing is there yet
@@ -356,13 +356,16 @@ both_grow now later a b e t u w is one two = record {
   where
     joined : (pick : D → List ItemOut) (l : List ItemOut) → (l ++ in_epoch pick now a e) ++ in_epoch pick later b e ≡ l ++ in_epoch pick now (a ++ b) e
     joined pick l =
-        append_assoc l (in_epoch pick now a e) (in_epoch pick later b e) ∙ ap (λ n. l ++ in_epoch pick now a e ++ in_epoch pick n b e) (sym is) ∙ ap (λ m. l ++ m) (sym (in_epoch_joined pick now a b e))
+        append_assoc l (in_epoch pick now a e) (in_epoch pick later b e) ∙ ap (λ n. l ++ (in_epoch pick now a e ++ in_epoch pick n b e)) (sym is) ∙ ap (λ m. l ++ m) (sym (in_epoch_joined pick now a b e))
 
 no_move : (now e : ℕ) (t : S) → Grows now [] e t t
 no_move now e t = record { up_put = sym (append-nil t.up_put); up_got = sym (append-nil t.up_got); down_put = sym (append-nil t.down_put); down_got = sym (append-nil t.down_got) }
 
 moves_come : (moves : List (LinkMove ItemOut)) (v last : View ItemOut) (d : Sessions) → LinkReached v → LinkReaches moves v last → IsDevice stanzas_read (seen v) d → (q e : ℕ) → Comes v.epoch last.epoch (labels_of moves) e ((seen v).sessions q) ((seen last).sessions q)
-moves_come [] v last d reached same is q e = subst (λ (u : View ItemOut). Comes v.epoch u.epoch [] e ((seen v).sessions q) ((seen u).sessions q)) (sym same) (λ for. (for, no_move v.epoch e (was ((seen v).sessions q))))
+moves_come [] v last d reached same is q e for =
+    let all : Comes v.epoch last.epoch [] e ((seen v).sessions q) ((seen last).sessions q) =
+    subst (λ (u : View ItemOut). Comes v.epoch u.epoch [] e ((seen v).sessions q) ((seen u).sessions q)) (sym same) (λ now_for. (now_for, no_move v.epoch e (was ((seen v).sessions q)))) in
+    all for
 moves_come (move ∷ moves) v last d reached (next, by, along) is q e for =
     let l = move_leads stanzas_read move v next d reached by is in
     let one = seen_comes (seen v) d is l.0 (seen next) (label_of move) l.2 (labelled v move next l.0 by l.1) in
