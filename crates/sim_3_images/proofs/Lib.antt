@@ -11,6 +11,7 @@ pub mod AfterOuts
 pub mod ServerStatesRendered
 pub mod Beginnings
 pub mod Emissions
+pub mod ReadsTold
 pub mod ItemsServed
 -- moves
 pub mod NotesTold

@@ -92,6 +92,7 @@ module _ (UpFits DownFits : ItemOut → Type 0) (ServerFits : ℕ → ServerStat
       takes = i.takes;
     };
     notes = λ j. nothing_noted (slice_get w.devices j);
+    reads = λ j. refl;
   }
 
   -- ---- a cut, whose counts hang on what is there
@@ -122,6 +123,7 @@ module _ (UpFits DownFits : ItemOut → Type 0) (ServerFits : ℕ → ServerStat
           takes = i.takes;
         };
         notes = λ j. nothing_noted (slice_get w.devices j);
+        reads = λ j. refl;
       }
 
   -- ---- the end of a connection is told to the server

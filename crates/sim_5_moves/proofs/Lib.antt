@@ -49,6 +49,7 @@ pub mod MessageEvents
 pub mod ReplyEvents
 pub mod LabelEvents
 -- what devices do
+pub mod ReadStanzas
 pub mod Doing
 -- connections
 pub mod Still

@@ -37,7 +37,7 @@ use Rattle.cmd_world.specs.Moves.{Move, all_moved, moved}
 use Rattle.cmd_world.specs.Moves as bytes
 use Rattle.cmd_world.specs.Worlds as wires
 use Rattle.sim_5_moves.specs.Running.{WorldSimulates}
-use Rattle.sim_7_schedules.proofs.Leading.{all_told, at_once, nothing_told, told_along}
+use Rattle.sim_7_schedules.proofs.Leading.{all_noted, all_read, at_once, nothing_told, told_along}
 use Rattle.sim_7_schedules.specs.Simulation.{AllLead, LabelsAreNotedIn, EachMoveSimulates, IsEncoded, MovesSimulate, SimulatesBy, Views, bounds, clients_of, views_of}
 use Rattle.sim_7_schedules.proofs.Wires.{IsNoDial, downs_none, moves_many, served_none}
 use Rattle.sim_7_schedules.proofs.Rounds.{AtMost, Goes, IsInRound, down_line, most_after, round_of, up_line}
@@ -176,7 +176,7 @@ module _ (schedule : WireView) (each : EachMoveSimulates schedule) where
       Goes schedule from (told_along r.moves w nothing_told) says (items.all_moved r.moves w) x (Post (items.all_moved r.moves w)) → AllByRecursion IsNoDial r.moves → LineGoes schedule from 0 says [] (m ∷ []) W x Post
   of_goes from says m W w x Post encodes r g none =
       one_move schedule from 0 says [] m W x Post g.events (items.all_moved r.moves w) g.next g.led g.silent r.encodes g.runs.world
-      (λ i o is. let l = g.runs.leads i o is in (l.0, l.1, (all_item_notes r.moves w i, r.notes i, l.2 ∙ ap (λ notes. clients_of (noted notes)) (all_told r.moves w i)))) g.post
+      (λ i o is. let l = g.runs.leads i o is in (l.0, l.1, (all_item_notes r.moves w i, r.notes i, (l.2.0 ∙ ap (λ notes. clients_of (noted notes)) (all_noted r.moves w i), l.2.1 ∙ all_read r.moves w i ∙ sym (r.reads i))))) g.post
       (let same = moves_many r.moves w none in let shown = encodes.as_many in omega arith)
 
   pub up_byte : (says position : ℕ) (count : Count) (W : wires.ByteWorld) (w : ItemWorld) (x : AppWorld) (top n p : ℕ) → IsEncoded W w → (runs : WorldSimulates schedule bounds says w x) → IsInRound top n p w x →

@@ -1,9 +1,10 @@
--- Moves of the links, one after another, and worlds to which they led; and what clients noted down meanwhile.
+-- Moves of the links, one after another, and worlds to which they led; and what clients noted down meanwhile, and the server read.
 use Rattle.std.proofs.Common.{◌≡◌, ℕ, List, [], ◌∷◌, ◌++◌, map, refl, sym, ap, ap₂, ◌∙◌, subst, append_assoc, append-nil, inl, inr}
 use Rattle.cl_handlers.specs.Speech.{Acknowledged, Counted, Ended, Epoch, Handled, Note, Put, Stated}
 use Rattle.sim_2_links.specs.Machine.{LinkMove, LinkReaches}
 use Rattle.sim_2_links.specs.Views.{View}
 use Rattle.sim_3_images.specs.Notes.{all_item_notes, item_notes}
+use Rattle.sim_3_images.specs.Reads.{all_item_reads, item_reads}
 use Rattle.sim_3_items.specs.ItemMoves.{CatchUp, Close, Cut, Dial, Down, DownEnd, Forget, ItemMove, Say, Tick, Up, UpEnd, all_moved, moved}
 use Rattle.sim_3_items.specs.ItemWorlds.{ItemWorld}
 use Rattle.sim_3_items.specs.Labels.{Drops, Enters, Gives, Label, Learns, Names, Reads, Says, Takes, gives_all, label_of, labels_of}
@@ -11,7 +12,7 @@ use Rattle.sim_3_items.specs.Reading.{noted, noted_by}
 use Rattle.cmd_schedule.specs.Schedules.{WireView}
 use Rattle.sim_1_applications.specs.Devices.{AppWorld}
 use Rattle.sim_5_moves.specs.Running.{DoesBy, Leads, WorldSimulates}
-use Rattle.sim_7_schedules.specs.Simulation.{AllLead, LabelsAreNoted, Views, bounds, clients_of, views_of}
+use Rattle.sim_7_schedules.specs.Simulation.{AllLead, LabelsAreNoted, Views, bounds, clients_of, takes_of, views_of}
 use Rattle.xml_writer.specs.Items.{ItemOut}
 
 -- ---- labels, one after another
@@ -39,12 +40,38 @@ noted_joined : (first second : List (Note ItemOut)) → noted (first ++ second) 
 noted_joined [] second = refl
 noted_joined (one ∷ first) second = ap (λ l. noted_by one ++ l) (noted_joined first second) ∙ sym (append_assoc (noted_by one) (noted first) (noted second))
 
-pub leads_both : (first second : List (Note ItemOut)) (v mid last : View ItemOut) → Leads (LabelsAreNoted first) v mid → Leads (LabelsAreNoted second) mid last → Leads (LabelsAreNoted (first ++ second)) v last
+takes_joined : (first second : List (Label ItemOut)) → takes_of (first ++ second) ≡ takes_of first ++ takes_of second
+takes_joined [] second = refl
+takes_joined (Takes z ∷ first) second = ap (λ l. z ∷ l) (takes_joined first second)
+takes_joined (Says z ∷ first) second = takes_joined first second
+takes_joined (Reads z ∷ first) second = takes_joined first second
+takes_joined (Names ∷ first) second = takes_joined first second
+takes_joined (Gives z ∷ first) second = takes_joined first second
+takes_joined (Enters ∷ first) second = takes_joined first second
+takes_joined (Learns ∷ first) second = takes_joined first second
+takes_joined (Drops ∷ first) second = takes_joined first second
+
+-- ---- what the client of a device noted down, and what the server read of it
+
+pub record Told : Type 0 where
+  pub notes : List (Note ItemOut)
+  pub read : List ItemOut
+
+abbrev pub both_told : Told → Told → Told
+both_told t u = record { notes = t.notes ++ u.notes; read = t.read ++ u.read }
+
+abbrev pub AreTold : Told → List (Label ItemOut) → Type 0
+AreTold t done = LabelsAreNoted t.notes t.read done
+
+pub leads_both : (first second : Told) (v mid last : View ItemOut) → Leads (AreTold first) v mid → Leads (AreTold second) mid last → Leads (AreTold (both_told first second)) v last
 leads_both first second v mid last one two = (
   one.0 ++ two.0,
   link_reaches_both one.0 two.0 v mid last one.1 two.1,
-  ap clients_of (labels_joined one.0 two.0) ∙ clients_joined (labels_of one.0) (labels_of two.0) ∙ ap₂ (λ a b. a ++ b) one.2 two.2
-      ∙ sym (ap clients_of (noted_joined first second) ∙ clients_joined (noted first) (noted second)),
+  (
+    ap clients_of (labels_joined one.0 two.0) ∙ clients_joined (labels_of one.0) (labels_of two.0) ∙ ap₂ (λ a b. a ++ b) one.2.0 two.2.0
+        ∙ sym (ap clients_of (noted_joined first.notes second.notes) ∙ clients_joined (noted first.notes) (noted second.notes)),
+    ap takes_of (labels_joined one.0 two.0) ∙ takes_joined (labels_of one.0) (labels_of two.0) ∙ ap₂ (λ a b. a ++ b) one.2.1 two.2.1,
+  ),
 )
 
 -- ---- the labels of one move
@@ -57,31 +84,60 @@ none_given : (given : List ItemOut) → clients_of (gives_all given) ≡ []
 none_given [] = refl
 none_given (z ∷ given) = none_given given
 
-pub are_noted : (m : ItemMove) (w : ItemWorld) (i : ℕ) (done : List (Label ItemOut)) → DoesBy m w i done → LabelsAreNoted (item_notes m w i) done
-are_noted (Up position) w i done does = ap clients_of does.2 ∙ none_taken does.0 (gives_all does.1) ∙ none_given does.1
-are_noted (Forget position) w i done (inl none) = ap clients_of none
-are_noted (Forget position) w i done (inr drops) = ap clients_of drops
-are_noted (Close position) w i done (inl none) = ap clients_of none
-are_noted (Close position) w i done (inr drops) = ap clients_of drops
-are_noted (Dial device mine yours) w i done does = ap clients_of does
-are_noted (Say device to text private) w i done does = ap clients_of does
-are_noted (CatchUp device most) w i done does = ap clients_of does
-are_noted (Tick milliseconds) w i done does = ap clients_of does
-are_noted (Down position) w i done does = ap clients_of does
-are_noted (UpEnd position) w i done does = ap clients_of does
-are_noted (DownEnd position) w i done does = ap clients_of does
-are_noted (Cut position up down) w i done does = ap clients_of does
+all_taken : (taken : List ItemOut) (rest : List (Label ItemOut)) → takes_of (map Takes taken ++ rest) ≡ taken ++ takes_of rest
+all_taken [] rest = refl
+all_taken (z ∷ taken) rest = ap (λ l. z ∷ l) (all_taken taken rest)
 
--- ---- what each device's client has noted down so far
+given_untaken : (given : List ItemOut) → takes_of (gives_all given) ≡ []
+given_untaken [] = refl
+given_untaken (z ∷ given) = given_untaken given
+
+noted_untaken : (notes : List (Note ItemOut)) → takes_of (noted notes) ≡ []
+noted_untaken [] = refl
+noted_untaken (Epoch n ∷ notes) = noted_untaken notes
+noted_untaken (Counted ∷ notes) = noted_untaken notes
+noted_untaken (Handled z ∷ notes) = noted_untaken notes
+noted_untaken (Put z ∷ notes) = noted_untaken notes
+noted_untaken (Stated n ∷ notes) = noted_untaken notes
+noted_untaken (Acknowledged n ∷ notes) = noted_untaken notes
+noted_untaken (Ended ∷ notes) = noted_untaken notes
+
+abbrev pub told_by : ItemMove → ItemWorld → ℕ → Told
+told_by m w i = record { notes = item_notes m w i; read = item_reads m w i }
+
+-- what the client notes down, where the server reads nothing
+by_client : (notes : List (Note ItemOut)) (done : List (Label ItemOut)) → done ≡ noted notes → LabelsAreNoted notes [] done
+by_client notes done is = (ap clients_of is, ap takes_of is ∙ noted_untaken notes)
+
+pub are_told : (m : ItemMove) (w : ItemWorld) (i : ℕ) (done : List (Label ItemOut)) → DoesBy m w i done → AreTold (told_by m w i) done
+are_told (Up position) w i done does =
+    let read = item_reads (Up position) w i in (
+      ap clients_of does.1 ∙ none_taken read (gives_all does.0) ∙ none_given does.0,
+      ap takes_of does.1 ∙ all_taken read (gives_all does.0) ∙ ap (λ l. read ++ l) (given_untaken does.0) ∙ append-nil read,
+    )
+are_told (Forget position) w i done (inl none) = (ap clients_of none, ap takes_of none)
+are_told (Forget position) w i done (inr drops) = (ap clients_of drops, ap takes_of drops)
+are_told (Close position) w i done (inl none) = (ap clients_of none, ap takes_of none)
+are_told (Close position) w i done (inr drops) = (ap clients_of drops, ap takes_of drops)
+are_told (Dial device mine yours) w i done does = by_client [] done does
+are_told (Say device to text private) w i done does = by_client (item_notes (Say device to text private) w i) done does
+are_told (CatchUp device most) w i done does = by_client (item_notes (CatchUp device most) w i) done does
+are_told (Tick milliseconds) w i done does = by_client [] done does
+are_told (Down position) w i done does = by_client (item_notes (Down position) w i) done does
+are_told (UpEnd position) w i done does = by_client [] done does
+are_told (DownEnd position) w i done does = by_client [] done does
+are_told (Cut position up down) w i done does = by_client [] done does
+
+-- ---- what is told of each device so far
 
 abbrev pub Telling : Type 0
-Telling = ℕ → List (Note ItemOut)
+Telling = ℕ → Told
 
 abbrev pub nothing_told : Telling
-nothing_told i = []
+nothing_told i = record { notes = []; read = [] }
 
 abbrev pub then_told : Telling → ItemMove → ItemWorld → Telling
-then_told told m w i = told i ++ item_notes m w i
+then_told told m w i = both_told (told i) (told_by m w i)
 
 abbrev pub told_along : List ItemMove → ItemWorld → Telling → Telling
 told_along [] w told = told
@@ -91,27 +147,38 @@ pub told_joined : (first second : List ItemMove) (w : ItemWorld) (told : Telling
 told_joined [] second w told = refl
 told_joined (m ∷ first) second w told = told_joined first second (moved m w) (then_told told m w)
 
-told_is : (moves : List ItemMove) (w : ItemWorld) (told : Telling) (i : ℕ) → told_along moves w told i ≡ told i ++ all_item_notes moves w i
-told_is [] w told i = sym (append-nil (told i))
-told_is (m ∷ moves) w told i = told_is moves (moved m w) (then_told told m w) i ∙ append_assoc (told i) (item_notes m w i) (all_item_notes moves (moved m w) i)
+notes_are : (moves : List ItemMove) (w : ItemWorld) (told : Telling) (i : ℕ) → (told_along moves w told i).notes ≡ (told i).notes ++ all_item_notes moves w i
+notes_are [] w told i = sym (append-nil (told i).notes)
+notes_are (m ∷ moves) w told i = notes_are moves (moved m w) (then_told told m w) i ∙ append_assoc (told i).notes (item_notes m w i) (all_item_notes moves (moved m w) i)
 
-pub all_told : (moves : List ItemMove) (w : ItemWorld) (i : ℕ) → told_along moves w nothing_told i ≡ all_item_notes moves w i
-all_told moves w i = told_is moves w nothing_told i
+reads_are : (moves : List ItemMove) (w : ItemWorld) (told : Telling) (i : ℕ) → (told_along moves w told i).read ≡ (told i).read ++ all_item_reads moves w i
+reads_are [] w told i = sym (append-nil (told i).read)
+reads_are (m ∷ moves) w told i = reads_are moves (moved m w) (then_told told m w) i ∙ append_assoc (told i).read (item_reads m w i) (all_item_reads moves (moved m w) i)
+
+pub all_noted : (moves : List ItemMove) (w : ItemWorld) (i : ℕ) → (told_along moves w nothing_told i).notes ≡ all_item_notes moves w i
+all_noted moves w i = notes_are moves w nothing_told i
+
+pub all_read : (moves : List ItemMove) (w : ItemWorld) (i : ℕ) → (told_along moves w nothing_told i).read ≡ all_item_reads moves w i
+all_read moves w i = reads_are moves w nothing_told i
+
+-- a move by which nothing is told
+pub untold : (t : Told) (notes : List (Note ItemOut)) (read : List ItemOut) → notes ≡ [] → read ≡ [] → t ≡ record { notes = t.notes ++ notes; read = t.read ++ read }
+untold t notes read none unread = ap₂ (λ a b. record { notes = a; read = b }) (sym (ap (λ l. t.notes ++ l) none ∙ append-nil t.notes)) (sym (ap (λ l. t.read ++ l) unread ∙ append-nil t.read))
 
 -- ---- worlds
 
--- a world of items beside one of the applications, to which moves of the links led from these, while clients noted this down
+-- a world of items beside one of the applications, to which moves of the links led from these, while this was told
 pub record WorldFrom (schedule : WireView) (from : Views schedule) (told : Telling) (says : ℕ) (w : ItemWorld) (x : AppWorld) : Type 0 where
   pub world : WorldSimulates schedule bounds says w x
-  pub leads : AllLead schedule (λ i. LabelsAreNoted (told i)) from (views_of world)
+  pub leads : AllLead schedule (λ i. AreTold (told i)) from (views_of world)
 
 -- no move did
 pub at_once : (schedule : WireView) (says : ℕ) (w : ItemWorld) (x : AppWorld) (runs : WorldSimulates schedule bounds says w x) → WorldFrom schedule (views_of runs) nothing_told says w x
-at_once schedule says w x runs = record { world = runs; leads = λ i o is. ([], refl, refl) }
+at_once schedule says w x runs = record { world = runs; leads = λ i o is. ([], refl, (refl, refl)) }
 
--- the same was noted down
+-- the same was told
 pub retold : (schedule : WireView) (from : Views schedule) (told other : Telling) (says : ℕ) (w : ItemWorld) (x : AppWorld) → ((i : ℕ) → told i ≡ other i) → WorldFrom schedule from told says w x → WorldFrom schedule from other says w x
 retold schedule from told other says w x same f = record {
   world = f.world;
-  leads = λ i o is. let l = f.leads i o is in (l.0, l.1, l.2 ∙ ap (λ notes. clients_of (noted notes)) (same i));
+  leads = λ i o is. let l = f.leads i o is in (l.0, l.1, subst (λ t. AreTold t (labels_of l.0)) (same i) l.2);
 }

@@ -1,5 +1,5 @@
 -- In a pass, and in each round of a run, a device asks for one page at most.
-use Rattle.std.proofs.Common.{◌≡◌, ◌⊎◌, ℕ, zero, suc, ◌+◌, ◌≤◌, Bool, true, false, List, [], ◌∷◌, ◌++◌, Some, length, refl, sym, ap, ◌∙◌, subst, append-nil, arith, inl, inr}
+use Rattle.std.proofs.Common.{◌≡◌, ◌⊎◌, ℕ, zero, suc, ◌+◌, ◌≤◌, Bool, true, false, List, [], ◌∷◌, ◌++◌, Some, length, refl, sym, ap, ◌∙◌, subst, arith, inl, inr}
 use Rattle.std.proofs.lemmas.Bool.{cases_eq}
 use Rattle.std.proofs.lemmas.List.Concat.{flat_map-append}
 use Rattle.std.proofs.lemmas.Option.{same_Some}
@@ -19,7 +19,7 @@ use Rattle.sim_1_applications.specs.Devices.{AppWorld, Device}
 use Rattle.sim_1_applications.specs.Events.{AppEvent, Reaches}
 use Rattle.sim_1_applications.specs.Histories.{Spoken, spoken_by, spoken_in}
 use Rattle.sim_5_moves.specs.Running.{IsAskedBy, IsAskedOnce, IsInBounds, MoveSimulates, spoken_by_move}
-use Rattle.sim_7_schedules.proofs.Leading.{Telling, WorldFrom, are_noted, leads_both, retold, then_told, told_along, told_joined}
+use Rattle.sim_7_schedules.proofs.Leading.{Telling, WorldFrom, are_told, leads_both, retold, then_told, told_along, told_by, told_joined, untold}
 use Rattle.sim_7_schedules.specs.Simulation.{EachMoveSimulates, Views, bounds, views_of}
 use Rattle.sim_7_schedules.proofs.Positions.{MakesNone, here_at, here_of, up_makes, up_end_makes, tick_makes, down_makes, down_end_makes}
 use Rattle.law_payloads.specs.AsRead.{last_moment}
@@ -100,7 +100,7 @@ of_move schedule from told says m w x Post before r none post = record {
   led = r.reaches;
   silent = r.spoken ∙ none;
   post = post r.next r.asked (λ i e at. was_there r.events x r.next i e r.reaches at);
-  runs = subst (λ k. WorldFrom schedule from (then_told told m w) k (moved m w) r.next) (ap (λ (l : List Spoken). says + length l) none ∙ (let same : says + 0 ≡ says = omega arith in same)) (record { world = r.runs; leads = λ i o is. let l = r.links i o is in leads_both (told i) (item_notes m w i) (from i o is) (views_of before.world i o is) (views_of r.runs i o is) (before.leads i o is) (l.0, l.1, are_noted m w i (labels_of l.0) l.2) });
+  runs = subst (λ k. WorldFrom schedule from (then_told told m w) k (moved m w) r.next) (ap (λ (l : List Spoken). says + length l) none ∙ (let same : says + 0 ≡ says = omega arith in same)) (record { world = r.runs; leads = λ i o is. let l = r.links i o is in leads_both (told i) (told_by m w i) (from i o is) (views_of before.world i o is) (views_of r.runs i o is) (before.leads i o is) (l.0, l.1, are_told m w i (labels_of l.0) l.2) });
 }
 
 -- ---- moves of a connection
@@ -175,7 +175,7 @@ module _ (schedule : WireView) (each : EachMoveSimulates schedule) (from : Views
       by (positions.Nobody none silent) =
           subst (λ v. Goes schedule from (then_told told (Down position) w) says v x (AreHanded n position v)) (sym none)
           (stays schedule from (then_told told (Down position) w) says w x (AreHanded n position w)
-          (retold schedule from told (then_told told (Down position) w) says w x (λ i. sym (ap (λ l. told i ++ l) (silent i) ∙ append-nil (told i))) runs) handed)
+          (retold schedule from told (then_told told (Down position) w) says w x (λ i. untold (told i) (item_notes (Down position) w i) [] (silent i) refl) runs) handed)
       by (positions.Device wire d at found is_here) =
           of_move schedule from told says (Down position) w x (AreHanded n position (moved (Down position) w)) runs (each (Down position) says w x tt runs.world within) refl (λ next asked was i e there.
           let old = was i e there in

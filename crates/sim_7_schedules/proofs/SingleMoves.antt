@@ -1,5 +1,5 @@
 -- The moves of bytes that are one move of items.
-use Rattle.std.proofs.Common.{◌≡◌, ℕ, ◌+◌, ◌≤◌, ◌==◌, Bool, true, false, cond, List, [], ◌∷◌, length, map, refl, ap, ◌∙◌, append-nil, subst, arith}
+use Rattle.std.proofs.Common.{◌≡◌, ℕ, ◌+◌, ◌≤◌, ◌==◌, Bool, true, false, cond, List, [], ◌∷◌, length, map, refl, sym, ap, ◌∙◌, append-nil, subst, arith}
 use Rattle.std.specs.Prelude.{IsTrue}
 use Rattle.sim_3_images.specs.Relayable.{ClientFits, DownFits, ServerFits, UpFits}
 use Rattle.sim_3_images.specs.Stands.{StandingServers}
@@ -20,10 +20,11 @@ use Rattle.cmd_world.specs.Worlds.{client_entropy, server_entropy}
 use Rattle.sim_5_moves.specs.Running.{IsAskedBy, IsInBounds, WorldSimulates, spoken_by_move}
 use Rattle.sim_7_schedules.specs.Simulation.{EachMoveSimulates, IsEncoded, bounds, views_of}
 use Rattle.sim_7_schedules.proofs.ByteMoves.{LineGoes, is_moved, one_move}
-use Rattle.sim_7_schedules.proofs.Leading.{are_noted}
+use Rattle.sim_7_schedules.proofs.Leading.{are_told}
 use Rattle.sim_7_schedules.proofs.Rounds.{AtMost}
 use Rattle.law_client.specs.Rendered.{note_rendered}
 use Rattle.sim_3_images.specs.Notes.{all_item_notes, item_notes}
+use Rattle.sim_3_images.specs.Reads.{all_item_reads, item_reads}
 use Rattle.sim_3_items.specs.Labels.{labels_of}
 use Rattle.xml_writer.specs.Items.{written_item}
 use Rattle.sim_7_schedules.proofs.Wires.{dial_many, move_many}
@@ -44,7 +45,12 @@ module _ (schedule : WireView) (each : EachMoveSimulates schedule) where
       let g = each im says w x may runs within in
       one_move schedule (views_of runs) dials (says + length (spoken_by_move im w)) (spoken_by_move im w) m W x (λ v y. AtMost (n + units) y) g.events (items.moved im w) g.next g.reaches g.spoken
       (subst (λ ms. IsEncoded (bytes.moved m W) (items.all_moved ms w)) is r.encodes) g.runs
-      (λ i o at. let l = g.links i o at in (l.0, l.1, (item_notes im w i, r.notes i ∙ ap (map (note_rendered written_item)) (ap (λ ms. all_item_notes ms w i) is ∙ append-nil (item_notes im w i)), are_noted im w i (labels_of l.0) l.2)))
+      (λ i o at.
+      let l = g.links i o at in
+      let told = are_told im w i (labels_of l.0) l.2 in
+      let notes = r.notes i ∙ ap (map (note_rendered written_item)) (ap (λ ms. all_item_notes ms w i) is ∙ append-nil (item_notes im w i)) in
+      let read = r.reads i ∙ ap (λ ms. all_item_reads ms w i) is ∙ append-nil (item_reads im w i) in
+      (l.0, l.1, (item_notes im w i, notes, (told.0, told.1 ∙ sym read))))
       (λ i e at. let d = was_there g.events x g.next i e g.reaches at in let low = most i d.0 d.1 in let more = asks i d.0 e (g.asked i d.0 e d.1 at) in omega arith)
       (let same = encodes.as_many in omega arith)
 

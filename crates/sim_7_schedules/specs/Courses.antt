@@ -8,6 +8,7 @@ use Rattle.cmd_schedule.specs.Contents.{Owned}
 use Rattle.cmd_schedule.specs.Schedules.{WireView}
 use Rattle.cmd_schedule.specs.declared.schedule.WireLine.{WireLine}
 use Rattle.sim_3_images.specs.Notes.{notes_in}
+use Rattle.sim_3_images.specs.Reads.{read_in}
 use Rattle.sim_7_schedules.specs.Messages.{AreTold}
 use Rattle.sim_7_schedules.specs.Pairs.{HasPairs, IsUnused, Pair}
 use Rattle.cmd_world.specs.Histories.{history_of, world_at_start}
@@ -40,7 +41,7 @@ IsNew epoch q = (IsUnused q.up × IsUnused q.down) ⊎ ((e : ℕ) × (q.epoch �
 abbrev pub AreNew : ℕ → (ℕ → Option Pair) → (ℕ → Option Pair) → Type 0
 AreNew epoch pairs next = (number : ℕ) (q : Pair) → pairs number ≡ None → next number ≡ Some q → IsNew epoch q
 
--- ---- what clients note down
+-- ---- what a step tells
 
 -- what a pair was, or nothing yet
 abbrev pub before : Option Pair → Pair
@@ -61,14 +62,16 @@ put_in now (Epoch n ∷ notes) e = put_in (now + 1) notes e
 put_in now (Put z ∷ notes) e = (if now == e then z ∷ [] else []) ++ put_in now notes e
 put_in now (_ ∷ notes) e = put_in now notes e
 
--- A session and what it is in the next world: its client handled and put in it what these notes say, and nothing else.
-pub record IsNoted (epoch : ℕ) (notes : List (Note (List ℕ))) (p q : Pair) (e : ℕ) : Type 0 where
+-- A session and what it is in the next world: its client handled and put in it what these notes say, and the server handled
+-- these stanzas, which it read, in that of this epoch; and nothing else.
+pub record IsNoted (epoch : ℕ) (notes : List (Note (List ℕ))) (read : List ItemOut) (p q : Pair) (e : ℕ) : Type 0 where
   pub handled : q.down.got ≡ p.down.got ++ handled_in epoch notes e
   pub put : (more : List ItemOut) × (q.up.put ≡ p.up.put ++ more) × (map written_item more ≡ put_in epoch notes e)
+  pub taken : q.up.got ≡ p.up.got ++ (if epoch == e then read else [])
 
 -- So it is of each session that has an epoch then. (In one that has none nothing was put or handled.)
-abbrev pub AreNoted : ℕ → List (Note (List ℕ)) → (ℕ → Option Pair) → (ℕ → Option Pair) → Type 0
-AreNoted epoch notes pairs next = (number e : ℕ) (q : Pair) → next number ≡ Some q → q.epoch ≡ Some e → IsNoted epoch notes (before (pairs number)) q e
+abbrev pub AreNoted : ℕ → List (Note (List ℕ)) → List ItemOut → (ℕ → Option Pair) → (ℕ → Option Pair) → Type 0
+AreNoted epoch notes read pairs next = (number e : ℕ) (q : Pair) → next number ≡ Some q → q.epoch ≡ Some e → IsNoted epoch notes read (before (pairs number)) q e
 
 -- ---- histories
 
@@ -83,7 +86,7 @@ moves_in s = moves_along s.lines (world_at_start s)
 -- One assignment of pairs to all worlds of a history, by the numbers that the server gave: in each world they are those of
 -- its sessions, with the messages that its report tells, and in the next one each goes on. What the client put and handled in
 -- between is what it noted down in the move from the one to the other: of the bytes that were handed to it, or as its user
--- submitted a message or asked for a page.
+-- submitted a message or asked for a page. What the server handled in between it read of bytes that were handed to it then.
 pub record HasCourse (s : WireView) (i : ℕ) (o : Owned) : Type 0 where
   pub pairs : (j : ℕ) (w : ByteWorld) → slice_get (history_of s) j ≡ Some w → HasPairs s w i o
   pub told : (j : ℕ) (w : ByteWorld) (at : slice_get (history_of s) j ≡ Some w) → AreTold w i o (pairs j w at).pairs
@@ -91,4 +94,4 @@ pub record HasCourse (s : WireView) (i : ℕ) (o : Owned) : Type 0 where
   pub new : (j : ℕ) (v w : ByteWorld) (at : slice_get (history_of s) j ≡ Some v) (next : slice_get (history_of s) (suc j) ≡ Some w) (d : DeviceState) → slice_get v.devices i ≡ Some d →
       AreNew d.client.client.epoch (pairs j v at).pairs (pairs (suc j) w next).pairs
   pub noted : (j : ℕ) (v w : ByteWorld) (at : slice_get (history_of s) j ≡ Some v) (next : slice_get (history_of s) (suc j) ≡ Some w) (d : DeviceState) → slice_get v.devices i ≡ Some d →
-      (m : Move) × (slice_get (moves_in s) j ≡ Some m) × (w ≡ moved m v) × AreNoted d.client.client.epoch (notes_in m v i) (pairs j v at).pairs (pairs (suc j) w next).pairs
+      (m : Move) × (slice_get (moves_in s) j ≡ Some m) × (w ≡ moved m v) × AreNoted d.client.client.epoch (notes_in m v i) (read_in m v i) (pairs j v at).pairs (pairs (suc j) w next).pairs

@@ -6,7 +6,8 @@ use Rattle.sim_3_images.specs.Stands.{StandingServers}
 use Rattle.sim_3_images.specs.WorldEncodings.{WorldEncodes}
 use Rattle.sim_3_images.specs.Fitting.{MayItem}
 use Rattle.sim_3_images.specs.Notes.{notes_in}
-use Rattle.sim_3_items.specs.Labels.{Label, Names, Reads, Says}
+use Rattle.sim_3_images.specs.Reads.{read_in}
+use Rattle.sim_3_items.specs.Labels.{Label, Names, Reads, Says, Takes}
 use Rattle.sim_3_items.specs.Reading.{noted}
 use Rattle.cl_handlers.specs.Speech.{Note}
 use Rattle.law_client.specs.Rendered.{note_rendered}
@@ -70,13 +71,19 @@ clients_of (Reads z ∷ done) = Reads z ∷ clients_of done
 clients_of (Names ∷ done) = Names ∷ clients_of done
 clients_of (_ ∷ done) = clients_of done
 
--- they are those of what it notes down
-abbrev pub LabelsAreNoted : List (Note ItemOut) → List (Label ItemOut) → Type 0
-LabelsAreNoted notes done = clients_of done ≡ clients_of (noted notes)
+-- and the stanzas that the server handles
+abbrev pub takes_of : List (Label ItemOut) → List ItemOut
+takes_of [] = []
+takes_of (Takes z ∷ done) = z ∷ takes_of done
+takes_of (_ ∷ done) = takes_of done
+
+-- the ones are those of what the client notes down, and the others those that the server reads
+abbrev pub LabelsAreNoted : List (Note ItemOut) → List ItemOut → List (Label ItemOut) → Type 0
+LabelsAreNoted notes read done = (clients_of done ≡ clients_of (noted notes)) × (takes_of done ≡ read)
 
 -- and so in a move of bytes
 abbrev pub LabelsAreNotedIn : Move → bytes.ByteWorld → ℕ → List (Label ItemOut) → Type 0
-LabelsAreNotedIn m W i done = (notes : List (Note ItemOut)) × (notes_in m W i ≡ map (note_rendered written_item) notes) × LabelsAreNoted notes done
+LabelsAreNotedIn m W i done = (notes : List (Note ItemOut)) × (notes_in m W i ≡ map (note_rendered written_item) notes) × LabelsAreNoted notes (read_in m W i) done
 
 -- a world of bytes and one of the applications, with these links between them
 pub record SimulatesBy (schedule : WireView) (W : bytes.ByteWorld) (x : AppWorld) (views : Views schedule) : Type 0 where
@@ -84,7 +91,7 @@ pub record SimulatesBy (schedule : WireView) (W : bytes.ByteWorld) (x : AppWorld
   pub shown : (i : ℕ) (o : Owned) (is : IsOwned schedule i o) → (beside.runs.devices i o is).view ≡ views i o is
 
 -- Moves of bytes, and the events that each led to: behind each the worlds are related, and moves of the links led from those
--- before it to those behind it, in which each client did what it noted down.
+-- before it to those behind it, in which each client did what it noted down, and the server handled what it read.
 abbrev pub MovesSimulate : (schedule : WireView) → List Move → List (List AppEvent) → Views schedule → Views schedule → bytes.ByteWorld → AppWorld → Type 0
 MovesSimulate schedule [] [] views last W x = last ≡ views
 MovesSimulate schedule (m ∷ ms) (es ∷ ess) views last W x =
