@@ -12,8 +12,8 @@ ghost use Rattle.sim_1_applications.specs.Devices.{AppWorld};
 ghost use Rattle.sim_5_moves.specs.Running.{Bounds, DoesBy, MoveSimulates, WorldSimulates, spoken_by_move};
 
 /// A law: where a move changes nothing, and by it nobody says anything and no device does anything, the worlds are related
-/// as they were (`still`). So it is of a move of a device, or on a connection, that isn't there (`nobody`), and where nothing is to be
-/// handed over or told (`up`, `told`, `down`).
+/// as they were (`still`). So it is of a move of a device, or on a connection, that isn't there (`nobody`), and where
+/// nothing is to be handed over or told (`up`, `told`, `down`).
 pub fn moves_that_do_nothing_run()
     ensures still { (schedule : WireView) (b : Bounds) (says : ℕ) (m : ItemMove) (w : ItemWorld) (x : AppWorld) → (runs : WorldSimulates schedule b says w x) → moved m w ≡ w → spoken_by_move m w ≡ [] → ((i : ℕ) → DoesBy m w i []) → MoveSimulates schedule b says m w x runs }
     ensures nobody { (schedule : WireView) (b : Bounds) (says : ℕ) (m : ItemMove) (w : ItemWorld) (x : AppWorld) → (runs : WorldSimulates schedule b says w x) → IsOfNobody m w → MoveSimulates schedule b says m w x runs }
