@@ -1,5 +1,5 @@
 -- Moves of the links, one after another, and worlds to which they led; and what clients noted down meanwhile, and the server read.
-use Rattle.std.proofs.Common.{◌≡◌, ℕ, List, [], ◌∷◌, ◌++◌, map, refl, sym, ap, ap₂, ◌∙◌, subst, append_assoc, append-nil, inl, inr}
+use Rattle.std.proofs.Common.{◌≡◌, ℕ, Bool, true, false, cond, List, [], ◌∷◌, ◌++◌, map, refl, sym, ap, ap₂, ◌∙◌, subst, append_assoc, append-nil, inl, inr}
 use Rattle.cl_handlers.specs.Speech.{Acknowledged, Counted, Ended, Epoch, Handled, Note, Put, Stated}
 use Rattle.sim_2_links.specs.Machine.{LinkMove, LinkReaches}
 use Rattle.sim_2_links.specs.Views.{View}
@@ -12,7 +12,7 @@ use Rattle.sim_3_items.specs.Reading.{noted, noted_by}
 use Rattle.cmd_schedule.specs.Schedules.{WireView}
 use Rattle.sim_1_applications.specs.Devices.{AppWorld}
 use Rattle.sim_5_moves.specs.Running.{DoesBy, Leads, WorldSimulates}
-use Rattle.sim_7_schedules.specs.Simulation.{AllLead, LabelsAreNoted, Views, bounds, clients_of, takes_of, views_of}
+use Rattle.sim_7_schedules.specs.Simulation.{AllLead, LabelsAreNoted, Views, bounds, clients_of, gives_of, takes_of, views_of}
 use Rattle.xml_writer.specs.Items.{ItemOut}
 
 -- ---- labels, one after another
@@ -51,26 +51,51 @@ takes_joined (Enters ∷ first) second = takes_joined first second
 takes_joined (Learns ∷ first) second = takes_joined first second
 takes_joined (Drops ∷ first) second = takes_joined first second
 
--- ---- what the client of a device noted down, and what the server read of it
+gives_joined : (first second : List (Label ItemOut)) → gives_of (first ++ second) ≡ gives_of first ++ gives_of second
+gives_joined [] second = refl
+gives_joined (Gives z ∷ first) second = ap (λ l. z ∷ l) (gives_joined first second)
+gives_joined (Says z ∷ first) second = gives_joined first second
+gives_joined (Reads z ∷ first) second = gives_joined first second
+gives_joined (Names ∷ first) second = gives_joined first second
+gives_joined (Takes z ∷ first) second = gives_joined first second
+gives_joined (Enters ∷ first) second = gives_joined first second
+gives_joined (Learns ∷ first) second = gives_joined first second
+gives_joined (Drops ∷ first) second = gives_joined first second
+
+-- ---- what the client of a device noted down, what the server read of it, and whether anything was handed to the server
 
 pub record Told : Type 0 where
   pub notes : List (Note ItemOut)
   pub read : List ItemOut
+  pub ups : Bool
 
 abbrev pub both_told : Told → Told → Told
-both_told t u = record { notes = t.notes ++ u.notes; read = t.read ++ u.read }
+both_told t u = record { notes = t.notes ++ u.notes; read = t.read ++ u.read; ups = cond u.ups true t.ups }
+
+-- without that the server puts nothing
+abbrev pub MayGive : Bool → List (Label ItemOut) → Type 0
+MayGive true done = Unit {0}
+MayGive false done = gives_of done ≡ []
 
 abbrev pub AreTold : Told → List (Label ItemOut) → Type 0
-AreTold t done = LabelsAreNoted t.notes t.read done
+AreTold t done = LabelsAreNoted t.notes t.read done × MayGive t.ups done
+
+may_both : (b c : Bool) (first second : List (LinkMove ItemOut)) → MayGive b (labels_of first) → MayGive c (labels_of second) → MayGive (cond c true b) (labels_of (first ++ second))
+may_both b true first second one two = tt
+may_both true false first second one two = tt
+may_both false false first second one two = ap gives_of (labels_joined first second) ∙ gives_joined (labels_of first) (labels_of second) ∙ ap₂ (λ a l. a ++ l) one two
 
 pub leads_both : (first second : Told) (v mid last : View ItemOut) → Leads (AreTold first) v mid → Leads (AreTold second) mid last → Leads (AreTold (both_told first second)) v last
 leads_both first second v mid last one two = (
   one.0 ++ two.0,
   link_reaches_both one.0 two.0 v mid last one.1 two.1,
   (
-    ap clients_of (labels_joined one.0 two.0) ∙ clients_joined (labels_of one.0) (labels_of two.0) ∙ ap₂ (λ a b. a ++ b) one.2.0 two.2.0
-        ∙ sym (ap clients_of (noted_joined first.notes second.notes) ∙ clients_joined (noted first.notes) (noted second.notes)),
-    ap takes_of (labels_joined one.0 two.0) ∙ takes_joined (labels_of one.0) (labels_of two.0) ∙ ap₂ (λ a b. a ++ b) one.2.1 two.2.1,
+    (
+      ap clients_of (labels_joined one.0 two.0) ∙ clients_joined (labels_of one.0) (labels_of two.0) ∙ ap₂ (λ a b. a ++ b) one.2.0.0 two.2.0.0
+          ∙ sym (ap clients_of (noted_joined first.notes second.notes) ∙ clients_joined (noted first.notes) (noted second.notes)),
+      ap takes_of (labels_joined one.0 two.0) ∙ takes_joined (labels_of one.0) (labels_of two.0) ∙ ap₂ (λ a b. a ++ b) one.2.0.1 two.2.0.1,
+    ),
+    may_both first.ups second.ups one.0 two.0 one.2.1 two.2.1,
   ),
 )
 
@@ -102,23 +127,40 @@ noted_untaken (Stated n ∷ notes) = noted_untaken notes
 noted_untaken (Acknowledged n ∷ notes) = noted_untaken notes
 noted_untaken (Ended ∷ notes) = noted_untaken notes
 
+noted_ungiven : (notes : List (Note ItemOut)) → gives_of (noted notes) ≡ []
+noted_ungiven [] = refl
+noted_ungiven (Epoch n ∷ notes) = noted_ungiven notes
+noted_ungiven (Counted ∷ notes) = noted_ungiven notes
+noted_ungiven (Handled z ∷ notes) = noted_ungiven notes
+noted_ungiven (Put z ∷ notes) = noted_ungiven notes
+noted_ungiven (Stated n ∷ notes) = noted_ungiven notes
+noted_ungiven (Acknowledged n ∷ notes) = noted_ungiven notes
+noted_ungiven (Ended ∷ notes) = noted_ungiven notes
+
+abbrev pub goes_up : ItemMove → Bool
+goes_up (Up position) = true
+goes_up _ = false
+
 abbrev pub told_by : ItemMove → ItemWorld → ℕ → Told
-told_by m w i = record { notes = item_notes m w i; read = item_reads m w i }
+told_by m w i = record { notes = item_notes m w i; read = item_reads m w i; ups = goes_up m }
 
 -- what the client notes down, where the server reads nothing
-by_client : (notes : List (Note ItemOut)) (done : List (Label ItemOut)) → done ≡ noted notes → LabelsAreNoted notes [] done
-by_client notes done is = (ap clients_of is, ap takes_of is ∙ noted_untaken notes)
+by_client : (notes : List (Note ItemOut)) (done : List (Label ItemOut)) → done ≡ noted notes → LabelsAreNoted notes [] done × (gives_of done ≡ [])
+by_client notes done is = ((ap clients_of is, ap takes_of is ∙ noted_untaken notes), ap gives_of is ∙ noted_ungiven notes)
 
 pub are_told : (m : ItemMove) (w : ItemWorld) (i : ℕ) (done : List (Label ItemOut)) → DoesBy m w i done → AreTold (told_by m w i) done
 are_told (Up position) w i done does =
     let read = item_reads (Up position) w i in (
-      ap clients_of does.1 ∙ none_taken read (gives_all does.0) ∙ none_given does.0,
-      ap takes_of does.1 ∙ all_taken read (gives_all does.0) ∙ ap (λ l. read ++ l) (given_untaken does.0) ∙ append-nil read,
+      (
+        ap clients_of does.1 ∙ none_taken read (gives_all does.0) ∙ none_given does.0,
+        ap takes_of does.1 ∙ all_taken read (gives_all does.0) ∙ ap (λ l. read ++ l) (given_untaken does.0) ∙ append-nil read,
+      ),
+      tt,
     )
-are_told (Forget position) w i done (inl none) = (ap clients_of none, ap takes_of none)
-are_told (Forget position) w i done (inr drops) = (ap clients_of drops, ap takes_of drops)
-are_told (Close position) w i done (inl none) = (ap clients_of none, ap takes_of none)
-are_told (Close position) w i done (inr drops) = (ap clients_of drops, ap takes_of drops)
+are_told (Forget position) w i done (inl none) = ((ap clients_of none, ap takes_of none), ap gives_of none)
+are_told (Forget position) w i done (inr drops) = ((ap clients_of drops, ap takes_of drops), ap gives_of drops)
+are_told (Close position) w i done (inl none) = ((ap clients_of none, ap takes_of none), ap gives_of none)
+are_told (Close position) w i done (inr drops) = ((ap clients_of drops, ap takes_of drops), ap gives_of drops)
 are_told (Dial device mine yours) w i done does = by_client [] done does
 are_told (Say device to text private) w i done does = by_client (item_notes (Say device to text private) w i) done does
 are_told (CatchUp device most) w i done does = by_client (item_notes (CatchUp device most) w i) done does
@@ -134,7 +176,7 @@ abbrev pub Telling : Type 0
 Telling = ℕ → Told
 
 abbrev pub nothing_told : Telling
-nothing_told i = record { notes = []; read = [] }
+nothing_told i = record { notes = []; read = []; ups = false }
 
 abbrev pub then_told : Telling → ItemMove → ItemWorld → Telling
 then_told told m w i = both_told (told i) (told_by m w i)
@@ -162,8 +204,8 @@ pub all_read : (moves : List ItemMove) (w : ItemWorld) (i : ℕ) → (told_along
 all_read moves w i = reads_are moves w nothing_told i
 
 -- a move by which nothing is told
-pub untold : (t : Told) (notes : List (Note ItemOut)) (read : List ItemOut) → notes ≡ [] → read ≡ [] → t ≡ record { notes = t.notes ++ notes; read = t.read ++ read }
-untold t notes read none unread = ap₂ (λ a b. record { notes = a; read = b }) (sym (ap (λ l. t.notes ++ l) none ∙ append-nil t.notes)) (sym (ap (λ l. t.read ++ l) unread ∙ append-nil t.read))
+pub untold : (t : Told) (notes : List (Note ItemOut)) (read : List ItemOut) → notes ≡ [] → read ≡ [] → t ≡ record { notes = t.notes ++ notes; read = t.read ++ read; ups = t.ups }
+untold t notes read none unread = ap₂ (λ a b. record { notes = a; read = b; ups = t.ups }) (sym (ap (λ l. t.notes ++ l) none ∙ append-nil t.notes)) (sym (ap (λ l. t.read ++ l) unread ∙ append-nil t.read))
 
 -- ---- worlds
 
@@ -174,7 +216,7 @@ pub record WorldFrom (schedule : WireView) (from : Views schedule) (told : Telli
 
 -- no move did
 pub at_once : (schedule : WireView) (says : ℕ) (w : ItemWorld) (x : AppWorld) (runs : WorldSimulates schedule bounds says w x) → WorldFrom schedule (views_of runs) nothing_told says w x
-at_once schedule says w x runs = record { world = runs; leads = λ i o is. ([], refl, (refl, refl)) }
+at_once schedule says w x runs = record { world = runs; leads = λ i o is. ([], refl, ((refl, refl), refl)) }
 
 -- the same was told
 pub retold : (schedule : WireView) (from : Views schedule) (told other : Telling) (says : ℕ) (w : ItemWorld) (x : AppWorld) → ((i : ℕ) → told i ≡ other i) → WorldFrom schedule from told says w x → WorldFrom schedule from other says w x

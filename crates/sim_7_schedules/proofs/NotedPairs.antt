@@ -17,11 +17,11 @@ use Rattle.sim_3_items.specs.Items.{stanzas_read}
 use Rattle.sim_3_items.specs.Labels.{Drops, Enters, Gives, Label, Learns, Names, Reads, Says, Takes, labels_of}
 use Rattle.sim_3_items.specs.Reading.{noted}
 use Rattle.sim_5_moves.specs.Running.{Leads}
-use Rattle.sim_7_schedules.proofs.LabelledLists.{in_epoch, lists_grow, read_by, said_by, taken_by, was}
+use Rattle.sim_7_schedules.proofs.LabelledLists.{given_by, in_epoch, lists_grow, read_by, said_by, taken_by, was}
 use Rattle.sim_7_schedules.proofs.SessionPairs.{found_pair, pair_of}
-use Rattle.sim_7_schedules.specs.Courses.{AreNoted, IsNoted, before, handled_in, put_in}
+use Rattle.sim_7_schedules.specs.Courses.{AreNoted, IsNoted, MayPut, before, handled_in, put_in}
 use Rattle.sim_7_schedules.specs.Pairs.{Pair}
-use Rattle.sim_7_schedules.specs.Simulation.{LabelsAreNotedIn, clients_of, takes_of}
+use Rattle.sim_7_schedules.specs.Simulation.{LabelsAreNotedIn, clients_of, gives_of, takes_of}
 use Rattle.cmd_world.specs.Moves as moves
 use Rattle.cmd_world.specs.Moves.{Move}
 use Rattle.cmd_world.specs.Worlds.{ByteWorld}
@@ -89,6 +89,10 @@ puts_noted now (Ended ∷ ns) e = ap (map written_item) (none_more (now == e) (i
 
 -- ---- what the server reads
 
+either_none : (b : Bool) → cond {A = List ItemOut} b [] [] ≡ []
+either_none true = refl
+either_none false = refl
+
 -- where the client notes nothing down all is of the same epoch
 nothing_noted : (ns : List (Note ItemOut)) → written_notes ns ≡ [] → ns ≡ []
 nothing_noted [] none = refl
@@ -103,11 +107,7 @@ one_taken true z l = refl
 one_taken false z l = refl
 
 taken_at_once : (now : ℕ) (ds : List D) (e : ℕ) → clients_of ds ≡ [] → in_epoch taken_by now ds e ≡ cond (now == e) (takes_of ds) []
-taken_at_once now [] e none = by (now == e)
-  where
-    by : (b : Bool) → [] ≡ cond {A = List ItemOut} b [] []
-    by true = refl
-    by false = refl
+taken_at_once now [] e none = sym (either_none (now == e))
 taken_at_once now (Takes z ∷ ds) e none = ap (λ l. cond (now == e) (z ∷ []) [] ++ l) (taken_at_once now ds e none) ∙ one_taken (now == e) z (takes_of ds)
 taken_at_once now (Gives z ∷ ds) e none = other_taken now (in_epoch taken_by now ds e) (takes_of ds) e (taken_at_once now ds e none)
 taken_at_once now (Enters ∷ ds) e none = other_taken now (in_epoch taken_by now ds e) (takes_of ds) e (taken_at_once now ds e none)
@@ -129,13 +129,13 @@ none_taken now (Enters ∷ ds) e none = none_more (now == e) (in_epoch taken_by 
 none_taken now (Learns ∷ ds) e none = none_more (now == e) (in_epoch taken_by now ds e) ∙ none_taken now ds e none
 none_taken now (Drops ∷ ds) e none = none_more (now == e) (in_epoch taken_by now ds e) ∙ none_taken now ds e none
 
+silent_notes : (o : Option DeviceState) → notes_of [] o ≡ []
+silent_notes None = refl
+silent_notes (Some d) = refl
+
 -- in a move of bytes the one or the other does nothing
 one_idle : (m : Move) (V : ByteWorld) (i : ℕ) → (notes_in m V i ≡ []) ⊎ (read_in m V i ≡ [])
-one_idle (moves.Up position count) V i = inl (silent (slice_get V.devices i))
-  where
-    silent : (o : Option DeviceState) → notes_of [] o ≡ []
-    silent None = refl
-    silent (Some d) = refl
+one_idle (moves.Up position count) V i = inl (silent_notes (slice_get V.devices i))
 one_idle (moves.Dial device) V i = inr refl
 one_idle (moves.Forget device) V i = inr refl
 one_idle (moves.Close device) V i = inr refl
@@ -145,16 +145,55 @@ one_idle (moves.Tick milliseconds) V i = inr refl
 one_idle (moves.Down position count) V i = inr refl
 one_idle (moves.Cut position up down) V i = inr refl
 
-either_none : (b : Bool) → cond {A = List ItemOut} b [] [] ≡ []
-either_none true = refl
-either_none false = refl
-
 reads_taken : (m : Move) (V : ByteWorld) (i now : ℕ) (ns : List (Note ItemOut)) (ds : List D) (e : ℕ) → notes_in m V i ≡ written_notes ns → clients_of ds ≡ clients_of (noted ns) → takes_of ds ≡ read_in m V i
     → in_epoch taken_by now ds e ≡ cond (now == e) (read_in m V i) []
 reads_taken m V i now ns ds e notes clients taken = elim (one_idle m V i) [
   | inl silent ↦
       taken_at_once now ds e (clients ∙ ap (λ l. clients_of (noted l)) (nothing_noted ns (sym notes ∙ silent))) ∙ ap (λ l. cond (now == e) l []) taken
   | inr unread ↦ none_taken now ds e (taken ∙ unread) ∙ sym (ap (λ l. cond (now == e) l []) unread ∙ either_none (now == e))
+]
+
+-- ---- what the server puts
+
+given_at_once : (now : ℕ) (ds : List D) (e : ℕ) → clients_of ds ≡ [] → in_epoch given_by now ds e ≡ cond (now == e) (gives_of ds) []
+given_at_once now [] e none = sym (either_none (now == e))
+given_at_once now (Gives z ∷ ds) e none = ap (λ l. cond (now == e) (z ∷ []) [] ++ l) (given_at_once now ds e none) ∙ one_taken (now == e) z (gives_of ds)
+given_at_once now (Takes z ∷ ds) e none = other_taken now (in_epoch given_by now ds e) (gives_of ds) e (given_at_once now ds e none)
+given_at_once now (Enters ∷ ds) e none = other_taken now (in_epoch given_by now ds e) (gives_of ds) e (given_at_once now ds e none)
+given_at_once now (Learns ∷ ds) e none = other_taken now (in_epoch given_by now ds e) (gives_of ds) e (given_at_once now ds e none)
+given_at_once now (Drops ∷ ds) e none = other_taken now (in_epoch given_by now ds e) (gives_of ds) e (given_at_once now ds e none)
+given_at_once now (Names ∷ ds) e none = absurd (let no_way : ⊥ = cc in no_way)
+given_at_once now (Says z ∷ ds) e none = absurd (let no_way : ⊥ = cc in no_way)
+given_at_once now (Reads z ∷ ds) e none = absurd (let no_way : ⊥ = cc in no_way)
+
+none_given : (now : ℕ) (ds : List D) (e : ℕ) → gives_of ds ≡ [] → in_epoch given_by now ds e ≡ []
+none_given now [] e none = refl
+none_given now (Names ∷ ds) e none = none_given (now + 1) ds e none
+none_given now (Gives z ∷ ds) e none = absurd (let no_way : ⊥ = cc in no_way)
+none_given now (Says z ∷ ds) e none = none_more (now == e) (in_epoch given_by now ds e) ∙ none_given now ds e none
+none_given now (Takes z ∷ ds) e none = none_more (now == e) (in_epoch given_by now ds e) ∙ none_given now ds e none
+none_given now (Reads z ∷ ds) e none = none_more (now == e) (in_epoch given_by now ds e) ∙ none_given now ds e none
+none_given now (Enters ∷ ds) e none = none_more (now == e) (in_epoch given_by now ds e) ∙ none_given now ds e none
+none_given now (Learns ∷ ds) e none = none_more (now == e) (in_epoch given_by now ds e) ∙ none_given now ds e none
+none_given now (Drops ∷ ds) e none = none_more (now == e) (in_epoch given_by now ds e) ∙ none_given now ds e none
+
+-- in a move of bytes the client notes nothing down, or the server puts nothing
+one_quiet : (m : Move) (V : ByteWorld) (i : ℕ) (given : List ItemOut) → MayPut m given → (notes_in m V i ≡ []) ⊎ (given ≡ [])
+one_quiet (moves.Up position count) V i given may = inl (silent_notes (slice_get V.devices i))
+one_quiet (moves.Dial device) V i given may = inr may
+one_quiet (moves.Forget device) V i given may = inr may
+one_quiet (moves.Close device) V i given may = inr may
+one_quiet (moves.Say device line to text private) V i given may = inr may
+one_quiet (moves.CatchUp device line most) V i given may = inr may
+one_quiet (moves.Tick milliseconds) V i given may = inr may
+one_quiet (moves.Down position count) V i given may = inr may
+one_quiet (moves.Cut position up down) V i given may = inr may
+
+gives_made : (m : Move) (V : ByteWorld) (i now : ℕ) (ns : List (Note ItemOut)) (ds : List D) (e : ℕ) → notes_in m V i ≡ written_notes ns → clients_of ds ≡ clients_of (noted ns) → MayPut m (gives_of ds)
+    → in_epoch given_by now ds e ≡ cond (now == e) (gives_of ds) []
+gives_made m V i now ns ds e notes clients may = elim (one_quiet m V i (gives_of ds) may) [
+  | inl silent ↦ given_at_once now ds e (clients ∙ ap (λ l. clients_of (noted l)) (nothing_noted ns (sym notes ∙ silent)))
+  | inr none ↦ none_given now ds e none ∙ sym (ap (λ l. cond (now == e) l []) none ∙ either_none (now == e))
 ]
 
 -- ---- pairs
@@ -170,12 +209,17 @@ got_was : (o : Option (links.Session ItemOut)) → (was (seen_as o)).up_got ≡ 
 got_was None = refl
 got_was (Some t) = refl
 
+put_was : (o : Option (links.Session ItemOut)) → (was (seen_as o)).down_put ≡ (before (option_map pair_of o)).down.put
+put_was None = refl
+put_was (Some t) = refl
+
 up_was : (o : Option (links.Session ItemOut)) → (was (seen_as o)).up_put ≡ (before (option_map pair_of o)).up.put
 up_was None = refl
 up_was (Some t) = refl
 
-pub pairs_noted : (m : Move) (V : ByteWorld) (i : ℕ) (v next : View ItemOut) (d : sessions.Sessions) → LinkReached v → IsDevice stanzas_read (seen v) d → Leads (LabelsAreNotedIn m V i) v next → AreNoted v.epoch (notes_in m V i) (read_in m V i) (pairs_by v) (pairs_by next)
-pairs_noted m V i v next d reached is leads number e q at epoch =
+are_noted : (m : Move) (V : ByteWorld) (i : ℕ) (v next : View ItemOut) (d : sessions.Sessions) → LinkReached v → IsDevice stanzas_read (seen v) d → (leads : Leads (LabelsAreNotedIn m V i) v next)
+    → AreNoted v.epoch (notes_in m V i) (read_in m V i) (gives_of (labels_of leads.0)) (pairs_by v) (pairs_by next)
+are_noted m V i v next d reached is leads number e q at epoch =
     let (t, there, same) = found_pair (next.sessions number) q at in
     let (made, along, told) = leads in
     let labels = labels_of made in
@@ -184,8 +228,13 @@ pairs_noted m V i v next d reached is leads number e q at epoch =
     same_clients read_by ((λ z. refl), (λ z. refl), refl, refl, refl) v.epoch labels (noted told.0) e told.2.0 ∙ reads_noted v.epoch told.0 e ∙ ap (λ ns. handled_in v.epoch ns e) (sym told.1) in
     let put : map written_item (in_epoch said_by v.epoch labels e) ≡ put_in v.epoch (notes_in m V i) e =
     ap (map written_item) (same_clients said_by ((λ z. refl), (λ z. refl), refl, refl, refl) v.epoch labels (noted told.0) e told.2.0) ∙ puts_noted v.epoch told.0 e ∙ ap (λ ns. put_in v.epoch ns e) (sym told.1) in
-    subst (λ (p : Pair). IsNoted v.epoch (notes_in m V i) (read_in m V i) (before (pairs_by v number)) p e) same (record {
+    subst (λ (p : Pair). IsNoted v.epoch (notes_in m V i) (read_in m V i) (gives_of labels) (before (pairs_by v number)) p e) same (record {
       handled = grows.down_got ∙ ap₂ (λ a b. a ++ b) (down_was (v.sessions number)) handled;
       put = (in_epoch said_by v.epoch labels e, grows.up_put ∙ ap (λ l. l ++ in_epoch said_by v.epoch labels e) (up_was (v.sessions number)), put);
       taken = grows.up_got ∙ ap₂ (λ a b. a ++ b) (got_was (v.sessions number)) (reads_taken m V i v.epoch told.0 labels e told.1 told.2.0 told.2.1);
+      given_there = grows.down_put ∙ ap₂ (λ a b. a ++ b) (put_was (v.sessions number)) (gives_made m V i v.epoch told.0 labels e told.1 told.2.0 told.3);
     })
+
+pub pairs_noted : (m : Move) (V : ByteWorld) (i : ℕ) (v next : View ItemOut) (d : sessions.Sessions) → LinkReached v → IsDevice stanzas_read (seen v) d → Leads (LabelsAreNotedIn m V i) v next
+    → (given : List ItemOut) × MayPut m given × AreNoted v.epoch (notes_in m V i) (read_in m V i) given (pairs_by v) (pairs_by next)
+pairs_noted m V i v next d reached is leads = let (made, along, told) = leads in (gives_of (labels_of made), told.3, are_noted m V i v next d reached is leads)

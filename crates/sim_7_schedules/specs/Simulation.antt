@@ -7,7 +7,7 @@ use Rattle.sim_3_images.specs.WorldEncodings.{WorldEncodes}
 use Rattle.sim_3_images.specs.Fitting.{MayItem}
 use Rattle.sim_3_images.specs.Notes.{notes_in}
 use Rattle.sim_3_images.specs.Reads.{read_in}
-use Rattle.sim_3_items.specs.Labels.{Label, Names, Reads, Says, Takes}
+use Rattle.sim_3_items.specs.Labels.{Gives, Label, Names, Reads, Says, Takes}
 use Rattle.sim_3_items.specs.Reading.{noted}
 use Rattle.cl_handlers.specs.Speech.{Note}
 use Rattle.law_client.specs.Rendered.{note_rendered}
@@ -28,6 +28,7 @@ use Rattle.cmd_world.specs.Lines.{moves_of, stepped}
 use Rattle.cmd_world.specs.Moves.{Move, moved}
 use Rattle.cmd_world.specs.WorldReports.{report_of}
 use Rattle.cmd_world.specs.Worlds as bytes
+use Rattle.sim_7_schedules.specs.Courses.{MayPut}
 use Rattle.sim_5_moves.specs.Running.{Bounds, IsInBounds, IsOwned, Leads, MoveSimulates, WorldSimulates}
 use Rattle.xml_writer.specs.Items.{ItemOut, written_item}
 
@@ -77,13 +78,19 @@ takes_of [] = []
 takes_of (Takes z ∷ done) = z ∷ takes_of done
 takes_of (_ ∷ done) = takes_of done
 
+-- and those that it puts
+abbrev pub gives_of : List (Label ItemOut) → List ItemOut
+gives_of [] = []
+gives_of (Gives z ∷ done) = z ∷ gives_of done
+gives_of (_ ∷ done) = gives_of done
+
 -- the ones are those of what the client notes down, and the others those that the server reads
 abbrev pub LabelsAreNoted : List (Note ItemOut) → List ItemOut → List (Label ItemOut) → Type 0
 LabelsAreNoted notes read done = (clients_of done ≡ clients_of (noted notes)) × (takes_of done ≡ read)
 
--- and so in a move of bytes
+-- and so in a move of bytes; and the server puts none but where bytes are handed to it
 abbrev pub LabelsAreNotedIn : Move → bytes.ByteWorld → ℕ → List (Label ItemOut) → Type 0
-LabelsAreNotedIn m W i done = (notes : List (Note ItemOut)) × (notes_in m W i ≡ map (note_rendered written_item) notes) × LabelsAreNoted notes (read_in m W i) done
+LabelsAreNotedIn m W i done = (notes : List (Note ItemOut)) × (notes_in m W i ≡ map (note_rendered written_item) notes) × LabelsAreNoted notes (read_in m W i) done × MayPut m (gives_of done)
 
 -- a world of bytes and one of the applications, with these links between them
 pub record SimulatesBy (schedule : WireView) (W : bytes.ByteWorld) (x : AppWorld) (views : Views schedule) : Type 0 where
