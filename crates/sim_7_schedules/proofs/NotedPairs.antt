@@ -232,7 +232,7 @@ are_noted m V i v next d reached is leads number e q at epoch =
       handled = grows.down_got ∙ ap₂ (λ a b. a ++ b) (down_was (v.sessions number)) handled;
       put = (in_epoch said_by v.epoch labels e, grows.up_put ∙ ap (λ l. l ++ in_epoch said_by v.epoch labels e) (up_was (v.sessions number)), put);
       taken = grows.up_got ∙ ap₂ (λ a b. a ++ b) (got_was (v.sessions number)) (reads_taken m V i v.epoch told.0 labels e told.1 told.2.0 told.2.1);
-      given_there = grows.down_put ∙ ap₂ (λ a b. a ++ b) (put_was (v.sessions number)) (gives_made m V i v.epoch told.0 labels e told.1 told.2.0 told.3);
+      sent = grows.down_put ∙ ap₂ (λ a b. a ++ b) (put_was (v.sessions number)) (gives_made m V i v.epoch told.0 labels e told.1 told.2.0 told.3);
     })
 
 pub pairs_noted : (m : Move) (V : ByteWorld) (i : ℕ) (v next : View ItemOut) (d : sessions.Sessions) → LinkReached v → IsDevice stanzas_read (seen v) d → Leads (LabelsAreNotedIn m V i) v next

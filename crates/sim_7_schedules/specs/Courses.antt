@@ -74,7 +74,7 @@ pub record IsNoted (epoch : ℕ) (notes : List (Note (List ℕ))) (read given : 
   pub handled : q.down.got ≡ p.down.got ++ handled_in epoch notes e
   pub put : (more : List ItemOut) × (q.up.put ≡ p.up.put ++ more) × (map written_item more ≡ put_in epoch notes e)
   pub taken : q.up.got ≡ p.up.got ++ (if epoch == e then read else [])
-  pub given_there : q.down.put ≡ p.down.put ++ (if epoch == e then given else [])
+  pub sent : q.down.put ≡ p.down.put ++ (if epoch == e then given else [])
 
 -- So it is of each session that has an epoch then. (In one that has none nothing was put or handled.)
 abbrev pub AreNoted : ℕ → List (Note (List ℕ)) → List ItemOut → List ItemOut → (ℕ → Option Pair) → (ℕ → Option Pair) → Type 0
