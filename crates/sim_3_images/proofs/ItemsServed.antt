@@ -199,7 +199,7 @@ emitted_device (Shut k ∷ outs) ws position = emitted_device outs (emitted (Shu
 emitted_device (Took from to origin ∷ outs) ws position = emitted_device outs ws position
 
 -- what is read of one device, or of another
-nothing_either : (b : Bool) → cond {A = List ItemOut} b [] [] ≡ []
+pub nothing_either : (b : Bool) → cond {A = List ItemOut} b [] [] ≡ []
 nothing_either true = refl
 nothing_either false = refl
 

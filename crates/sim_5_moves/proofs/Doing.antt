@@ -80,7 +80,7 @@ module _ (position i : ℕ) (w : ItemWorld) (d : ItemDevice) (wire : ItemWire) (
 
 -- ---- nothing comes
 
-here_is : (position : ℕ) (o : Option ℕ) → has_wire position o ≡ true → o ≡ Some position
+pub here_is : (position : ℕ) (o : Option ℕ) → has_wire position o ≡ true → o ≡ Some position
 here_is position None e = absurd (let no_way : ⊥ = cc in no_way)
 here_is position (Some h) e = ap Some (eqb-true h position e)
 

@@ -7,6 +7,7 @@ use Rattle.sim_2_links.specs.Views.{Table, View}
 use Rattle.sim_2_links.specs.Views as links
 use Rattle.sim_2_links.specs.Words.{Ack, Auth, Bind, Enable, Foot, Hdr, Req, Resp, ResumeAt, St, Up as UpTraffic, UpWord}
 use Rattle.sim_2_links.specs.Stages.{Conn}
+use Rattle.sim_3_images.proofs.ItemsServed.{nothing_either}
 use Rattle.sim_3_images.specs.Reads.{item_read_first, item_read_on, item_reads, read_here, read_where}
 use Rattle.sim_3_items.specs.Identities.{Identity, Login}
 use Rattle.sim_3_items.specs.ItemMoves.{Up}
@@ -99,11 +100,7 @@ module _ (position : ℕ) (w : ItemWorld) (wire : ItemWire) (there : slice_get w
 
 -- nothing goes up
 pub nothing_read : (position : ℕ) (w : ItemWorld) (wire : ItemWire) → slice_get w.wires position ≡ Some wire → wire.up.items ≡ [] → (i : ℕ) → item_reads (Up position) w i ≡ []
-nothing_read position w wire there none i = reads_are position w wire there [] none i ∙ by (wire.device == i)
-  where
-    by : (b : Bool) → cond {A = List ItemOut} b [] [] ≡ []
-    by true = refl
-    by false = refl
+nothing_read position w wire there none i = reads_are position w wire there [] none i ∙ nothing_either (wire.device == i)
 
 -- ---- what devices do then
 

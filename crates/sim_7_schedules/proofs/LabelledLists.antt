@@ -7,8 +7,9 @@ use Rattle.sim_1_applications.specs.Devices.{Sessions}
 use Rattle.sim_2_events.specs.Lists.{IsDevice, IsOnline}
 use Rattle.sim_2_links.proofs.Entries.{other_number}
 use Rattle.sim_2_events.proofs.Acts.{move_leads}
+use Rattle.sim_5_devices.proofs.Along.{link_more}
 use Rattle.sim_2_links.specs.Events.{Bound, Counted, Dropped, Ended, Handled, Heard, IsSeenAs, Known, Learned, LinkEvent, May, Named, Said, Seen, SeenSession, Served, after, new_session, own_number, row_number, seen}
-use Rattle.sim_2_links.specs.Machine.{nothing_yet, AsksToBind, AsksToResume, Cuts, Demands, Detaches, Dials, EndsRow, Foots, Forgets, Hears, HearsEarly, Keeps, LetsGo, LinkMove, LinkMoves, LinkReached, LinkReaches, Parks, Puts, Queues, ReadsBound, ReadsCount, ReadsEnabled, ReadsFailed, ReadsHand, ReadsRequest, ReadsResumed, ReadsStanza, Requests, Serves, Shuts, TakesBind, TakesCount, TakesEnable, TakesFoot, TakesHand, TakesHighResume, TakesLateResume, TakesRequest, TakesResume, TakesStanza, TakesStrangeResume}
+use Rattle.sim_2_links.specs.Machine.{AsksToBind, AsksToResume, Cuts, Demands, Detaches, Dials, EndsRow, Foots, Forgets, Hears, HearsEarly, Keeps, LetsGo, LinkMove, LinkMoves, LinkReached, LinkReaches, Parks, Puts, Queues, ReadsBound, ReadsCount, ReadsEnabled, ReadsFailed, ReadsHand, ReadsRequest, ReadsResumed, ReadsStanza, Requests, Serves, Shuts, TakesBind, TakesCount, TakesEnable, TakesFoot, TakesHand, TakesHighResume, TakesLateResume, TakesRequest, TakesResume, TakesStanza, TakesStrangeResume}
 use Rattle.sim_2_links.specs.Telling.{Tells, of_own, of_row}
 use Rattle.sim_2_links.specs.Views.{Own, Row, Table, View, changed, has, with_at}
 use Rattle.sim_3_items.specs.Items.{stanzas_read}
@@ -339,13 +340,6 @@ module _ (v : View ItemOut) where
 
 -- ---- along moves
 
-then_reaches : (moves : List (LinkMove ItemOut)) (move : LinkMove ItemOut) (v middle last : View ItemOut) → LinkReaches moves v middle → LinkMoves move middle last → LinkReaches (moves ++ move ∷ []) v last
-then_reaches [] move v middle last same by = (last, subst (λ x. LinkMoves move x last) same by, refl)
-then_reaches (m ∷ moves) move v middle last (next, first, along) by = (next, first, then_reaches moves move next middle last along by)
-
-then_reached : (v next : View ItemOut) (move : LinkMove ItemOut) → LinkReached v → LinkMoves move v next → LinkReached next
-then_reached v next move reached by = record { moves = reached.moves ++ move ∷ []; reaches = then_reaches reached.moves move nothing_yet v next reached.reaches by }
-
 both_grow : (now later : ℕ) (a b : List D) (e : ℕ) (t u w : S) → epoch_after now a ≡ later → Grows now a e t u → Grows later b e u w → Grows now (a ++ b) e t w
 both_grow now later a b e t u w is one two = record {
   up_put = two.up_put ∙ ap (λ l. l ++ in_epoch said_by later b e) one.up_put ∙ joined said_by t.up_put;
@@ -369,7 +363,7 @@ moves_come [] v last d reached same is q e for =
 moves_come (move ∷ moves) v last d reached (next, by, along) is q e for =
     let l = move_leads stanzas_read move v next d reached by is in
     let one = seen_comes (seen v) d is l.0 (seen next) (label_of move) l.2 (labelled v move next l.0 by l.1) in
-    let rest = moves_come moves next last l.3.0 (then_reached v next move reached by) along l.3.2 q e for in
+    let rest = moves_come moves next last l.3.0 (link_more v next move reached by) along l.3.2 q e for in
     let here = one.0 q e rest.0 in
     (here.0, both_grow v.epoch next.epoch (label_of move) (labels_of moves) e (was ((seen v).sessions q)) (was ((seen next).sessions q)) (was ((seen last).sessions q)) one.1 here.1 rest.1)
 

@@ -8,7 +8,8 @@ use Rattle.sim_3_images.specs.Reads.{all_item_reads, item_reads}
 use Rattle.sim_3_items.specs.ItemMoves.{CatchUp, Close, Cut, Dial, Down, DownEnd, Forget, ItemMove, Say, Tick, Up, UpEnd, all_moved, moved}
 use Rattle.sim_3_items.specs.ItemWorlds.{ItemWorld}
 use Rattle.sim_3_items.specs.Labels.{Drops, Enters, Gives, Label, Learns, Names, Reads, Says, Takes, gives_all, label_of, labels_of}
-use Rattle.sim_3_items.specs.Reading.{noted, noted_by}
+use Rattle.sim_3_items.specs.Reading.{noted}
+use Rattle.sim_4_links_follow.proofs.Courses.{noted_on}
 use Rattle.cmd_schedule.specs.Schedules.{WireView}
 use Rattle.sim_1_applications.specs.Devices.{AppWorld}
 use Rattle.sim_5_moves.specs.Running.{DoesBy, Leads, WorldSimulates}
@@ -35,10 +36,6 @@ clients_joined (Gives z ∷ first) second = clients_joined first second
 clients_joined (Enters ∷ first) second = clients_joined first second
 clients_joined (Learns ∷ first) second = clients_joined first second
 clients_joined (Drops ∷ first) second = clients_joined first second
-
-noted_joined : (first second : List (Note ItemOut)) → noted (first ++ second) ≡ noted first ++ noted second
-noted_joined [] second = refl
-noted_joined (one ∷ first) second = ap (λ l. noted_by one ++ l) (noted_joined first second) ∙ sym (append_assoc (noted_by one) (noted first) (noted second))
 
 takes_joined : (first second : List (Label ItemOut)) → takes_of (first ++ second) ≡ takes_of first ++ takes_of second
 takes_joined [] second = refl
@@ -92,7 +89,7 @@ leads_both first second v mid last one two = (
   (
     (
       ap clients_of (labels_joined one.0 two.0) ∙ clients_joined (labels_of one.0) (labels_of two.0) ∙ ap₂ (λ a b. a ++ b) one.2.0.0 two.2.0.0
-          ∙ sym (ap clients_of (noted_joined first.notes second.notes) ∙ clients_joined (noted first.notes) (noted second.notes)),
+          ∙ sym (ap clients_of (noted_on first.notes second.notes) ∙ clients_joined (noted first.notes) (noted second.notes)),
       ap takes_of (labels_joined one.0 two.0) ∙ takes_joined (labels_of one.0) (labels_of two.0) ∙ ap₂ (λ a b. a ++ b) one.2.0.1 two.2.0.1,
     ),
     may_both first.ups second.ups one.0 two.0 one.2.1 two.2.1,

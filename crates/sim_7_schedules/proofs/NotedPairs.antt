@@ -10,9 +10,10 @@ use Rattle.sim_2_links.specs.Events.{seen, seen_as, seen_session}
 use Rattle.sim_2_links.specs.Machine.{LinkReached}
 use Rattle.sim_2_links.specs.Views as links
 use Rattle.sim_2_links.specs.Views.{View}
-use Rattle.sim_3_images.specs.Notes.{notes_in, notes_of}
+use Rattle.sim_3_images.proofs.ItemsServed.{nothing_either}
+use Rattle.sim_3_images.proofs.NotesTold.{nothing_noted as unspoken}
+use Rattle.sim_3_images.specs.Notes.{notes_in}
 use Rattle.sim_3_images.specs.Reads.{read_in}
-use Rattle.cmd_network.specs.Devices.{DeviceState}
 use Rattle.sim_3_items.specs.Items.{stanzas_read}
 use Rattle.sim_3_items.specs.Labels.{Drops, Enters, Gives, Label, Learns, Names, Reads, Says, Takes, labels_of}
 use Rattle.sim_3_items.specs.Reading.{noted}
@@ -89,10 +90,6 @@ puts_noted now (Ended ∷ ns) e = ap (map written_item) (none_more (now == e) (i
 
 -- ---- what the server reads
 
-either_none : (b : Bool) → cond {A = List ItemOut} b [] [] ≡ []
-either_none true = refl
-either_none false = refl
-
 -- where the client notes nothing down all is of the same epoch
 nothing_noted : (ns : List (Note ItemOut)) → written_notes ns ≡ [] → ns ≡ []
 nothing_noted [] none = refl
@@ -107,7 +104,7 @@ one_taken true z l = refl
 one_taken false z l = refl
 
 taken_at_once : (now : ℕ) (ds : List D) (e : ℕ) → clients_of ds ≡ [] → in_epoch taken_by now ds e ≡ cond (now == e) (takes_of ds) []
-taken_at_once now [] e none = sym (either_none (now == e))
+taken_at_once now [] e none = sym (nothing_either (now == e))
 taken_at_once now (Takes z ∷ ds) e none = ap (λ l. cond (now == e) (z ∷ []) [] ++ l) (taken_at_once now ds e none) ∙ one_taken (now == e) z (takes_of ds)
 taken_at_once now (Gives z ∷ ds) e none = other_taken now (in_epoch taken_by now ds e) (takes_of ds) e (taken_at_once now ds e none)
 taken_at_once now (Enters ∷ ds) e none = other_taken now (in_epoch taken_by now ds e) (takes_of ds) e (taken_at_once now ds e none)
@@ -129,13 +126,9 @@ none_taken now (Enters ∷ ds) e none = none_more (now == e) (in_epoch taken_by 
 none_taken now (Learns ∷ ds) e none = none_more (now == e) (in_epoch taken_by now ds e) ∙ none_taken now ds e none
 none_taken now (Drops ∷ ds) e none = none_more (now == e) (in_epoch taken_by now ds e) ∙ none_taken now ds e none
 
-silent_notes : (o : Option DeviceState) → notes_of [] o ≡ []
-silent_notes None = refl
-silent_notes (Some d) = refl
-
 -- in a move of bytes the one or the other does nothing
 one_idle : (m : Move) (V : ByteWorld) (i : ℕ) → (notes_in m V i ≡ []) ⊎ (read_in m V i ≡ [])
-one_idle (moves.Up position count) V i = inl (silent_notes (slice_get V.devices i))
+one_idle (moves.Up position count) V i = inl (unspoken (slice_get V.devices i))
 one_idle (moves.Dial device) V i = inr refl
 one_idle (moves.Forget device) V i = inr refl
 one_idle (moves.Close device) V i = inr refl
@@ -150,13 +143,13 @@ reads_taken : (m : Move) (V : ByteWorld) (i now : ℕ) (ns : List (Note ItemOut)
 reads_taken m V i now ns ds e notes clients taken = elim (one_idle m V i) [
   | inl silent ↦
       taken_at_once now ds e (clients ∙ ap (λ l. clients_of (noted l)) (nothing_noted ns (sym notes ∙ silent))) ∙ ap (λ l. cond (now == e) l []) taken
-  | inr unread ↦ none_taken now ds e (taken ∙ unread) ∙ sym (ap (λ l. cond (now == e) l []) unread ∙ either_none (now == e))
+  | inr unread ↦ none_taken now ds e (taken ∙ unread) ∙ sym (ap (λ l. cond (now == e) l []) unread ∙ nothing_either (now == e))
 ]
 
 -- ---- what the server puts
 
 given_at_once : (now : ℕ) (ds : List D) (e : ℕ) → clients_of ds ≡ [] → in_epoch given_by now ds e ≡ cond (now == e) (gives_of ds) []
-given_at_once now [] e none = sym (either_none (now == e))
+given_at_once now [] e none = sym (nothing_either (now == e))
 given_at_once now (Gives z ∷ ds) e none = ap (λ l. cond (now == e) (z ∷ []) [] ++ l) (given_at_once now ds e none) ∙ one_taken (now == e) z (gives_of ds)
 given_at_once now (Takes z ∷ ds) e none = other_taken now (in_epoch given_by now ds e) (gives_of ds) e (given_at_once now ds e none)
 given_at_once now (Enters ∷ ds) e none = other_taken now (in_epoch given_by now ds e) (gives_of ds) e (given_at_once now ds e none)
@@ -179,7 +172,7 @@ none_given now (Drops ∷ ds) e none = none_more (now == e) (in_epoch given_by n
 
 -- in a move of bytes the client notes nothing down, or the server puts nothing
 one_quiet : (m : Move) (V : ByteWorld) (i : ℕ) (given : List ItemOut) → MayPut m given → (notes_in m V i ≡ []) ⊎ (given ≡ [])
-one_quiet (moves.Up position count) V i given may = inl (silent_notes (slice_get V.devices i))
+one_quiet (moves.Up position count) V i given may = inl (unspoken (slice_get V.devices i))
 one_quiet (moves.Dial device) V i given may = inr may
 one_quiet (moves.Forget device) V i given may = inr may
 one_quiet (moves.Close device) V i given may = inr may
@@ -193,7 +186,7 @@ gives_made : (m : Move) (V : ByteWorld) (i now : ℕ) (ns : List (Note ItemOut))
     → in_epoch given_by now ds e ≡ cond (now == e) (gives_of ds) []
 gives_made m V i now ns ds e notes clients may = elim (one_quiet m V i (gives_of ds) may) [
   | inl silent ↦ given_at_once now ds e (clients ∙ ap (λ l. clients_of (noted l)) (nothing_noted ns (sym notes ∙ silent)))
-  | inr none ↦ none_given now ds e none ∙ sym (ap (λ l. cond (now == e) l []) none ∙ either_none (now == e))
+  | inr none ↦ none_given now ds e none ∙ sym (ap (λ l. cond (now == e) l []) none ∙ nothing_either (now == e))
 ]
 
 -- ---- pairs

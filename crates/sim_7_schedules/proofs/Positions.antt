@@ -10,6 +10,7 @@ use Rattle.sim_3_items.specs.ItemMoves.{ItemMove, Down, DownEnd, Tick, Up, UpEnd
 use Rattle.sim_3_items.specs.ItemMoves as items
 use Rattle.sim_3_items.specs.ItemPipes.{ItemWire, is_end_due, up_end_reported}
 use Rattle.sim_3_items.specs.ItemWorlds.{ItemDevice, ItemWorld}
+use Rattle.sim_5_moves.proofs.Doing.{here_is}
 use Rattle.xml_writer.specs.Items.{ItemOut}
 
 abbrev pub here_of : Option ItemDevice → Option ℕ
@@ -110,10 +111,6 @@ pub data Reaches (position : ℕ) (w : ItemWorld) : Type 0 where
   Nobody : moved (Down position) w ≡ w → ((i : ℕ) → item_notes (Down position) w i ≡ []) → Reaches position w
   Device : (wire : ItemWire) (d : ItemDevice) → slice_get w.wires position ≡ Some wire → slice_get w.devices wire.device ≡ Some d → d.here ≡ Some position → Reaches position w
 
-has_is : (position : ℕ) (o : Option ℕ) → has_wire position o ≡ true → o ≡ Some position
-has_is position None e = absurd (let no : ⊥ = cc in no)
-has_is position (Some h) e = ap Some (eqb-true h position e)
-
 pub reaches : (position : ℕ) (w : ItemWorld) → Reaches position w
 reaches position w = by (slice_get w.wires position) refl
   where
@@ -131,7 +128,7 @@ reaches position w = by (slice_get w.wires position) refl
     of_device wire at None found =
         Nobody (ap (λ o. items.at_wire position f o w) at ∙ ap (λ o. items.at_device position f wire o w) found) (silent wire at None found refl)
     of_device wire at (Some d) found = elim (cases_Bool (has_wire position d.here)) [
-      | inl is ↦ Device wire d at found (has_is position d.here is)
+      | inl is ↦ Device wire d at found (here_is position d.here is)
       | inr not_is ↦ Nobody (ap (λ o. items.at_wire position f o w) at ∙ ap (λ o. items.at_device position f wire o w) found ∙ ap (λ b. cond b (f wire d w) w) not_is) (silent wire at (Some d) found (ap (λ b. cond b (heard_notes wire.down.items d) []) not_is))
     ]
 
