@@ -77,6 +77,7 @@ pub mod LabelledLists
 pub mod HistorySteps
 pub mod NotedPairs
 pub mod SessionCourses
+pub mod Worked
 pub mod Further
 -- which faults there are
 pub mod Reasons
