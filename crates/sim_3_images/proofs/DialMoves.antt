@@ -12,7 +12,7 @@ use Rattle.cl_handlers.specs.ClientSteps as turns
 use Rattle.cl_handlers.specs.ClientSteps.{drops, is_apart, puts}
 use Rattle.srv_state.specs.State.{ServerState}
 use Rattle.cmd_network.specs.Devices as devices
-use Rattle.cmd_network.specs.Devices.{DeviceState, client_after, has_wire}
+use Rattle.cmd_network.specs.Devices.{DeviceState, client_after}
 use Rattle.xml_framer.specs.Limits.{client_limits, server_limits}
 use Rattle.xml_framer.specs.States.{State}
 use Rattle.xml_framer.specs.declared.states.Phase.{Phase}

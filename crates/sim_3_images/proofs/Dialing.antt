@@ -17,7 +17,7 @@ use Rattle.cl_handlers.specs.Speech.{in_bytes, in_items}
 use Rattle.srv_state.specs.Moments.{at_moment, fresh_conn, with_fresh}
 use Rattle.srv_state.specs.State.{ServerState}
 use Rattle.cmd_network.specs.Devices as devices
-use Rattle.cmd_network.specs.Devices.{DeviceState, client_after, has_wire}
+use Rattle.cmd_network.specs.Devices.{DeviceState, client_after}
 use Rattle.xml_framer.specs.Limits.{client_limits, server_limits}
 use Rattle.xml_framer.specs.States.{from_start}
 use Rattle.sim_3_images.proofs.DialMoves.{framed, silent_fed}

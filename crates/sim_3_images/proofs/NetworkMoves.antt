@@ -21,7 +21,6 @@ use Rattle.sim_3_images.specs.ItemRuns.{moved_where}
 use Rattle.sim_3_images.specs.WireEncodings.{WireEncodes}
 use Rattle.sim_3_images.specs.WorldEncodings.{Begins, Both, IsBegun, IsMoved, WireAt, WorldEncodes, framer_here}
 use Rattle.sim_3_items.specs.ItemMoves as items
-use Rattle.sim_3_items.specs.ItemMoves.{ItemMove}
 use Rattle.sim_3_items.specs.ItemPipes as pipes
 use Rattle.sim_3_items.specs.ItemPipes.{ItemWire}
 use Rattle.sim_3_items.specs.ItemWorlds.{ItemWorld}

@@ -1,17 +1,17 @@
 -- The stanzas that the server reads, of bytes and of items, one after another.
-use Rattle.std.proofs.Common.{◌≡◌, ℕ, zero, suc, ◌==◌, ◌&&◌, Bool, true, false, cond, List, [], ◌∷◌, ◌++◌, Option, Some, None, map, is_some, slice_get, refl, sym, ap, ap₂, ◌∙◌, append_assoc, append-nil, inl, inr}
+use Rattle.std.proofs.Common.{◌≡◌, ℕ, zero, suc, ◌&&◌, Bool, true, false, cond, List, [], ◌∷◌, ◌++◌, Option, Some, None, map, is_some, refl, sym, ap, ap₂, ◌∙◌, append_assoc, append-nil}
 use Rattle.std.specs.Option.{option_map}
 use Rattle.law_server.proofs.EventsRendered.{item_rendered}
 use Rattle.law_server.proofs.SessionsRendered.{at_rendered}
 use Rattle.law_server.specs.Rendered.{server_state_rendered, session_rendered, step_rendered}
 use Rattle.law_xml.specs.Spells.{placed}
 use Rattle.sim_3_images.proofs.AfterOuts.{following, item_after}
-use Rattle.sim_3_images.specs.ItemRuns.{AreServedUps, downs, moved_where, ups}
+use Rattle.sim_3_images.specs.ItemRuns.{downs, moved_where}
 use Rattle.sim_3_images.specs.Reads.{all_item_reads, item_reads, read_along, read_here, read_where}
 use Rattle.sim_3_items.specs.ItemMoves as items
 use Rattle.sim_3_items.specs.ItemMoves.{ItemMove, all_moved, moved}
 use Rattle.sim_3_items.specs.ItemWorlds.{ItemWorld, itself}
-use Rattle.sm_live.specs.Sessions.{Session, session_at}
+use Rattle.sm_live.specs.Sessions.{session_at}
 use Rattle.srv_core.specs.Table.{after_item, at_open}
 use Rattle.srv_state.specs.Steps.{acted}
 use Rattle.srv_state.specs.Streams.{standing_at}

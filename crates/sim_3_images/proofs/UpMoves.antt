@@ -48,7 +48,7 @@ use Rattle.cmd_network.specs.declared.wire.Wire.{Wire}
 use Rattle.net_pipes.specs.Pipes.{Pipe}
 use Rattle.cmd_world.specs.Effects.{Effects, all_emitted, effects_of, emitted}
 use Rattle.cmd_world.specs.Moves as bytes
-use Rattle.cmd_world.specs.Moves.{Up, end_reported_up, server_after, served_by, served_first, step_of_piece, with_effects}
+use Rattle.cmd_world.specs.Moves.{Up, end_reported_up, server_after, served_by, step_of_piece, with_effects}
 use Rattle.cmd_world.specs.Worlds.{ByteWorld, number_at}
 use Rattle.xml_writer.specs.Items.{ItemOut, written_item}
 

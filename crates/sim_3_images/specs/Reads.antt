@@ -1,6 +1,6 @@
 -- The stanzas of a device that the server reads in a session in a move, of bytes and of items (RFC 6120, section 8): those that
 -- come on a connection of the device that is open, and that a session is on.
-use Rattle.std.specs.Prelude.{ℕ, ◌+◌, ◌==◌, ◌&&◌, Bool, List, [], ◌∷◌, ◌++◌, Option, Some, None, is_some, slice_get, take, if◌then◌else◌}
+use Rattle.std.specs.Prelude.{ℕ, ◌+◌, ◌==◌, ◌&&◌, List, [], ◌∷◌, ◌++◌, Option, Some, None, is_some, slice_get, take, if◌then◌else◌}
 use Rattle.cmd_network.specs.Wires.{amount}
 use Rattle.cmd_network.specs.declared.wire.Wire.{Wire}
 use Rattle.cmd_schedule.specs.declared.schedule.Count.{Count}

@@ -1,22 +1,21 @@
 -- What each move of a world of items has its devices do.
-use Rattle.std.proofs.Common.{◌≡◌, ◌≢◌, ℕ, ◌==◌, Bool, true, false, cond, List, [], ◌∷◌, Option, Some, None, Ok, Err, refl, sym, ap, ap₂, subst, ◌∙◌, slice_get, inl, inr}
+use Rattle.std.proofs.Common.{◌≡◌, ◌≢◌, ℕ, ◌==◌, Bool, true, false, cond, List, [], Option, Some, None, Ok, Err, refl, sym, ap, ap₂, subst, ◌∙◌, slice_get, inl, inr}
 use Rattle.std.proofs.lemmas.Bool.{cases_Bool, eq-eqb, eqb-true}
 use Rattle.cl_core.specs.UserCalls.{catch_up_answer, catches_up, say_answer, says as says_client_step}
 use Rattle.cl_core.specs.declared.faults.CatchUpStart.{CatchUpStart}
 use Rattle.cl_core.specs.declared.faults.SayFault.{SayFault}
-use Rattle.cl_handlers.specs.Speech.{Note, in_items}
-use Rattle.cmd_schedule.specs.Contents.{Owned}
+use Rattle.cl_handlers.specs.Speech.{in_items}
 use Rattle.cmd_schedule.specs.Schedules.{WireView}
 use Rattle.sim_1_applications.specs.Devices.{AppWorld}
 use Rattle.sim_3_images.proofs.ItemsHeard.{heard_one}
-use Rattle.sim_3_images.specs.Notes.{asked_at, asked_notes, heard_at, heard_notes, heard_on, item_notes, said_at, said_notes}
+use Rattle.sim_3_images.specs.Notes.{asked_at, asked_notes, heard_at, heard_notes, heard_on, said_at, said_notes}
 use Rattle.sim_3_items.specs.ItemMoves.{CatchUp, Close, Cut, Dial, Down, DownEnd, Forget, ItemMove, Say, Tick, Up, UpEnd, has_wire}
 use Rattle.sim_3_items.specs.ItemPipes.{ItemWire}
 use Rattle.sim_3_items.specs.ItemWorlds.{ItemDevice, ItemWorld, silent_client_step}
 use Rattle.sim_3_items.specs.Labels.{Label}
 use Rattle.sim_3_items.specs.Reading.{client_step_on, noted}
 use Rattle.sim_4_links_follow.specs.Following.{IsNextItem, IsOfNobody, IsOnNone}
-use Rattle.sim_5_moves.specs.Running.{Bounds, DoesBy, IsOwned, RunsOn, WorldSimulates}
+use Rattle.sim_5_moves.specs.Running.{Bounds, DoesBy, RunsOn, WorldSimulates}
 use Rattle.xml_writer.specs.Items.{ItemOut}
 use Rattle.sim_5_moves.proofs.ReadStanzas.{unread_does}
 use Rattle.sim_3_images.specs.Reads.{item_read_on}

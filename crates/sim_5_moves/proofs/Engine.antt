@@ -1,9 +1,8 @@
 -- Where no device has a label, all drift, and the worlds are related still.
-use Rattle.std.proofs.Common.{◌≡◌, ℕ, ◌+◌, ◌≤◌, ◌<◌, List, [], ◌∷◌, ◌++◌, Some, length, refl, sym, ap, subst, ◌∙◌, append-nil, arith}
+use Rattle.std.proofs.Common.{◌≡◌, ℕ, ◌+◌, ◌≤◌, [], ◌∷◌, ◌++◌, Some, length, refl, sym, ap, subst, ◌∙◌, append-nil, arith}
 use Rattle.std.proofs.lemmas.Option.{same_Some, slice_get_within}
 use Rattle.std.specs.List.{slice_get}
 use Rattle.mam_archive.proofs.NumberedEntries.{at_position}
-use Rattle.sim_4_links_follow.specs.Following.{WorldFollows}
 use Rattle.sim_3_images.specs.Devices.{identity_at}
 use Rattle.sim_3_items.specs.Labels.{awaits}
 use Rattle.sim_3_items.specs.Identities.{Login}
@@ -11,7 +10,6 @@ use Rattle.sim_3_items.specs.Represents.{Represents}
 use Rattle.sim_3_items.specs.Items.{stanzas_read}
 use Rattle.sim_3_items.specs.ItemWorlds.{ItemWorld}
 use Rattle.sim_2_links.proofs.Reached.{link_kept}
-use Rattle.sim_2_links.proofs.WithPremises.{prompt_runs}
 use Rattle.sim_2_links.specs.Covers.{PromptReached}
 use Rattle.sim_2_links.specs.Events.{seen}
 use Rattle.sim_2_links.specs.Paging.{PagingReached}
@@ -25,11 +23,11 @@ use Rattle.sim_5_moves.specs.Silent.{SilentDevice, SilentSimulates, SilentWorld}
 use Rattle.cmd_schedule.specs.Contents.{Owned}
 use Rattle.cmd_schedule.specs.Schedules.{WireView}
 use Rattle.sim_5_devices.proofs.AllSessionSteps.{all_session_step, reaches_both, spoken_both}
-use Rattle.sim_5_devices.specs.Labels.{AllStep, HasSessionSteps, SessionStep, SessionSteps}
+use Rattle.sim_5_devices.specs.Labels.{AllStep, HasSessionSteps}
 use Rattle.sim_3_items.specs.Served.{FlagsRepresent}
 use Rattle.sim_3_items.specs.Submitted.{SubmissionsRepresent}
 use Rattle.sim_1_applications.specs.Devices.{AppWorld, Device, Sessions}
-use Rattle.sim_1_applications.specs.Events.{AppEvent, Reaches, Tick}
+use Rattle.sim_1_applications.specs.Events.{Tick}
 use Rattle.sim_1_applications.specs.Histories.{spoken_in}
 use Rattle.sim_1_applications.specs.Kept.{Taken}
 use Rattle.sim_1_applications.specs.Runs.{begins, owned_of}

@@ -4,9 +4,7 @@ use Rattle.std.proofs.lemmas.Bool.{cases_Bool, eq-eqb, eqb-true}
 use Rattle.cmd_world.specs.Worlds.{number_at}
 use Rattle.sim_2_links.proofs.Expected.{expected_up}
 use Rattle.sim_2_links.specs.Views.{Table, View}
-use Rattle.sim_2_links.specs.Views as links
 use Rattle.sim_2_links.specs.Words.{Ack, Auth, Bind, Enable, Foot, Hdr, Req, Resp, ResumeAt, St, Up as UpTraffic, UpWord}
-use Rattle.sim_2_links.specs.Stages.{Conn}
 use Rattle.sim_3_images.proofs.ItemsServed.{nothing_either}
 use Rattle.sim_3_images.specs.Reads.{item_read_first, item_read_on, item_reads, read_here, read_where}
 use Rattle.sim_3_items.specs.Identities.{Identity, Login}
@@ -27,7 +25,6 @@ use Rattle.sm_live.specs.Sessions.{session_at}
 use Rattle.srv_state.specs.State.{ServerState, conn_at}
 use Rattle.srv_state.specs.Words.{is_stanza}
 use Rattle.srv_state.specs.declared.connection.Connection.{Connection}
-use Rattle.xml_framer.specs.declared.items.Item.{Item}
 use Rattle.xml_framer.specs.declared.items.Item.TheVariants as item
 use Rattle.xml_names.specs.declared.headers.Header.{Header}
 use Rattle.xml_trees.specs.Trees.{Elem}

@@ -9,9 +9,9 @@ use Rattle.sim_3_items.specs.ItemPipes.{ItemWire}
 use Rattle.sim_3_items.specs.ItemWorlds.{ItemWorld}
 use Rattle.cmd_schedule.specs.Contents.{Owned}
 use Rattle.cmd_schedule.specs.Schedules.{WireView}
-use Rattle.sim_5_devices.specs.Labels.{SessionStep, SessionSteps, session_step_events, with_device}
-use Rattle.sim_1_applications.specs.Devices.{AppWorld, Device, Sessions}
-use Rattle.sim_1_applications.specs.Events.{Act, AppEvent, May, Reaches, around, own, taken_by}
+use Rattle.sim_5_devices.specs.Labels.{with_device}
+use Rattle.sim_1_applications.specs.Devices.{AppWorld, Device}
+use Rattle.sim_1_applications.specs.Events.{AppEvent, Reaches}
 use Rattle.sim_1_applications.specs.Histories.{spoken_in}
 use Rattle.sim_5_moves.specs.Running.{Bounds, DeviceSimulates, IsOwned, Leads, WorldSimulates}
 use Rattle.xml_writer.specs.Items.{ItemOut}

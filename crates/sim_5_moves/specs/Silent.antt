@@ -1,5 +1,5 @@
 -- A move of a world by which no device does anything with stanzas, and what it leaves as it was.
-use Rattle.std.specs.Prelude.{◌≡◌, ◌≢◌, ◌⊎◌, ℕ, ◌+◌, ◌≤◌, false, List, [], None, Some, length, pos, slice_get}
+use Rattle.std.specs.Prelude.{◌≡◌, ◌⊎◌, ℕ, ◌+◌, ◌≤◌, false, List, [], None, Some, length, pos, slice_get}
 use Rattle.cl_handlers.specs.Clients.{ClientView}
 use Rattle.sim_4_links_follow.specs.Following.{WorldFollows}
 use Rattle.srv_state.specs.State.{ServerState}

@@ -6,7 +6,7 @@ use Rattle.std.specs.List.{slice_get, slice_set}
 use Rattle.srv_state.specs.Moments.{at_moment, gone_at}
 use Rattle.cmd_network.specs.Positions.{changed_at}
 use Rattle.sim_3_images.specs.Notes.{heard_at, heard_notes, heard_on, item_notes}
-use Rattle.sim_3_items.specs.ItemMoves.{ItemMove, Down, DownEnd, Tick, Up, UpEnd, fed_of, has_wire, here_after, moved}
+use Rattle.sim_3_items.specs.ItemMoves.{Down, DownEnd, Tick, Up, UpEnd, has_wire, here_after, moved}
 use Rattle.sim_3_items.specs.ItemMoves as items
 use Rattle.sim_3_items.specs.ItemPipes.{ItemWire, is_end_due, up_end_reported}
 use Rattle.sim_3_items.specs.ItemWorlds.{ItemDevice, ItemWorld}

@@ -1,7 +1,7 @@
 -- The pairs of each world of a history go on in the next.
-use Rattle.std.proofs.Common.{◌≡◌, ℕ, zero, suc, List, [], ◌∷◌, Option, None, Some, refl, sym, ap, ◌∙◌, subst, arith, inl, inr}
+use Rattle.std.proofs.Common.{◌≡◌, ℕ, suc, List, ◌∷◌, Option, None, Some, refl, sym, ap, ◌∙◌, subst, arith, inl, inr}
 use Rattle.std.proofs.lemmas.Bool.{cases_lt}
-use Rattle.std.proofs.lemmas.Option.{none-some, same_Some}
+use Rattle.std.proofs.lemmas.Option.{none-some}
 use Rattle.std.specs.List.{slice_get}
 use Rattle.std.specs.Option.{option_map}
 use Rattle.cmd_network.specs.Devices.{DeviceState}
@@ -26,7 +26,7 @@ use Rattle.sim_7_schedules.proofs.WorldsSimulated.{kept_at}
 use Rattle.sim_7_schedules.specs.Simulation.{LabelsAreNotedIn}
 use Rattle.sim_7_schedules.specs.Courses.{AreNew, AreNoted, GoOn, GoesOn, HasCourse, IsNew, MayPut, moves_in}
 use Rattle.sim_7_schedules.specs.Messages.{AreTold}
-use Rattle.sim_7_schedules.specs.Pairs.{HasPairs, Pair}
+use Rattle.sim_7_schedules.specs.Pairs.{HasPairs}
 use Rattle.cmd_world.specs.Histories.{history_of, world_at_start, worlds_by}
 use Rattle.cmd_world.specs.Moves.{Move, moved}
 use Rattle.sim_3_images.specs.Notes.{notes_in}
