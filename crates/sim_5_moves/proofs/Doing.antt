@@ -17,12 +17,8 @@ use Rattle.sim_3_items.specs.Reading.{client_step_on, noted}
 use Rattle.sim_4_links_follow.specs.Following.{IsNextItem, IsOfNobody, IsOnNone}
 use Rattle.sim_5_moves.specs.Running.{Bounds, DoesBy, RunsOn, WorldSimulates}
 use Rattle.xml_writer.specs.Items.{ItemOut}
-use Rattle.sim_5_moves.proofs.ReadStanzas.{unread_does}
+use Rattle.sim_5_moves.proofs.ReadStanzas.{apart_from, unread_does}
 use Rattle.sim_3_images.specs.Reads.{item_read_on}
-
--- another number
-apart_from : (a b : ℕ) → b ≢ a → (a == b) ≡ false
-apart_from a b other = elim (cases_Bool (a == b)) [ inl same ↦ absurd (other (sym (eqb-true a b same))) | inr no_same ↦ no_same ]
 
 -- ---- what a user does
 

@@ -1,7 +1,9 @@
 -- Which items that come to the server it reads as stanzas of a session.
-use Rattle.std.proofs.Common.{◌≡◌, ◌≢◌, ℕ, ◌+◌, ◌==◌, ◌&&◌, Bool, true, false, cond, List, [], ◌∷◌, ◌++◌, Option, Some, None, is_some, map, refl, sym, ap, ap₂, ◌∙◌, slice_get, inl, inr}
+use Rattle.std.proofs.Common.{◌≡◌, ◌≢◌, ℕ, ◌+◌, ◌==◌, ◌&&◌, Bool, true, false, codes, cond, List, [], ◌∷◌, ◌++◌, Option, Some, None, is_some, map, refl, sym, ap, ap₂, ◌∙◌, slice_get, inl, inr}
 use Rattle.std.proofs.lemmas.Bool.{cases_Bool, eq-eqb, eqb-true}
 use Rattle.cmd_world.specs.Worlds.{number_at}
+use Rattle.im_login.specs.Sasl.{auth_of, carrier}
+use Rattle.im_payload.specs.Names.{sasl}
 use Rattle.sim_2_links.proofs.Expected.{expected_up}
 use Rattle.sim_2_links.specs.Views.{Table, View}
 use Rattle.sim_2_links.specs.Words.{Ack, Auth, Bind, Enable, Foot, Hdr, Req, Resp, ResumeAt, St, Up as UpTraffic, UpWord}
@@ -30,7 +32,20 @@ use Rattle.xml_names.specs.declared.headers.Header.{Header}
 use Rattle.xml_trees.specs.Trees.{Elem}
 use Rattle.xml_writer.specs.Items.{ItemOut, Whole}
 
+-- another number
+pub apart_from : (a b : ℕ) → b ≢ a → (a == b) ≡ false
+apart_from a b other = elim (cases_Bool (a == b)) [ inl same ↦ absurd (other (sym (eqb-true a b same))) | inr no_same ↦ no_same ]
+
 -- ---- one item
+
+-- those of SASL are no stanzas
+auth_named : (mechanism payload : List ℕ) → is_stanza (auth_of mechanism payload) ≡ false
+unfolding sasl
+auth_named mechanism payload = refl
+
+carrier_named : (name payload : List ℕ) → is_stanza (carrier name payload) ≡ false
+unfolding sasl
+carrier_named name payload = refl
 
 module _ (h : ServerState ItemOut) (k : ℕ) where
   header_unread : (at : ℕ) (header : Header) (o : Option Connection) → read_where o k (item.Header at header) h ≡ []
@@ -68,8 +83,9 @@ module _ (who : Identity) (logins : ℕ → Login) (h : ServerState ItemOut) (wi
   -- any other word is not
   pub silent_unread : (word : UpWord ItemOut) → IsFirst who logins h wires v k word → IsSilent word → read_here k (read_of (up_item who (logins k) word)) h ≡ []
   silent_unread Hdr p is = header_unread h k _ _ (conn_at k h)
-  silent_unread Auth p is = other_unread h k _ (conn_at k h) refl
-  silent_unread Resp p is = other_unread h k _ (conn_at k h) refl
+  silent_unread Auth p is =
+      let message = (logins k).client.message in other_unread h k (auth_of (codes "SCRAM-SHA-256") message) (conn_at k h) (auth_named (codes "SCRAM-SHA-256") message)
+  silent_unread Resp p is = let message = (logins k).reply.message in other_unread h k (carrier (codes "response") message) (conn_at k h) (carrier_named (codes "response") message)
   silent_unread (ResumeAt q n) p is = other_unread h k _ (conn_at k h) refl
   silent_unread Bind p is =
       unseated_unread h k _ (conn_at k h)
@@ -90,7 +106,7 @@ module _ (position : ℕ) (w : ItemWorld) (wire : ItemWire) (there : slice_get w
   pub beside_unread : (i : ℕ) → i ≢ wire.device → item_reads (Up position) w i ≡ []
   beside_unread i apart =
       reads_are i
-      ∙ ap (λ (b : Bool). cond b (item_read_first (number_at position) under_way w) []) (elim (cases_Bool (wire.device == i)) [ inl same ↦ absurd (apart (sym (eqb-true wire.device i same))) | inr other ↦ other ])
+      ∙ ap (λ (b : Bool). cond b (item_read_first (number_at position) under_way w) []) (apart_from wire.device i apart)
 
   pub own_reads : item_reads (Up position) w wire.device ≡ item_read_first (number_at position) under_way w
   own_reads = reads_are wire.device ∙ ap (λ (b : Bool). cond b (item_read_first (number_at position) under_way w) []) (eq-eqb wire.device wire.device refl)
