@@ -1,6 +1,6 @@
 -- What each move of a world of items has its devices do.
-use Rattle.std.proofs.Common.{◌≡◌, ◌≢◌, ℕ, ◌==◌, Bool, true, false, cond, List, [], Option, Some, None, Ok, Err, refl, sym, ap, ap₂, subst, ◌∙◌, slice_get, inl, inr}
-use Rattle.std.proofs.lemmas.Bool.{cases_Bool, eq-eqb, eqb-true}
+use Rattle.std.proofs.Common.{◌≡◌, ◌≢◌, ℕ, ◌==◌, Bool, true, false, cond, List, [], Option, Some, None, Ok, Err, refl, sym, ap, ap₂, subst, ◌∙◌, slice_get, inl}
+use Rattle.std.proofs.lemmas.Bool.{eq-eqb, eqb-true}
 use Rattle.cl_core.specs.UserCalls.{catch_up_answer, catches_up, say_answer, says as says_client_step}
 use Rattle.cl_core.specs.declared.faults.CatchUpStart.{CatchUpStart}
 use Rattle.cl_core.specs.declared.faults.SayFault.{SayFault}
