@@ -79,10 +79,10 @@ last_number_is cut base count is some =
     ap₂ (λ ns n. slice_get ns (n - 1)) is size ∙ number_at count base (count - 1) low ∙ ap Some number in
     ap (option_map id_of) last
 
-more_left : (n most : ℕ) → leb n most ≡ false → most < n
+pub more_left : (n most : ℕ) → leb n most ≡ false → most < n
 more_left n most more = grind (arith, nat_tests)
 
-all_taken : (n most : ℕ) → leb n most ≡ true → n ≤ most
+pub all_taken : (n most : ℕ) → leb n most ≡ true → n ≤ most
 all_taken n most all = grind (arith, nat_tests)
 
 -- behind a page that isn't complete others follow, behind its last entry
@@ -118,7 +118,7 @@ later kept after most first last base cut known few some small from is more =
 
 -- ---- how many pages
 
-one_page : (n most : ℕ) → 1 ≤ most → n ≤ most → pages_for n most ≡ 1
+pub one_page : (n most : ℕ) → 1 ≤ most → n ≤ most → pages_for n most ≡ 1
 one_page n most some all =
     elim (cases_Bool (leb most n)) [
       | inl full ↦
@@ -134,7 +134,7 @@ least_of : (q r n most : ℕ) → most * q + r ≡ n → 1 ≤ n → 1 ≤ q + m
 least_of zero r n most sum some = let none : most * zero ≡ zero = mul-zero most in omega arith
 least_of (suc q) r n most sum some = omega arith
 
-next_page : (n most : ℕ) → 1 ≤ most → most < n → pages_for n most ≡ suc (pages_for (n - most) most)
+pub next_page : (n most : ℕ) → 1 ≤ most → most < n → pages_for n most ≡ suc (pages_for (n - most) most)
 next_page n most some more =
     let left = n - most in
     let sum : n ≡ left + most = omega arith in

@@ -1,7 +1,7 @@
 -- What a row does to a log keeps it as pages that were taken over.
 use Rattle.std.proofs.Common.{◌≡◌, ℕ, ◌+◌, ◌<◌, ◌≤◌, Bool, true, false, cond, not, ◌&&◌, ◌||◌, List, [], ◌∷◌, ◌++◌, Option, Some, None, Result, Ok, Err, IfSome, length, nat_le, if◌then◌else◌, inl, inr, arith, refl, sym, ap, subst, ◌∙◌, length-append}
 use Rattle.std.proofs.Math.Bool.{or-false}
-use Rattle.std.proofs.lemmas.Bool.{false≢true}
+use Rattle.std.proofs.lemmas.Bool.{or_parts, or_from}
 use Rattle.std.proofs.lemmas.Bool.Decides.{nat_tests}
 use Rattle.std.proofs.lemmas.List.{map-append}
 use Rattle.std.proofs.lemmas.List.Folds.{list_any-append}
@@ -54,27 +54,16 @@ anew_bound (Some page) queryid = omega arith
 
 -- ---- a message that is held
 
-first_false : (a b : Bool) → (a || b) ≡ false → a ≡ false
-first_false false b h = refl
-first_false true b h = h
-
-second_false : (a b : Bool) → (a || b) ≡ false → b ≡ false
-second_false false b h = h
-second_false true b h = absurd (false≢true (sym h))
-
 among_push : (q : List ℕ) (held : List LogEntry) (e : LogEntry) → is_among q (ids_of (held ++ e ∷ [])) ≡ (is_among q (ids_of held) || bytes_eq q e.id)
 among_push q held e =
     ap (λ ids. is_among q ids) (map-append (λ (d : LogEntry). d.id) held (e ∷ []))
     ∙ (list_any-append (λ other. bytes_eq q other) (ids_of held) (e.id ∷ []) ∙ ap (λ t. is_among q (ids_of held) || t) (or-false (bytes_eq q e.id)))
 
-none_of_both : (a b : Bool) → a ≡ false → b ≡ false → (a || b) ≡ false
-none_of_both a b h k = rw (h, k) refl
-
 apart_push : (held : List LogEntry) (e : LogEntry) → AreApart held → is_among e.id (ids_of held) ≡ false → AreApart (held ++ e ∷ [])
 apart_push [] e h none = (refl, tt)
 apart_push (d ∷ ds) e h none = (
-  among_push d.id ds e ∙ none_of_both (is_among d.id (ids_of ds)) (bytes_eq d.id e.id) h.0 (bytes_eq-sym d.id e.id ∙ first_false (bytes_eq e.id d.id) (is_among e.id (ids_of ds)) none),
-  apart_push ds e h.1 (second_false (bytes_eq e.id d.id) (is_among e.id (ids_of ds)) none),
+  among_push d.id ds e ∙ or_from (is_among d.id (ids_of ds)) (bytes_eq d.id e.id) h.0 (bytes_eq-sym d.id e.id ∙ (or_parts (bytes_eq e.id d.id) (is_among e.id (ids_of ds)) none).0),
+  apart_push ds e h.1 ((or_parts (bytes_eq e.id d.id) (is_among e.id (ids_of ds)) none).1),
 )
 
 held_by : (log : LogView) (live : LogEntry) (b : Bool) → may_hold log live.id ≡ b → IsLogKept log → IsLogKept (if b then record log { held = log.held ++ live ∷ [] } else log)

@@ -1,7 +1,6 @@
 -- The logs of turns: what is so of each part of a row is so of items and calls.
 use Rattle.std.proofs.Common.{◌≡◌, ◌<◌, ℕ, true, false, ◌&&◌, List, [], ◌∷◌, ◌++◌, Option, Some, None, length, is_none, inl, inr, arith, refl, sym, ap, ap₂, subst, ◌∙◌}
-use Rattle.std.proofs.lemmas.Bool.{false≢true}
-use Rattle.std.proofs.lemmas.Bool.Decides.{nat_tests}
+use Rattle.std.proofs.lemmas.Bool.{false≢true, lt-ltb}
 use Rattle.std.specs.Prelude.{nat_lt}
 use Rattle.law_client.proofs.GrownLogs.{grew_by, grew_on, same_grew}
 use Rattle.law_client.proofs.KeptLogs.{begun_kept, kept_by}
@@ -74,13 +73,10 @@ grown_law speech = record {
 
 -- ---- breaks
 
-above_none : (n : ℕ) → 0 < n → nat_lt 0 n ≡ true
-above_none n some = grind (arith, nat_tests)
-
 both_above : (m n : ℕ) → 0 < m → 0 < n → (nat_lt 0 m && nat_lt 0 n) ≡ false → ⊥
 both_above m n first second whole =
-    let one : nat_lt 0 m ≡ true = above_none m first in
-    let two : nat_lt 0 n ≡ true = above_none n second in
+    let one : nat_lt 0 m ≡ true = lt-ltb 0 m first in
+    let two : nat_lt 0 n ≡ true = lt-ltb 0 n second in
     false≢true (sym whole ∙ ap₂ (λ x y. x && y) one two)
 
 -- a page that was asked for anew, doesn't break the log and has an entry is the first that has one

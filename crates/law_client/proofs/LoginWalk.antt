@@ -34,9 +34,6 @@ pub chosen : {A X : Type 0} (P : ClientStep A X → ClientStep A X → Type 0) (
 chosen P true t a b here there = here refl
 chosen P false t a b here there = there refl
 
-pub some_of : {B : Type 0} (o : Option B) (b : B) → o ≡ Some b → IsSome o
-some_of o b is = ap is_some is
-
 -- ---- what goes out, and ends of connections
 
 pub told : {A X : Type 0} {speech : Speech A X} {P : ClientStep A X → ClientStep A X → Type 0} → IsLaw speech P → (t : ClientStep A X) (event : Event) → P t (tells t event)
@@ -82,7 +79,7 @@ resumed_or_bound law t None is = bound_by law t is
 resumed_or_bound {speech = speech} law t (Some s) is =
     let stated = notes speech t (Stated s.waiting.handled) in
     law.joins t stated (resumes_or_binds speech t (Some s)) (law.parts t stated (states s is refl))
-    (law.joins stated (goes stated phase.Resuming) (resumes_or_binds speech t (Some s)) (law.parts stated (goes stated phase.Resuming) (goes_with phase.Resuming refl (some_of t.client.session s is) refl))
+    (law.joins stated (goes stated phase.Resuming) (resumes_or_binds speech t (Some s)) (law.parts stated (goes stated phase.Resuming) (goes_with phase.Resuming refl (ap is_some is) refl))
     (law.parts (goes stated phase.Resuming) (resumes_or_binds speech t (Some s)) (outs refl refl)))
 
 featured : {A X : Type 0} {speech : Speech A X} {P : ClientStep A X → ClientStep A X → Type 0} → IsLaw speech P → (t : ClientStep A X) (e : Elem) (read : Result Features ExtFault) → P t (features2_with speech t e read)

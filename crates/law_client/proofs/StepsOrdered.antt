@@ -22,11 +22,9 @@ use Rattle.auth_scram.specs.Exchange.{ClientView as Exchange, begun_client}
 use Rattle.auth_scram.specs.declared.fault.ScramFault.{ScramFault}
 use Rattle.xml_writer.specs.Items.{Closing, ItemOut}
 use Rattle.law_xml.specs.Puts.{phase_behind}
+use Rattle.std.proofs.lemmas.Bool.{both_ways}
 
 -- ---- what the rows put
-
-unlike : (b : Bool) → b ≡ true → b ≡ false → ⊥
-unlike b is other = cc (sym is ∙ other)
 
 own : IsOfOwn IsNoEnd
 own = record { element = λ e a b. refl; header = λ h. refl }
@@ -49,7 +47,7 @@ may_put apart more (inr last) = subst (MayAll stream.Between) (sym last.1) (tt, 
 
 stands_put : (apart : Bool) (more : List ItemOut) → ArePut IsNoEnd apart more → apart ≡ false → phase_after stream.Between more ≡ stream.Between
 stands_put apart more (inl each) stands = still_between more each
-stands_put apart more (inr last) stands = absurd (unlike apart last.3 stands)
+stands_put apart more (inr last) stands = absurd (both_ways apart stands last.3)
 
 -- ---- steps, one behind the other
 
@@ -60,7 +58,7 @@ while_connected t u connected step = record {
   put = step.put;
   may = may_put (is_apart u.client.phase) step.more step.each;
   stands = stands_put (is_apart u.client.phase) step.more step.each;
-  silent = λ apart. absurd (unlike (is_apart t.client.phase) apart connected);
+  silent = λ apart. absurd (both_ways (is_apart t.client.phase) connected apart);
   queue = step.queue;
 }
 
@@ -98,7 +96,7 @@ joins t u v a b =
         more = x.more ++ y.more;
         put = y.put ∙ ap (λ put. put ++ y.more) x.put ∙ append_assoc t.out.put x.more y.more;
         may = may_join stream.Between x.more y.more x.may (may_after x.more y.more (is_apart u.client.phase) x.stands y.silent y.may);
-        stands = λ e. after_join stream.Between x.more y.more ∙ after_after x.more y.more (is_apart u.client.phase) x.stands y.silent (y.stands e) (λ is. unlike (is_apart v.client.phase) (b.apart is) e);
+        stands = λ e. after_join stream.Between x.more y.more ∙ after_after x.more y.more (is_apart u.client.phase) x.stands y.silent (y.stands e) (λ is. both_ways (is_apart v.client.phase) e (b.apart is));
         silent = λ e. ap (λ put. put ++ y.more) (x.silent e) ∙ y.silent (a.apart e);
         queue = y.queue;
       };
@@ -112,7 +110,7 @@ item_follows t item h = by_case (is_apart t.client.phase) refl
   where
     by_case : (b : Bool) → is_apart t.client.phase ≡ b → Follows t (if b then t else connected_step in_items t item)
     by_case true is = record { puts = silent_step t t refl h; apart = λ e. e }
-    by_case false is = record { puts = while_connected t (connected_step in_items t item) is (connected_puts IsNoEnd own t item (λ nonce at. begun (begun_client t.client.account.login.name t.client.account.login.password nonce)) h); apart = λ e. absurd (unlike (is_apart t.client.phase) e is) }
+    by_case false is = record { puts = while_connected t (connected_step in_items t item) is (connected_puts IsNoEnd own t item (λ nonce at. begun (begun_client t.client.account.login.name t.client.account.login.password nonce)) h); apart = λ e. absurd (both_ways (is_apart t.client.phase) is e) }
 
 items_follow : (items : List Item) (t : Items) → HasNoEnd t.client.session → Follows t (items_run in_items t items)
 items_follow [] t h = record { puts = silent_step t t refl h; apart = λ e. e }
@@ -172,7 +170,7 @@ closes_ordered f h = record { more = footer (is_apart f.turn.client.phase); put 
 
 -- ---- what the user asks for
 
-apart_offline : (p : client.Phase) → is_apart p ≡ true → is_online p ≡ false
+pub apart_offline : (p : client.Phase) → is_apart p ≡ true → is_online p ≡ false
 apart_offline phase.Apart e = refl
 apart_offline (phase.Login s) e = absurd (cc e)
 apart_offline phase.Features2 e = absurd (cc e)

@@ -1,6 +1,7 @@
 -- A law of parts holds of items, and of calls.
 use Rattle.std.proofs.Common.{◌≡◌, ℕ, ◌==◌, Bool, true, false, List, [], ◌∷◌, Option, Some, None, Result, Err, codes, is_ok, nat_le, length, take, if◌then◌else◌, arith, refl}
 use Rattle.std.proofs.lemmas.Bool.Decides.{nat_tests}
+use Rattle.std.proofs.lemmas.Option.{same_Some}
 use Rattle.cl_core.specs.Feeds.{Fed, bytes_in, read, with_fault}
 use Rattle.cl_core.specs.PageRows.{requests}
 use Rattle.cl_core.specs.Steps.{connected_step, element_row, item_step, items_run, stream_condition}
@@ -119,12 +120,9 @@ submitted_in law t None said is may = law.stays t
 submitted_in {speech = speech} law t (Some s) said is may =
     let stanza = stanza_of_said speech t.client.account said in
     let waiting = queues speech (keeps_said t said) s stanza true in
-    let position : is_full s.waiting ≡ false = rw (same_some may.stands) may.position in
+    let position : is_full s.waiting ≡ false = rw (same_Some _ _ may.stands) may.position in
     law.joins t waiting (requests speech (keeps_said t said) s stanza true) (law.parts t waiting (submits s said is position refl))
     (law.parts waiting (requests speech (keeps_said t said) s stanza true) (outs refl refl))
-  where
-    same_some : {B : Type 0} {a b : B} → Some a ≡ Some b → a ≡ b
-    same_some e = cc
 
 said_to : {A X : Type 0} {speech : Speech A X} {P : ClientStep A X → ClientStep A X → Type 0} → IsLaw speech P → (f : Fed A X) (to text : List ℕ) (private : Bool) (b : Bool) → (b ≡ true → MaySay f.turn.client.session) → P f.turn (said_by speech f to text private b).turn
 said_to law f to text private false may = law.stays f.turn
@@ -132,10 +130,7 @@ said_to law f to text private true may = submitted_in law f.turn f.turn.client.s
 
 caught_up_in : {A X : Type 0} {speech : Speech A X} {P : ClientStep A X → ClientStep A X → Type 0} → IsLaw speech P → (t : ClientStep A X) (o : Option (SessionView A)) (max : ℕ) → t.client.session ≡ o → MaySay o → P t (catches_up_in speech t o max)
 caught_up_in law t None max is may = law.stays t
-caught_up_in law t (Some s) max is may = page_begun law t s max is (rw (same_some may.stands) may.position)
-  where
-    same_some : {B : Type 0} {a b : B} → Some a ≡ Some b → a ≡ b
-    same_some e = cc
+caught_up_in law t (Some s) max is may = page_begun law t s max is (rw (same_Some _ _ may.stands) may.position)
 
 caught_up : {A X : Type 0} {speech : Speech A X} {P : ClientStep A X → ClientStep A X → Type 0} → IsLaw speech P → (f : Fed A X) (max : ℕ) (b : Bool) → (b ≡ true → MaySay f.turn.client.session) → P f.turn (caught_up_by speech f max b).turn
 caught_up law f max false may = law.stays f.turn

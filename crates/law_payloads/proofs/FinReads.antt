@@ -30,10 +30,6 @@ fin_answers e = by_checks fin_exact e (fin_read e) (fin_fits e (is_fin e) (numbe
 
 -- ---- what is written
 
--- a number that is written is read
-number_again : (n : ℕ) → n < 2 ^ 64 → number_or_zero (Some (decimal n)) ≡ Some n
-number_again n low = ap (λ o. option_map (λ m. unwrap_or m 0) (option_map Some o)) (written_number (2 ^ 64) n (omega arith) low)
-
 abbrev fin : Bool → Option (List ℕ) → ℕ → Option (List ℕ) → ℕ → Fin
 fin complete first index last count = record { complete = complete; first = first; first_index = index; last = last; count = count }
 
@@ -66,7 +62,7 @@ module _ (index : Option ℕ) (count : ℕ) (index_low : IfSome index (λ i. i <
   first_position : (index : Option ℕ) → IfSome index (λ i. i < 2 ^ 64) → (complete : Bool) (id : List ℕ) (last : Option (List ℕ)) →
       number_or_zero (index_in (fin_elem_with index (fin complete (Some id) 0 last count))) ≡ Some (unwrap_or index 0)
   first_position None low complete id last = refl
-  first_position (Some i) low complete id last = number_again i low
+  first_position (Some i) low complete id last = (ap (λ o. option_map (λ m. unwrap_or m 0) (option_map Some o)) (written_number (2 ^ 64) i (omega arith) low))
 
   index_again : (complete : Bool) (first last : Option (List ℕ)) → (first ≡ None → unwrap_or index 0 ≡ 0) → number_or_zero (index_in (written complete first last)) ≡ Some (unwrap_or index 0)
   index_again complete None None none = ap Some (sym (none refl))
@@ -80,7 +76,7 @@ module _ (index : Option ℕ) (count : ℕ) (index_low : IfSome index (λ i. i <
     first = first_again complete first last;
     index = index_again complete first last none;
     last = last_again complete first last;
-    count = ap number_or_zero (count_again complete first last) ∙ number_again count count_low;
+    count = ap number_or_zero (count_again complete first last) ∙ (ap (λ o. option_map (λ m. unwrap_or m 0) (option_map Some o)) (written_number (2 ^ 64) count (omega arith) count_low));
   }
 
 pub fin_written : (v : Fin) → v.first_index < 2 ^ 64 → v.count < 2 ^ 64 → (v.first ≡ None → v.first_index ≡ 0) → fin_read (fin_elem v) ≡ Ok v

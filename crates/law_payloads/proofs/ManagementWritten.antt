@@ -1,8 +1,6 @@
 -- What is written of stream management is read as it was.
-use Rattle.std.proofs.Common.{◌≡◌, ◌≢◌, ℕ, ◌<◌, ◌^◌, Bool, true, false, List, [], ◌∷◌, Option, Some, None, IfSome, Ok, codes, refl, ap, ◌∙◌, arith, inl, inr}
-use Rattle.std.proofs.lemmas.Bool.{cases_Bool}
+use Rattle.std.proofs.Common.{◌≡◌, ◌≢◌, ℕ, ◌<◌, ◌^◌, Bool, true, false, List, [], ◌∷◌, Option, Some, None, IfSome, Ok, codes, refl, ap, ◌∙◌, arith}
 use Rattle.std.specs.Fmt.{decimal}
-use Rattle.std.specs.Str.{bytes_eq}
 use Rattle.im_extensions.specs.Readings.{enabled_read, failed_read, failed_with, resumption_read, resumption_with}
 use Rattle.im_extensions.specs.StreamManagement.{ack_elem, ack_read, ack_with, enable_elem, enable_read, enabled_elem, failed_condition, resume_elem, resumed_elem, sm_failed_elem}
 use Rattle.im_extensions.specs.declared.stream_management.Ack.{Ack}
@@ -14,8 +12,8 @@ use Rattle.im_extensions.specs.declared.stream_management.SmFailed.{SmFailed}
 use Rattle.im_payload.proofs.Numbers.{written_number}
 use Rattle.im_payload.specs.Shapes.{number_below}
 use Rattle.im_stanza.proofs.ErrorLaws.{name_again, named_is_plain, plain_same}
-use Rattle.im_stanza.proofs.KindLemmas.{same_bytes}
 use Rattle.im_stanza.specs.Conditions.{IsPlain, condition_name, condition_named}
+use Rattle.base_lemmas.proofs.Bytes.{bytes_eq-from_other}
 
 enable_with : (resume : Bool) → enable_read (enable_elem (record { resume = resume })) ≡ Ok (record { resume = resume })
 enable_with true = refl
@@ -25,7 +23,7 @@ pub enable_written : (v : Enable) → enable_read (enable_elem v) ≡ Ok v
 enable_written v = enable_with v.resume
 
 -- a number of 32 bits is read as it was
-number_again : (n : ℕ) → n < 2 ^ 32 → number_below (2 ^ 32) (decimal n) ≡ Some n
+pub number_again : (n : ℕ) → n < 2 ^ 32 → number_below (2 ^ 32) (decimal n) ≡ Some n
 number_again n low = written_number (2 ^ 32) n (omega arith) low
 
 abbrev again : List ℕ → Option ℕ → Bool → Type 0
@@ -57,12 +55,8 @@ resume_written v low = ap (resumption_with (Some v.previd)) (number_again v.h lo
 pub resumed_written : (v : Resumed) → v.h < 2 ^ 32 → resumption_read (codes "resumed") (resumed_elem v) ≡ Ok (v.previd, v.h)
 resumed_written v low = ap (resumption_with (Some v.previd)) (number_again v.h low)
 
--- a name other than `text` names a condition
-pub unlike_text : (name : List ℕ) → name ≢ codes "text" → bytes_eq name (codes "text") ≡ false
-unlike_text name other = elim (cases_Bool (bytes_eq name (codes "text"))) [ inl e ↦ absurd (other (same_bytes name (codes "text") e)) | inr e ↦ e ]
-
 condition_written : (v : SmFailed) → condition_name v.condition ≢ codes "text" → failed_condition (sm_failed_elem v) ≡ Some (condition_name v.condition)
-condition_written v other = let t = unlike_text (condition_name v.condition) other in rw t refl
+condition_written v other = let t = bytes_eq-from_other (condition_name v.condition) (codes "text") other in rw t refl
 
 pub failed_written : (v : SmFailed) → IsPlain v.condition → condition_name v.condition ≢ codes "text" → failed_read (sm_failed_elem v) ≡ Ok v.condition
 failed_written v plain other =

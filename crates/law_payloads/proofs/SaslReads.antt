@@ -18,7 +18,6 @@ use Rattle.im_payload.specs.declared.fault.Field.{Field}
 use Rattle.im_payload.specs.declared.fault.Field.TheVariants as field
 use Rattle.law_payloads.proofs.Judged.{Fits, answers, there}
 use Rattle.law_payloads.proofs.ManagementReads.{bare_answers}
-use Rattle.law_payloads.proofs.ManagementWritten.{unlike_text}
 use Rattle.law_payloads.specs.Answers.{IsAnswer}
 use Rattle.im_login.proofs.PayloadLaws.{payload_one}
 use Rattle.im_login.proofs.SaslLaws.{auth_refused, carrier_refused}
@@ -31,6 +30,7 @@ use Rattle.im_stanza.specs.Conditions.{condition_in}
 use Rattle.xml_trees.proofs.TidyReads.{text_of-text_node}
 use Rattle.xml_trees.specs.Readers.{text_of}
 use Rattle.xml_trees.specs.Trees.{Elem, nodes_of}
+use Rattle.base_lemmas.proofs.Bytes.{bytes_eq-from_other}
 
 -- ---- the bytes that a text stands for
 
@@ -168,7 +168,7 @@ failure_answers e =
 
 pub failure_written : (condition : List ℕ) → condition ≢ codes "text" → failure_read (failure_of condition) ≡ Ok condition
 unfolding sasl
-failure_written condition other = rw (unlike_text condition other) refl
+failure_written condition other = rw (bytes_eq-from_other condition (codes "text") other) refl
 
 -- ---- abort
 

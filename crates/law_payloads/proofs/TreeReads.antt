@@ -1,5 +1,5 @@
 -- What is read of tidied elements, and of messages and presences that are sent back.
-use Rattle.std.proofs.Common.{◌≡◌, ◌≢◌, ℕ, List, [], ◌∷◌, ◌++◌, Option, Some, None, Ok, Err, unwrap_or, codes, map, pos, refl, sym, ap, ◌∙◌, subst}
+use Rattle.std.proofs.Common.{◌≡◌, ◌≢◌, ℕ, List, [], ◌∷◌, ◌++◌, Some, None, Ok, Err, unwrap_or, codes, map, pos, refl, sym, ap, ◌∙◌, subst}
 use Rattle.im_jid.specs.Normal.{normal}
 use Rattle.im_jid.specs.declared.fault.JidFault.{JidFault}
 use Rattle.im_stanza.proofs.ErrorLaws.{error_read_back}
@@ -47,12 +47,9 @@ elements_inside (element ns name attrs kids) = elements_after [] kids
 
 -- ---- messages that are sent back
 
-empty_again : (given : Option (List ℕ)) (t : List ℕ) → given ≡ unless_empty t → t ≡ unwrap_or given []
-empty_again given t is = sym (ap (λ o. unwrap_or o []) is ∙ again t)
-  where
-    again : (t : List ℕ) → unwrap_or (unless_empty t) [] ≡ t
-    again [] = refl
-    again (c ∷ cs) = refl
+empty_text_again : (t : List ℕ) → unwrap_or (unless_empty t) [] ≡ t
+empty_text_again [] = refl
+empty_text_again (c ∷ cs) = refl
 
 module _ (from id : List ℕ) (error : StanzaError) where
   abbrev sent : Elem
@@ -81,7 +78,7 @@ module _ (from id : List ℕ) (error : StanzaError) where
     named = (refl, refl);
     from = subst (λ given. IsAddressOf given (Some form)) (sym from_sent) (form, is, refl);
     to = subst (λ given. IsAddressOf given None) (sym to_sent) refl;
-    id = empty_again (attr_named (codes "id") (tidied sent)) id id_sent;
+    id = sym (ap (λ o. unwrap_or o []) id_sent ∙ empty_text_again id);
     kind = subst (λ given. IsMessageKind given Error) (sym type_sent) (spelled_is message_type Normal message_kind_named message_reads Error);
     lang = sym (ap (λ o. unwrap_or o []) lang_sent);
     payload = refl;
@@ -118,7 +115,7 @@ module _ (from id : List ℕ) (error : StanzaError) where
         named = (refl, refl);
         from = subst (λ given. IsAddressOf given (Some form)) (sym (attr_tidied [] (codes "from") returned ∙ from_written (Some from) (unless_empty id) None kind None)) (form, is, refl);
         to = subst (λ given. IsAddressOf given None) (sym (attr_tidied [] (codes "to") returned ∙ to_written (Some from) (unless_empty id) None kind None)) refl;
-        id = empty_again (attr_named (codes "id") (tidied returned)) id (attr_tidied [] (codes "id") returned ∙ id_written (Some from) (unless_empty id) None kind None);
+        id = sym (ap (λ o. unwrap_or o []) (attr_tidied [] (codes "id") returned ∙ id_written (Some from) (unless_empty id) None kind None) ∙ empty_text_again id);
         kind = subst (λ given. IsPresenceKind given presence.Error) (sym (attr_tidied [] (codes "type") returned ∙ type_written (Some from) (unless_empty id) None kind None)) (presence_kind_is kind);
         priority = refl;
       }

@@ -9,8 +9,8 @@ use Rattle.xml_framer.proofs.Pieces.{run_append}
 use Rattle.law_xml.proofs.CountLaws.{takes}
 use Rattle.law_xml.proofs.FaultLaws.{goes}
 use Rattle.law_xml.proofs.OffsetRuns.{fault_at_token}
-use Rattle.law_xml.proofs.OneHand.{heads, markup_held, reference_held}
-use Rattle.law_xml.proofs.OneOffset.{one_offset}
+use Rattle.law_xml.proofs.OneHand.{markup_held, reference_held}
+use Rattle.law_xml.proofs.OneOffset.{heads, one_offset}
 use Rattle.law_xml.proofs.RowsDecide.{rows_of_bytes}
 use Rattle.law_xml.proofs.RunPositions.{no_fault_before, taken_pending}
 use Rattle.law_xml.specs.ByteRows.{BangByteRow, ByteRow, DeclarationByteRow, EndInMarkup, EndInReference, InDeclaration, IsNotTooLong, OpensDeclaration, OpensSection, QuestionByteRow, ReferenceByteRow, after_bang, after_declaration, after_question, after_reference, broken_character, departing_name, is_malformed, names_encoding, no_character, no_section, no_space, no_xml, unknown_name}

@@ -1,7 +1,7 @@
 -- The machine's way over bytes that break nothing: the room that the byte limit leaves, what stays the same, and the
 -- states between.
 use Rattle.std.proofs.Common.{◌≡◌, ℕ, suc, ◌+◌, ◌-◌, ◌^◌, ◌<◌, ◌≤◌, ◌⊎◌, inl, inr, ⊎_elim, min, true, false, cond, eqb, leb, List, [], ◌∷◌, ◌++◌, Some, None, length, refl, sym, ap, subst, ◌∙◌, arith, length-append}
-use Rattle.std.proofs.lemmas.Bool.{cases_Bool, and_left, and_right, false_from_ne_true, leb-true}
+use Rattle.std.proofs.lemmas.Bool.{cases_Bool, and_left, and_right, lt-leb}
 use Rattle.std.specs.Option.{is_some}
 use Rattle.xml_tokens.specs.Utf8.{utf8_next}
 use Rattle.xml_framer.proofs.Pieces.{run_append}
@@ -39,15 +39,12 @@ pub one_more_low : (used : ℕ) → one_more used < 2 ^ 64
 one_more_low used =
     ⊎_elim (λ (none : eqb used 0 ≡ true). rw none (omega arith)) (λ (some : eqb used 0 ≡ false). rw some (omega arith)) (cases_Bool (eqb used 0))
 
-above_false : (a b : ℕ) → b < a → leb a b ≡ false
-above_false a b h = false_from_ne_true (leb a b) (λ e. let le = leb-true a b e in omega (arith, h, le))
-
 -- with room for a byte, it isn't past the limit
 pub short : (s : State) (b n : ℕ) → Room s (suc n) → is_too_long s b ≡ false
 unfolding is_too_long
 short s b n h =
     ⊎_elim (λ (none : s.positions.used ≡ 0). rw none refl)
-    (λ more. and_right _ _ (and_left (leb s.limits.bytes s.positions.used) _ (above_false s.limits.bytes s.positions.used (⊎_elim (λ below. omega (arith, below)) (λ large. let low = large.0 in let high = large.1 in omega (arith, low, high)) more))))
+    (λ more. and_right _ _ (and_left (leb s.limits.bytes s.positions.used) _ (lt-leb s.limits.bytes s.positions.used (⊎_elim (λ below. omega (arith, below)) (λ large. let low = large.0 in let high = large.1 in omega (arith, low, high)) more))))
     h
 
 -- ---- what stays the same

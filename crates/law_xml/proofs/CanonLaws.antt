@@ -11,7 +11,7 @@ use Rattle.xml_tokens.proofs.RoundTrips.{no_quote, value_is_read_back, value_unq
 use Rattle.xml_tokens.proofs.ValueSpellings.{is_value}
 use Rattle.xml_tokens.specs.Spelling.{spelled_text, spelled_value}
 use Rattle.xml_tokens.specs.Tags as tokens
-use Rattle.xml_tokens.specs.Tags.{AreAttributes, IsAttribute, IsSpelled, IsStartTag, IsTag, end_tag, is_qualified, names_of, tag_end}
+use Rattle.xml_tokens.specs.Tags.{AreAttributes, IsAttribute, IsTag, end_tag, is_qualified, names_of, tag_end}
 use Rattle.xml_names.specs.Declarations.{MayDeclare, bindings_of, declared_prefix, others_of}
 use Rattle.xml_names.specs.Expansion.{Name, name_of}
 use Rattle.xml_names.specs.Grammar.{IsElementIn, IsExpanded, IsStart}
@@ -27,7 +27,8 @@ use Rattle.law_xml.specs.Texts.{IsText}
 use Rattle.xml_trees.specs.Tidied.{text_node}
 use Rattle.xml_trees.specs.Trees.{AreTidy, Elem, IsTree, Nodes, element, no_nodes, child, text, joined}
 use Rattle.law_xml.proofs.SpelledAttributes.{Above, Apart, ArePlain, Bounded, all_bounded, all_may, all_said, binds_one, default_first, expanded, here_bound, is_no_other, name_differs, names_apart, outer_bound}
-use Rattle.law_xml.proofs.SpelledNames.{differ, name_no_colon, name_qualified, numbered_prefix, prefixed_qualified, stream_plain, xml_plain, xmlns_plain}
+use Rattle.law_xml.proofs.SpelledNames.{name_no_colon, name_qualified, numbered_prefix, prefixed_qualified, stream_plain, xml_plain, xmlns_plain}
+use Rattle.base_lemmas.proofs.Bytes.{other-from_bytes_eq}
 use Rattle.law_xml.proofs.SpelledTexts.{no_text, text_spelled}
 
 -- ---- attributes in the bytes of a tag
@@ -84,15 +85,15 @@ record Tagged (scope : Scope) (d ns : List ℕ) (attrs : List Attribute) (xs : L
   others : AllZip (IsExpanded (bindings_of xs ++ scope)) (others_of xs) (map expanded attrs)
 
 no_number : (n : ℕ) → [] ≢ numbered_prefix n
-no_number n = differ [] (numbered_prefix n) refl
+no_number n = other-from_bytes_eq [] (numbered_prefix n) refl
 
 stream_no_number : (n : ℕ) → codes "stream" ≢ numbered_prefix n
-stream_no_number n = differ (codes "stream") (numbered_prefix n) refl
+stream_no_number n = other-from_bytes_eq (codes "stream") (numbered_prefix n) refl
 
 default_may : (ns name : List ℕ) → HasPlainName ns name → bytes_eq ns xml_namespace ≡ false → MayDeclare (bind [] ns)
 default_may ns name h other = record {
-  xml_alone = (λ e. absurd (differ [] (codes "xml") refl e), λ e. absurd (differ ns xml_namespace other e));
-  not_xmlns = differ [] (codes "xmlns") refl;
+  xml_alone = (λ e. absurd (other-from_bytes_eq [] (codes "xml") refl e), λ e. absurd (other-from_bytes_eq ns xml_namespace other e));
+  not_xmlns = other-from_bytes_eq [] (codes "xmlns") refl;
   not_its_name = h.not_xmlns;
   not_undeclared = λ e. refl;
 }
@@ -208,7 +209,7 @@ prefixed_name scope d ns name f h =
       qualified = ap is_qualified is ∙ prefixed_qualified (codes "stream") name stream_plain h.name_is;
       prefix = codes "stream";
       parts = subst (λ l. IsName l (codes "stream") name) (sym is) (inl (refl, refl));
-      element = inr (differ (codes "stream") [] refl, differ (codes "stream") (codes "xmlns") refl, f.stream ∙ ap Some (sym same));
+      element = inr (other-from_bytes_eq (codes "stream") [] refl, other-from_bytes_eq (codes "stream") (codes "xmlns") refl, f.stream ∙ ap Some (sym same));
     })
     (λ (other : bytes_eq ns streams_namespace ≡ false).
     let or_xml = cond-false (bytes_eq ns streams_namespace) (codes "stream:" ++ name) (unless_xml ns name) other in
@@ -220,7 +221,7 @@ prefixed_name scope d ns name f h =
       qualified = ap is_qualified is ∙ prefixed_qualified (codes "xml") name xml_plain h.name_is;
       prefix = codes "xml";
       parts = subst (λ l. IsName l (codes "xml") name) (sym is) (inl (refl, refl));
-      element = inr (differ (codes "xml") [] refl, differ (codes "xml") (codes "xmlns") refl, xml_is_bound scope ∙ ap Some (sym same));
+      element = inr (other-from_bytes_eq (codes "xml") [] refl, other-from_bytes_eq (codes "xml") (codes "xmlns") refl, xml_is_bound scope ∙ ap Some (sym same));
     })
     (λ (neither : bytes_eq ns xml_namespace ≡ false).
     let is = or_xml ∙ cond-false (bytes_eq ns xml_namespace) (codes "xml:" ++ name) name neither in

@@ -83,21 +83,18 @@ module _ (limits : Limits) (from : State) (items : List Item) (same : from.limit
     abbrev s : State
     s = r.there
 
-    there : s.limits ≡ limits
-    there = r.limits ∙ same
-
     has_room : length bytes ≤ limits.bytes → HasRoom s (e.start ++ e.inside)
     has_room short =
         let used = r.used in
         let fits : s.positions.used + length level ≤ limits.bytes = omega (arith, used, unused, short, ap length are, length-append front level) in
-        subst (HasRoom s) e.bytes_are (inl (subst (λ (l : Limits). s.positions.used + length level ≤ l.bytes) (sym there) fits))
+        subst (HasRoom s) e.bytes_are (inl (subst (λ (l : Limits). s.positions.used + length level ≤ l.bytes) (sym (r.limits ∙ same)) fits))
 
     is_shallow : open_count s + depth (element_of e.tag e.kids) ≤ s.limits.depth
     is_shallow =
         let count : open_count s ≡ length outer = count_opens s ∙ ap length r.names_are in
         let shallow = e.shallow in
         let fits : length outer + depth (element_of e.tag e.kids) ≤ limits.depth = omega (arith, shallow) in
-        subst (λ (l : Limits). open_count s + depth (element_of e.tag e.kids) ≤ l.depth) (sym there) (subst (λ n. n + depth (element_of e.tag e.kids) ≤ limits.depth) (sym count) fits)
+        subst (λ (l : Limits). open_count s + depth (element_of e.tag e.kids) ≤ l.depth) (sym (r.limits ∙ same)) (subst (λ n. n + depth (element_of e.tag e.kids) ≤ limits.depth) (sym count) fits)
 
     scope_inside : (u : State) → HasBegun s u e.start e.tag → scope_in u.scopes ≡ e.tag.bindings ++ around
     scope_inside u has = ap scope_in has.scopes ∙ ap (λ c. e.tag.bindings ++ c) r.scope_is
@@ -127,7 +124,7 @@ module _ (limits : Limits) (from : State) (items : List Item) (same : from.limit
     after_start u has start_run short =
         let left = room_rest s u e.start e.inside has.limits has.used (has_room short) in
         let tags : AreTagsWithinContent (tag_limits u.limits) (e.tag.bindings ++ around) e.inside e.kids e.content =
-        subst (λ l. AreTagsWithinContent (tag_limits l) (e.tag.bindings ++ around) e.inside e.kids e.content) (sym (has.limits ∙ there)) e.tags_within in
+        subst (λ l. AreTagsWithinContent (tag_limits l) (e.tag.bindings ++ around) e.inside e.kids e.content) (sym (has.limits ∙ (r.limits ∙ same))) e.tags_within in
         let deep = deeper_in s u e.start e.tag e.kids (element_of e.tag e.kids) r.may_cover (is_begun e.tag e.kids) has is_shallow in
         let more = content_read (e.tag.bindings ++ around) e.inside e.kids e.content u items (opened e.tag) has.fresh has.here has.no_chars (scope_inside u has) left tags deep in
         after_content u more.0 has more.2 start_run more.1
@@ -136,7 +133,7 @@ module _ (limits : Limits) (from : State) (items : List Item) (same : from.limit
     level_reached short =
         let elem = element_of e.tag e.kids in
         let start = subst (λ c. IsStart c e.start e.raw e.tag) (sym r.scope_is) e.is_start in
-        let within : IsWithin (tag_limits s.limits) e.raw e.tag = subst (λ l. IsWithin (tag_limits l) e.raw e.tag) (sym there) e.tag_within in
+        let within : IsWithin (tag_limits s.limits) e.raw e.tag = subst (λ l. IsWithin (tag_limits l) e.raw e.tag) (sym (r.limits ∙ same)) e.tag_within in
         let may = may_stand s outer (namespace_of elem) (name_of elem) r.names_are r.may_cover (r.phase_is ∙ between) e.no_header in
         let first = level_read s items e.start e.raw e.tag e.kids elem start e.not_empty (is_begun e.tag e.kids) r.quiet (room_front s e.start e.inside (has_room short)) within is_shallow may in
         after_start first.0 first.2 first.1 short

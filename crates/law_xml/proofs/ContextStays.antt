@@ -9,7 +9,8 @@ use Rattle.xml_framer.specs.Readings.{framed}
 use Rattle.xml_framer.specs.States.{Turn, from_start, is_text, turn}
 use Rattle.xml_framer.specs.declared.limits.Limits.{Limits}
 use Rattle.law_xml.proofs.ContextsTold.{context_of}
-use Rattle.law_xml.proofs.OneHand.{heads, markup_held, text_read}
+use Rattle.law_xml.proofs.OneHand.{markup_held, text_read}
+use Rattle.law_xml.proofs.OneOffset.{heads}
 use Rattle.law_xml.proofs.RunPositions.{no_fault_before}
 use Rattle.law_xml.proofs.TokenStays.{Same, text_keeps, token_keeps}
 use Rattle.law_xml.specs.Offsets.{AreBefore, AreTokens, IsOpen, IsRun, has_declaration_end, is_no_markup, is_open_tag, leads_tag, open_declaration, open_section, open_tag, opening_declaration, opening_section}

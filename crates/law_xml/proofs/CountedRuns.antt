@@ -1,6 +1,6 @@
 -- In each run the count is the number of bytes from the first one on.
 use Rattle.std.proofs.Common.{◌≡◌, ℕ, ◌+◌, ◌^◌, ◌<◌, Bool, true, false, not, ◌&&◌, ◌||◌, ◌==◌, if◌then◌else◌, ⊎_elim, List, [], ◌∷◌, ◌++◌, Option, Some, None, Result, Ok, Err, refl, sym, ap, subst, ◌∙◌, length, arith}
-use Rattle.std.proofs.lemmas.Bool.{cases_Bool, eqb-true, false≢true}
+use Rattle.std.proofs.lemmas.Bool.{cases_Bool, eqb-true, false≢true, not-true, and_parts}
 use Rattle.std.specs.Option.{is_some}
 use Rattle.std.specs.Prelude.{codes, nat_lt, slice_index}
 use Rattle.xml_names.specs.Ends.{end_of}
@@ -33,6 +33,7 @@ use Rattle.xml_framer.specs.declared.states.Mode.TheVariants as mode
 use Rattle.xml_framer.specs.declared.states.Phase.{Phase}
 use Rattle.xml_framer.specs.declared.states.Phase.TheVariants as phase
 use Rattle.law_xml.proofs.OpenRowLaws.{text_mode}
+use Rattle.std.proofs.Math.Bool.{or-true}
 
 -- ---- no footer and no declaration comes to be in hand in an element
 
@@ -248,15 +249,6 @@ unlimited_free s m b e = each (is_some s.here)
     each true = rw e (free (is_some s.here))
     each false = rw e (free (is_some s.here))
 
-and_not : (a b : Bool) → (a && not b) ≡ true → b ≡ false
-and_not true false h = refl
-and_not true true h = absurd (false≢true h)
-and_not false b h = absurd (false≢true h)
-
-not_and : (a b : Bool) → (not a && b) ≡ true → a ≡ false
-not_and false b h = refl
-not_and true b h = absurd (false≢true h)
-
 footer_begun : (s : State) (b : ℕ) → is_some s.here ≡ false → Stands (gathered_in (unlimited s) mode.Footer b)
 footer_begun s b outer = rw (outer, outer) refl
 
@@ -264,7 +256,7 @@ asked_stands : (s : State) (b : ℕ) → Stands s → Stands (if may_declare s t
 asked_stands s b p = each (may_declare s) refl
   where
     each : (c : Bool) → may_declare s ≡ c → Stands (if c then gathered_in s mode.Question b else token_fails s why.Restricted)
-    each true may = at_outer s mode.Question (not_and (is_some s.here) (admits_declaration s.lexical.phase) may)
+    each true may = at_outer s mode.Question (not-true (is_some s.here) (and_parts _ (admits_declaration s.lexical.phase) may).0)
     each false may = p
 
 opening_stands : (t : Turn) (b : ℕ) → is_outer t.state.lexical.mode ≡ false → StandsTurn (in_opening t b)
@@ -276,7 +268,7 @@ opening_stands t b e =
     let last = (if b == 47 && not (is_some t.state.here) then footer else in_tag t b) in
     pick_turn bang (if b == 63 then asked else last) (b == 33) (unlimited_free t.state mode.Bang b refl)
     (pick_turn asked last (b == 63) (asked_stands t.state b (inner_mode t.state e))
-    (by_test footer (in_tag t b) (b == 47 && not (is_some t.state.here)) (λ h. footer_begun t.state b (and_not (b == 47) (is_some t.state.here) h)) (λ h. tag_stands t b e)))
+    (by_test footer (in_tag t b) (b == 47 && not (is_some t.state.here)) (λ h. footer_begun t.state b (not-true (is_some t.state.here) (and_parts (b == 47) _ h).1)) (λ h. tag_stands t b e)))
 
 mode_stands : (m : Mode) (t : Turn) (b : ℕ) → t.state.lexical.mode ≡ m → StandsTurn t → StandsTurn (taken_in m t b)
 mode_stands mode.Text t b is p = text_stands t.state b p
@@ -305,10 +297,6 @@ choose_turn s u v false x y = y
 or_false : (a : Bool) → (a || false) ≡ true → a ≡ true
 or_false true h = refl
 or_false false h = h
-
-or_true : (a : Bool) → (a || true) ≡ true
-or_true true = refl
-or_true false = refl
 
 before : (s : State) → is_limited s.lexical.mode ≡ false → Gets s s
 before s other h = or_false (is_some s.here) (rw other at h)
@@ -367,7 +355,7 @@ by_element : (s : State) → is_some s.here ≡ true → has_limit s ≡ true
 by_element s inner = rw inner refl
 
 by_mode : (s : State) (m : Mode) → s.lexical.mode ≡ m → is_limited m ≡ true → has_limit s ≡ true
-by_mode s m is h = rw (is, h) (or_true (is_some s.here))
+by_mode s m is h = rw (is, h) (or-true (is_some s.here))
 
 mode_gets : (m : Mode) (t : Turn) (b : ℕ) → t.state.lexical.mode ≡ m → is_in_hand t.state ≡ true → has_limit (taken_in m t b).state ≡ true → has_limit t.state ≡ true
 mode_gets mode.Text t b is hand h = by_element t.state (inside_in t.state is hand)

@@ -9,7 +9,7 @@ use Rattle.std.specs.List.{list_all}
 use Rattle.xml_tokens.specs.Characters.{is_white}
 use Rattle.xml_tokens.specs.Declarations.{IsGood, MaySpell, is_utf8_label, is_yes_or_no}
 use Rattle.xml_tokens.specs.Tags.{IsSpelled, are_white, is_quote}
-use Rattle.law_xml.proofs.OneHand.{heads as first_is}
+use Rattle.law_xml.proofs.OneOffset.{heads as first_is}
 
 -- a byte of ASCII other than `>` and `?`
 abbrev pub is_unmarked : ℕ → Bool

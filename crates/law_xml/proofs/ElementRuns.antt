@@ -2,7 +2,7 @@
 use Rattle.std.proofs.Common.{◌≡◌, ℕ, ◌+◌, ◌≤◌, max, inl, true, false, List, [], ◌++◌, Some, length, length-append, append_assoc, refl, sym, ap, subst, ◌∙◌, arith}
 use Rattle.std.specs.Option.{is_some}
 use Rattle.xml_tokens.specs.Tags as tokens
-use Rattle.xml_tokens.specs.Tags.{IsTag, end_tag, is_end}
+use Rattle.xml_tokens.specs.Tags.{IsTag, end_tag}
 use Rattle.xml_names.proofs.EndLaws.{end_tags_are_read}
 use Rattle.xml_names.specs.Ends.{end_of}
 use Rattle.xml_names.specs.Grammar.{IsStart, IsWithin}

@@ -59,15 +59,15 @@ more_is_none : (xs more : List Item) → xs ≡ xs ++ more → more ≡ []
 more_is_none xs [] e = refl
 more_is_none xs (m ∷ ms) e = absurd (omega (arith, ap length e, length-append xs (m ∷ ms)))
 
+pub front_none : (a b : List Item) → a ++ b ≡ [] → a ≡ []
+front_none [] b e = refl
+front_none (x ∷ xs) b e = absurd (let is = e in cc)
+
 -- lists that begin with one another are the same
 both_fronts : (xs ys : List Item) → IsFrontOf xs ys → IsFrontOf ys xs → ys ≡ xs
 both_fronts xs ys (a, e) (b, f) =
     let all : xs ≡ xs ++ (a ++ b) = f ∙ ap (λ l. l ++ b) e ∙ append_assoc xs a b in
     e ∙ ap (λ l. xs ++ l) (front_none a b (more_is_none xs (a ++ b) all)) ∙ append-nil xs
-  where
-    front_none : (a b : List Item) → a ++ b ≡ [] → a ≡ []
-    front_none [] b e = refl
-    front_none (x ∷ xs) b e = absurd (let is = e in cc)
 
 take_seam : (n : ℕ) (front : List ℕ) → n < length (front ++ 62 ∷ []) → take n (front ++ 62 ∷ []) ≡ take n front
 take_seam zero front less = refl

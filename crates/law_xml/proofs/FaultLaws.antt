@@ -1,6 +1,6 @@
 -- Each row of the table of faults.
-use Rattle.std.proofs.Common.{◌≡◌, ◌≢◌, ℕ, ◌<◌, ◌≤◌, ⊎_elim, Bool, true, false, ◌==◌, if◌then◌else◌, [], ◌∷◌, ◌++◌, Option, Some, None, Ok, Err, length, refl, ap, ◌∙◌}
-use Rattle.std.proofs.lemmas.Bool.{cases_Bool, eqb-true, le-ltb, lt-ltb}
+use Rattle.std.proofs.Common.{◌≡◌, ◌≢◌, ℕ, ◌<◌, ◌≤◌, Bool, true, false, ◌==◌, if◌then◌else◌, [], ◌∷◌, ◌++◌, Option, Some, None, Ok, Err, length, refl, ap, ◌∙◌}
+use Rattle.std.proofs.lemmas.Bool.{le-ltb, lt-ltb, ne_eqb}
 use Rattle.std.specs.Option.{is_some}
 use Rattle.std.specs.Prelude.{codes, slice_index}
 use Rattle.xml_names.specs.Ends.{end_of}
@@ -33,9 +33,6 @@ use Rattle.xml_framer.specs.declared.states.Phase.TheVariants as phase
 abbrev found_at : ℕ → Why → Option Fault
 found_at at w = Some (record { at = at; why = w })
 
-pub differs : (a b : ℕ) → a ≢ b → (a == b) ≡ false
-differs a b h = ⊎_elim (λ (same : (a == b) ≡ true). absurd (h (eqb-true a b same))) (λ other. other) (cases_Bool (a == b))
-
 pub long : (t : Turn) (b : ℕ) → t.state.fault ≡ None → is_too_long t.state b ≡ true → Decides t b t.state.positions.item_at why.TooLong
 unfolding goes_on is_too_long
 long t b none h = rw (none, h) refl
@@ -58,7 +55,7 @@ unfolding in_bang
 bang_fails s b e = rw e refl
 
 pub bang : (t : Turn) (b : ℕ) → Takes t.state mode.Bang b → b ≢ slice_index (codes "<![CDATA[") (length t.state.token) → Decides t b t.state.positions.token_at why.Restricted
-bang t b h apart = due t mode.Bang b t.state.positions.token_at why.Restricted h (bang_fails (counted t.state) b (differs b (slice_index (codes "<![CDATA[") (length t.state.token)) apart))
+bang t b h apart = due t mode.Bang b t.state.positions.token_at why.Restricted h (bang_fails (counted t.state) b (ne_eqb b (slice_index (codes "<![CDATA[") (length t.state.token)) apart))
 
 question_fails : (t : Turn) → may_declare t.state ≡ false → (in_opening t 63).state.fault ≡ Some (record { at = t.state.positions.token_at; why = why.Restricted })
 unfolding in_opening
@@ -72,7 +69,7 @@ unfolding in_question
 opening_fails s b few e = rw (lt-ltb (length s.token) 5 few, e) refl
 
 pub departs : (t : Turn) (b : ℕ) → Takes t.state mode.Question b → length t.state.token < 5 → b ≢ slice_index (codes "<?xml") (length t.state.token) → Decides t b t.state.positions.token_at why.Restricted
-departs t b h few apart = due t mode.Question b t.state.positions.token_at why.Restricted h (opening_fails (counted t.state) b few (differs b (slice_index (codes "<?xml") (length t.state.token)) apart))
+departs t b h few apart = due t mode.Question b t.state.positions.token_at why.Restricted h (opening_fails (counted t.state) b few (ne_eqb b (slice_index (codes "<?xml") (length t.state.token)) apart))
 
 space_fails : (s : State) (b : ℕ) → 5 ≤ length s.token → is_white b ≡ false → (in_question s b).fault ≡ Some (record { at = s.positions.token_at; why = why.Restricted })
 unfolding in_question
@@ -126,7 +123,7 @@ unfolding in_reference
 reference_fails s b other e = rw (other, e) refl
 
 pub reference_departs : (t : Turn) (b : ℕ) → Takes t.state mode.Reference b → b ≢ 59 → reference_goes_on t.state.token b ≡ false → Decides t b t.state.positions.token_at why.NotWellFormed
-reference_departs t b h other e = due t mode.Reference b t.state.positions.token_at why.NotWellFormed h (reference_fails (counted t.state) b (differs b 59 other) e)
+reference_departs t b h other e = due t mode.Reference b t.state.positions.token_at why.NotWellFormed h (reference_fails (counted t.state) b (ne_eqb b 59 other) e)
 
 outside_fails : (s : State) → is_some s.here ≡ false → (in_text s 38).fault ≡ Some (record { at = s.positions.at; why = why.NotWellFormed })
 unfolding in_text between
@@ -156,7 +153,7 @@ pub forbidden : (t : Turn) (b : ℕ) → Takes t.state mode.Text b → is_some t
     → Decides t b (in_run t.state).positions.token_at why.NotWellFormed
 forbidden t b h inner less and ended e =
     due t mode.Text b (in_run t.state).positions.token_at why.NotWellFormed h
-    (forbidden_fails (counted t.state) b inner (differs b 60 less) (differs b 38 and) ended e ∙ ap (λ p. found_at p why.NotWellFormed) (run_position t.state.lexical.in_run t.state))
+    (forbidden_fails (counted t.state) b inner (ne_eqb b 60 less) (ne_eqb b 38 and) ended e ∙ ap (λ p. found_at p why.NotWellFormed) (run_position t.state.lexical.in_run t.state))
 
 brackets_fail : (s : State) → is_some s.here ≡ true → s.pending ≡ [] → s.lexical.in_run ≡ true → s.lexical.brackets ≡ 2 → (in_text s 62).fault ≡ Some (record { at = s.positions.token_at; why = why.NotWellFormed })
 unfolding in_text inside text_inside utf8_next
@@ -182,7 +179,7 @@ pub text_outside_elements : (t : Turn) (b : ℕ) → Takes t.state mode.Text b �
     → Decides t b (in_run t.state).positions.token_at why.NotWellFormed
 text_outside_elements t b h outer less and ended e =
     due t mode.Text b (in_run t.state).positions.token_at why.NotWellFormed h
-    (text_fails (counted t.state) b outer (differs b 60 less) (differs b 38 and) ended e ∙ ap (λ p. found_at p why.NotWellFormed) (run_position t.state.lexical.in_run t.state))
+    (text_fails (counted t.state) b outer (ne_eqb b 60 less) (ne_eqb b 38 and) ended e ∙ ap (λ p. found_at p why.NotWellFormed) (run_position t.state.lexical.in_run t.state))
 
 -- ---- tags
 

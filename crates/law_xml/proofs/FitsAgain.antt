@@ -39,7 +39,7 @@ use Rattle.law_xml.proofs.WrittenFits.{written_element_is_read}
 
 -- ---- how many attributes are written
 
-one_written : (n : ℕ) (a : Attribute) → length (spelled_attribute n a) ≤ 2
+pub one_written : (n : ℕ) (a : Attribute) → length (spelled_attribute n a) ≤ 2
 unfolding spelled_attribute
 one_written n a =
     ⊎_elim (λ (e : is_empty a.ns ≡ true). rw e (omega arith))
@@ -47,14 +47,14 @@ one_written n a =
     ⊎_elim (λ (x : bytes_eq a.ns xml_namespace ≡ true). rw (e, x) (omega arith)) (λ (x : bytes_eq a.ns xml_namespace ≡ false). rw (e, x) (omega arith)) (cases_Bool (bytes_eq a.ns xml_namespace)))
     (cases_Bool (is_empty a.ns))
 
-all_written : (n : ℕ) (attrs : List Attribute) → length (spelled_attributes n attrs) ≤ 2 * length attrs
+pub all_written : (n : ℕ) (attrs : List Attribute) → length (spelled_attributes n attrs) ≤ 2 * length attrs
 all_written n [] = omega arith
 all_written n (a ∷ more) =
     let one = one_written n a in
     let rest = all_written (next_number n a) more in
     omega (arith, one, rest, length-append (spelled_attribute n a) (spelled_attributes (next_number n a) more))
 
-default_written : (default ns : List ℕ) → length (declared_default default ns) ≤ 1
+pub default_written : (default ns : List ℕ) → length (declared_default default ns) ≤ 1
 unfolding declared_default
 default_written default ns =
     ⊎_elim (λ (e : declares_default default ns ≡ true). rw e (omega arith)) (λ (e : declares_default default ns ≡ false). rw e (omega arith)) (cases_Bool (declares_default default ns))

@@ -1,6 +1,6 @@
 -- A framer reads what spells the footer: the stream ends.
-use Rattle.std.proofs.Common.{◌≡◌, ℕ, ◌+◌, ◌<◌, ◌≤◌, Bool, true, false, eqb, ltb, leb, not, ◌&&◌, List, [], ◌∷◌, ◌++◌, Some, None, length, bytes_eq, refl, sym, ap, subst, ◌∙◌, arith, append_assoc, append-nil, length-append}
-use Rattle.std.proofs.lemmas.Bool.{and_parts, and_left, and_from, not-true, lt-ltb, le-ltb}
+use Rattle.std.proofs.Common.{◌≡◌, ℕ, ◌+◌, ◌<◌, ◌≤◌, true, false, eqb, ltb, leb, not, List, [], ◌∷◌, ◌++◌, Some, None, length, bytes_eq, refl, sym, ap, subst, ◌∙◌, arith, append_assoc, append-nil, length-append}
+use Rattle.std.proofs.lemmas.Bool.{and_parts, and_left, and_from, not-true, lt-ltb, le-ltb, and_right}
 use Rattle.std.proofs.lemmas.Option.{same_Some}
 use Rattle.std.proofs.lemmas.Slice.Eq.{bytes_eq-Decides}
 use Rattle.std.specs.List.{list_all}
@@ -35,12 +35,7 @@ uncounted_is_short t b none = and_left (ltb 0 t.positions.used) _ (ap (ltb 0) no
 -- the `/` behind `<` shows that there is no limit
 slash_is_short : (t : State) → t.lexical.mode ≡ mode.Opening → is_some t.here ≡ false → is_too_long t 47 ≡ false
 unfolding is_too_long
-slash_is_short t m outer = rw (m, outer) (never (ltb 0 t.positions.used) (leb t.limits.bytes t.positions.used))
-  where
-    never : (x y : Bool) → (x && (y && false)) ≡ false
-    never true true = refl
-    never true false = refl
-    never false y = refl
+slash_is_short t m outer = rw (m, outer) (and_right (ltb 0 t.positions.used) _ (and_right (leb t.limits.bytes t.positions.used) false refl))
 
 -- what isn't counted stays so
 still_uncounted : (n : ℕ) → n ≡ 0 → after n ≡ 0

@@ -26,7 +26,7 @@ use Rattle.law_xml.specs.Spells.{SpellsFooter, SpellsHeader, as_written, bind, w
 use Rattle.xml_tokens.specs.Lines.{IsCharacters}
 use Rattle.law_xml.proofs.CanonLaws.{attributes_spelled}
 use Rattle.law_xml.proofs.SpelledAttributes.{Apart, Bounded, each, nothing_apart}
-use Rattle.law_xml.proofs.SpelledNames.{differ}
+use Rattle.base_lemmas.proofs.Bytes.{other-from_bytes_eq}
 
 -- ---- an attribute that may be there
 
@@ -189,13 +189,9 @@ xmlns_qualified : is_qualified (codes "xmlns") ≡ true
 unfolding is_qualified are_characters is_utf8 chars encode
 xmlns_qualified = refl
 
-declaration_qualified : is_qualified (codes "xmlns:stream") ≡ true
+stream_names_qualified : (is_qualified (codes "xmlns:stream") ≡ true) × (is_qualified (codes "stream:stream") ≡ true)
 unfolding is_qualified are_characters is_utf8 chars encode
-declaration_qualified = refl
-
-pub stream_qualified : is_qualified (codes "stream:stream") ≡ true
-unfolding is_qualified are_characters is_utf8 chars encode
-stream_qualified = refl
+stream_names_qualified = (refl, refl)
 
 -- ---- what holds of them
 
@@ -204,10 +200,10 @@ declared_names = codes "xmlns" ∷ codes "xmlns:stream" ∷ []
 
 declared_sound : Sound declared_names declarations
 declared_sound = record {
-  bounded = (record { name = xmlns_qualified; value = client_plain }, (record { name = declaration_qualified; value = streams_plain }, tt));
+  bounded = (record { name = xmlns_qualified; value = client_plain }, (record { name = stream_names_qualified.0; value = streams_plain }, tt));
   within = (inl refl, (inr (inl refl), tt));
   apart = AllPairs-cons (λ a b. a ≢ b) (codes "xmlns") (codes "xmlns:stream" ∷ [])
-      (All-from_recursion (λ y. codes "xmlns" ≢ y) (codes "xmlns:stream" ∷ []) (differ (codes "xmlns") (codes "xmlns:stream") refl, tt))
+      (All-from_recursion (λ y. codes "xmlns" ≢ y) (codes "xmlns:stream" ∷ []) (other-from_bytes_eq (codes "xmlns") (codes "xmlns:stream") refl, tt))
       (AllPairs-cons (λ a b. a ≢ b) (codes "xmlns:stream") [] (All-from_recursion (λ y. codes "xmlns:stream" ≢ y) [] tt) nothing_apart);
 }
 
@@ -218,7 +214,7 @@ Differ x (m ∷ ms) = (bytes_eq x m ≡ false) × Differ x ms
 
 differs : (x : List ℕ) (ms : List (List ℕ)) → Differ x ms → AllByRecursion (λ m. x ≢ m) ms
 differs x [] h = tt
-differs x (m ∷ ms) h = (differ x m h.0, differs x ms h.1)
+differs x (m ∷ ms) h = (other-from_bytes_eq x m h.0, differs x ms h.1)
 
 all_sound : (h : Header) → IsPlainHeader h → Sound (codes "from" ∷ codes "id" ∷ codes "to" ∷ codes "version" ∷ codes "xml:lang" ∷ declared_names) (all h)
 all_sound h p =
@@ -258,7 +254,7 @@ plain_said scope x value h = ([], inr (refl, refl, h), inl (refl, refl), refl)
 
 lang_said : (scope : Scope) (value : List ℕ) → IsExpanded scope (spelled (codes "xml:lang") value) (record { ns = xml_namespace; name = codes "lang"; value = value })
 unfolding bound
-lang_said scope value = (codes "xml", inl (refl, refl), inr (differ (codes "xml") [] refl, refl), refl)
+lang_said scope value = (codes "xml", inl (refl, refl), inr (other-from_bytes_eq (codes "xml") [] refl, refl), refl)
 
 all_say : (scope : Scope) (h : Header) → Say scope (all h) (say_all h)
 unfolding declared_prefix prefix_of local_of
@@ -276,18 +272,18 @@ header_tag h = record { spelled = codes "stream:stream"; ns = streams_namespace;
 
 may_default : MayDeclare (bind [] client_namespace)
 may_default = record {
-  xml_alone = (λ e. absurd (differ [] (codes "xml") refl e), λ e. absurd (differ client_namespace xml_namespace refl e));
-  not_xmlns = differ [] (codes "xmlns") refl;
-  not_its_name = differ client_namespace xmlns_namespace refl;
+  xml_alone = (λ e. absurd (other-from_bytes_eq [] (codes "xml") refl e), λ e. absurd (other-from_bytes_eq client_namespace xml_namespace refl e));
+  not_xmlns = other-from_bytes_eq [] (codes "xmlns") refl;
+  not_its_name = other-from_bytes_eq client_namespace xmlns_namespace refl;
   not_undeclared = λ e. refl;
 }
 
 may_stream : MayDeclare (bind (codes "stream") streams_namespace)
 may_stream = record {
-  xml_alone = (λ e. absurd (differ (codes "stream") (codes "xml") refl e), λ e. absurd (differ streams_namespace xml_namespace refl e));
-  not_xmlns = differ (codes "stream") (codes "xmlns") refl;
-  not_its_name = differ streams_namespace xmlns_namespace refl;
-  not_undeclared = λ e. absurd (differ streams_namespace [] refl e);
+  xml_alone = (λ e. absurd (other-from_bytes_eq (codes "stream") (codes "xml") refl e), λ e. absurd (other-from_bytes_eq streams_namespace xml_namespace refl e));
+  not_xmlns = other-from_bytes_eq (codes "stream") (codes "xmlns") refl;
+  not_its_name = other-from_bytes_eq streams_namespace xmlns_namespace refl;
+  not_undeclared = λ e. absurd (other-from_bytes_eq streams_namespace [] refl e);
 }
 
 from_said : (h : Header) → value_in (say_all h) [] (codes "from") ≡ h.from
@@ -342,7 +338,7 @@ header_start scope h p =
         inside = assignments (all h) ++ tag_end false;
         space = [];
         bytes_are = header_bytes h;
-        name_is = stream_qualified;
+        name_is = stream_names_qualified.1;
         inside_is = attributes_spelled (all h) (tag_end false) s.bounded;
         space_white = refl;
         distinct = s.apart;
@@ -351,7 +347,7 @@ header_start scope h p =
       may_be_made = All-from_recursion MayDeclare written_scope (may_default, (may_stream, tt));
       prefix = codes "stream";
       name_is = inl (refl, refl);
-      element = inr (differ (codes "stream") [] refl, differ (codes "stream") (codes "xmlns") refl, refl);
+      element = inr (other-from_bytes_eq (codes "stream") [] refl, other-from_bytes_eq (codes "stream") (codes "xmlns") refl, refl);
       others = all_say (written_scope ++ scope) h;
       distinct = (all_told h).apart;
     }
@@ -371,4 +367,4 @@ pub header_spelled : (h : Header) → IsPlainHeader h → SpellsHeader (written_
 header_spelled h p = header_by h p
 
 pub footer_spelled : SpellsFooter written_footer (codes "stream:stream")
-footer_spelled = record { space = []; bytes_are = refl; name_is = stream_qualified; space_white = refl }
+footer_spelled = record { space = []; bytes_are = refl; name_is = stream_names_qualified.1; space_white = refl }

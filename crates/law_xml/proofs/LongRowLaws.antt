@@ -1,11 +1,11 @@
 -- What is too long on bytes is what the state tells as too long.
 use Rattle.std.proofs.Common.{◌≡◌, ◌≢◌, ℕ, ◌<◌, ◌≤◌, ◌^◌, ◌⊎◌, inl, inr, ⊎_elim, Bool, true, false, not, ◌&&◌, ◌||◌, ◌==◌, if◌then◌else◌, List, [], ◌∷◌, ◌++◌, Option, Some, None, codes, length, length-append, refl, sym, ap, subst, ◌∙◌, arith, append_assoc, append-nil}
-use Rattle.std.proofs.lemmas.Bool.{and_from, and_parts, cases_Bool, eqb-true, false≢true, ltb-true, not-true, or_from, or_parts, true≢false}
+use Rattle.std.proofs.lemmas.Bool.{and_from, and_parts, cases_Bool, eqb-true, false≢true, ltb-true, not-true, or_from, or_parts, true≢false, lt-ltb, le-leb, eqb-false, ne_eqb}
 use Rattle.std.proofs.lemmas.Bool.Decides.{nat_tests}
 use Rattle.std.proofs.lemmas.List.Folds.{list_all-append}
 use Rattle.std.specs.List.{list_all}
 use Rattle.std.specs.Option.{is_some}
-use Rattle.std.specs.Prelude.{nat_le, nat_lt}
+use Rattle.std.specs.Prelude.{nat_le}
 use Rattle.xml_names.specs.Scopes.{Scope}
 use Rattle.xml_tokens.specs.Characters.{is_name_start}
 use Rattle.xml_tokens.specs.Tags.{is_empty, is_end}
@@ -27,7 +27,7 @@ use Rattle.law_xml.proofs.ContextStays.{at, held_at, open_front}
 use Rattle.law_xml.proofs.ContextsTold.{context_of}
 use Rattle.law_xml.proofs.HandsTold.{none_told, run_told, token_told}
 use Rattle.law_xml.proofs.OpenLevels.{AreCovered, IsContent, IsContentBefore, Level}
-use Rattle.law_xml.proofs.OpenRowLaws.{markup_context, read_at, text_context}
+use Rattle.law_xml.proofs.OpenRowLaws.{markup_context, read_at, text_context, limits_are}
 use Rattle.law_xml.proofs.PrefixRuns.{long_told, prefix_known}
 use Rattle.law_xml.proofs.ReadSoFar.{Around, Hand, TokenIn, in_force}
 use Rattle.law_xml.proofs.RowsTold.{one_some}
@@ -44,9 +44,8 @@ use Rattle.law_xml.specs.OpenRows.{EndInText}
 use Rattle.law_xml.specs.Prefixes.{IsPrefix}
 use Rattle.law_xml.specs.StreamLimits.{IsStreamWithin}
 use Rattle.law_xml.specs.Streams.{InForce, StreamTo, position_of}
-use Rattle.law_xml.proofs.FaultLaws.{differs as no_test}
 use Rattle.law_xml.proofs.OffsetMarks.{some_none, tails}
-use Rattle.law_xml.proofs.OneHand.{heads}
+use Rattle.law_xml.proofs.OneOffset.{heads}
 use Rattle.xml_framer.proofs.PlainTags.{never as none_shown}
 
 same_offset : (m n : ℕ) → ◌≡◌ {A = Option Fault} (Some (record { at = m; why = why.TooLong })) (Some (record { at = n; why = why.TooLong })) → m ≡ n
@@ -66,7 +65,7 @@ longer (x ∷ xs) b (y ∷ ys) d e le =
     let r = longer xs b ys d (tails x y (xs ++ b) (ys ++ d) e) (omega (arith, le)) in
     let same = heads x y (xs ++ b) (ys ++ d) e in record { more = r.more; front_is = λ i. sym same i ∷ r.front_is i; rest_is = r.rest_is }
 
-same_front : (a b c d : List ℕ) → a ++ b ≡ c ++ d → length a ≡ length c → (a ≡ c) × (b ≡ d)
+pub same_front : (a b c d : List ℕ) → a ++ b ≡ c ++ d → length a ≡ length c → (a ≡ c) × (b ≡ d)
 same_front [] b [] d e n = (refl, e)
 same_front [] b (y ∷ ys) d e n = absurd (omega (arith, n))
 same_front (x ∷ xs) b [] d e n = absurd (omega (arith, n))
@@ -130,19 +129,7 @@ far_parts s b e =
 
 far_from : (s : State) (b : ℕ) → 0 < s.positions.used → s.limits.bytes ≤ s.positions.used → shows_unlimited s b ≡ false → is_too_long s b ≡ true
 unfolding is_too_long
-far_from s b some most shows = and_from _ _ (less s.positions.used some) (and_from _ _ (least s.limits.bytes s.positions.used most) (ap not shows))
-  where
-    less : (n : ℕ) → 0 < n → nat_lt 0 n ≡ true
-    less n h = grind (arith, nat_tests)
-
-    least : (m n : ℕ) → m ≤ n → nat_le m n ≡ true
-    least m n h = grind (arith, nat_tests)
-
-not_equal : (x y : ℕ) → (x == y) ≡ false → x ≢ y
-not_equal x y e is = true≢false (same x y is ∙ e)
-  where
-    same : (x y : ℕ) → x ≡ y → true ≡ (x == y)
-    same x y is = grind (arith, is, nat_tests)
+far_from s b some most shows = and_from _ _ (lt-ltb 0 s.positions.used some) (and_from _ _ (le-leb s.limits.bytes s.positions.used most) (ap not shows))
 
 run_no_limit : (p : Phase) (hand : List ℕ) (b : ℕ) → IsRun hand → HasLimit p (hand ++ b ∷ []) → ⊥
 run_no_limit p [] b plain h = some_none h.second h.rest (sym (tails b 60 [] (h.second ∷ h.rest) h.hand_is))
@@ -178,8 +165,8 @@ module _ (s : State) (b : ℕ) (p : Phase) (phase_is : s.lexical.phase ≡ p) (o
         second = b;
         rest = [];
         hand_is = refl;
-        no_end = not_equal b 47 q.0;
-        no_exclamation = not_equal b 33 r.0;
+        no_end = eqb-false b 47 q.0;
+        no_exclamation = eqb-false b 33 r.0;
         declares = λ is. sym may_is ∙ asked (may_declare s) (subst (λ d. (d == 63 && not (may_declare s)) ≡ false) is r.1);
       }
     where
@@ -190,8 +177,8 @@ module _ (s : State) (b : ℕ) (p : Phase) (phase_is : s.lexical.phase ≡ p) (o
   opening_limited : HasLimit p (60 ∷ [] ++ b ∷ []) → shows_unlimited s b ≡ false
   opening_limited h =
       let is : h.second ≡ b = heads h.second b h.rest [] (sym (tails 60 60 (b ∷ []) (h.second ∷ h.rest) h.hand_is)) in
-      let no_end = no_test b 47 (λ e. h.no_end (is ∙ e)) in
-      let no_exclamation = no_test b 33 (λ e. h.no_exclamation (is ∙ e)) in
+      let no_end = ne_eqb b 47 (λ e. h.no_end (is ∙ e)) in
+      let no_exclamation = ne_eqb b 33 (λ e. h.no_exclamation (is ∙ e)) in
       shows_is ∙ or_from (b == 47) _ no_end (or_from (b == 33) _ no_exclamation (asked (cases_Bool (b == 63))))
     where
       asked : ((b == 63) ≡ true) ⊎ ((b == 63) ≡ false) → (b == 63 && not (may_declare s)) ≡ false
@@ -210,9 +197,6 @@ module _ (limits : Limits) (few_bytes : limits.bytes < 2 ^ 64) (few : limits.att
   known : IsPrefix limits bytes items (part_of s)
   unfolding framed
   known = prefix_known limits bytes few short none
-
-  same_limits : s.limits ≡ limits
-  same_limits = (read_at limits few_bytes few short bytes none).kept.limits_are
 
   one_phase : (now other : InForce) (done : List ℕ) (given said : List Item) (x : StreamTo now done given) (y : StreamTo other done said) → IsStreamWithin limits now done given x → IsStreamWithin limits other done said y → now.phase ≡ other.phase
   one_phase now other done given said x y within also =
@@ -301,12 +285,12 @@ module _ (limits : Limits) (few_bytes : limits.bytes < 2 ^ 64) (few : limits.att
 
       element_hand : IsCountedHand s b p.now.phase p.hand
       element_hand =
-          let few_there = subst (λ (l : Limits). l.bytes < 2 ^ 64) (sym same_limits) few_bytes in
+          let few_there = subst (λ (l : Limits). l.bytes < 2 ^ 64) (sym (limits_are limits few_bytes few short bytes none)) few_bytes in
           let count = a.count few_there in
           let some = count.0 in
           let sum = count.1 in
           let stream = a.stream in
-          let inside = subst (λ l. IsStreamWithin l (in_force phase.Between a.base s.name) a.done items stream.0) same_limits (stream.1 few_there) in
+          let inside = subst (λ l. IsStreamWithin l (in_force phase.Between a.base s.name) a.done items stream.0) (limits_are limits few_bytes few short bytes none) (stream.1 few_there) in
           let le = p.longest (in_force phase.Between a.base s.name) a.done whole items stream.0 a.bytes_are inside in
           let most = used_most in
           let n = ap length p.bytes_are ∙ length-append p.done p.hand in
@@ -324,7 +308,7 @@ module _ (limits : Limits) (few_bytes : limits.bytes < 2 ^ 64) (few : limits.att
 
       token_used : (now : InForce) (position : ℕ) (more : List ℕ) → TokenIn s.limits s.positions.used now items bytes s.token position → s.token ≡ 60 ∷ more → 60 ∷ more ≡ p.hand → (s.positions.used ≡ length p.hand) × (0 < length p.hand)
       token_used now position more h token hand =
-          let few_there = subst (λ (l : Limits). l.bytes < 2 ^ 64) (sym same_limits) few_bytes in
+          let few_there = subst (λ (l : Limits). l.bytes < 2 ^ 64) (sym (limits_are limits few_bytes few short bytes none)) few_bytes in
           let count = h.count few_there in
           let some = count.0 in
           let sum = count.1 in
@@ -422,7 +406,7 @@ module _ (limits : Limits) (few_bytes : limits.bytes < 2 ^ 64) (few : limits.att
           tag (x ∷ xs) token leads some no_end hand used =
               let q = or_parts (x == 33) (x == 63) (not-true (x == 33 || x == 63) leads) in
               let other : (60 == 60 && x == 47) ≡ false = ap is_end (sym token) ∙ no_end in
-              limited_hand x xs hand used (ap is_opening is) (not_equal x 47 (slash (x == 47) other)) (not_equal x 33 q.0) (λ e. absurd (not_equal x 63 q.1 e))
+              limited_hand x xs hand used (ap is_opening is) (eqb-false x 47 (slash (x == 47) other)) (eqb-false x 33 q.0) (λ e. absurd (eqb-false x 63 q.1 e))
 
     kind : (b : ℕ) (o : Option OpenElement) → s.here ≡ o → Hand o s.lexical.mode s s.positions.used items bytes → IsCountedHand s b p.now.phase p.hand ⊎ IsFreeHand s b p.now.phase p.hand
     kind b None is h = none_kind b (ap is_some is) s.lexical.mode refl h
@@ -469,7 +453,7 @@ module _ (limits : Limits) (few_bytes : limits.bytes < 2 ^ 64) (few : limits.att
           let position = part_position told.0 told.1 h.some in
           let both : ◌≡◌ {A = Option Fault} (Some (record { at = at_offset; why = why.TooLong })) (Some (record { at = told.0; why = why.TooLong })) = sym is ∙ ap (λ (u : Turn). u.state.fault) (run_append (turn (from_start limits) []) bytes (b ∷ [])) ∙ told.2 in
           let offset : at_offset ≡ told.0 = same_offset at_offset told.0 both in
-          record { items = items; part = part_of s; prefix = known; full = subst (λ (l : Limits). l.bytes ≤ length known.hand) same_limits (omega (arith, most, used)); limited = h.shows f.2; at_is = offset ∙ position }
+          record { items = items; part = part_of s; prefix = known; full = subst (λ (l : Limits). l.bytes ≤ length known.hand) (limits_are limits few_bytes few short bytes none) (omega (arith, most, used)); limited = h.shows f.2; at_is = offset ∙ position }
 
   pub long_far : (b at_offset : ℕ) → IsLong limits bytes b at_offset → is_too_long s b ≡ true
   long_far b at_offset l = by_kind (kind_there known b)
@@ -487,7 +471,7 @@ module _ (limits : Limits) (few_bytes : limits.bytes < 2 ^ 64) (few : limits.att
           let n = ap length one.1 in
           let used = h.used_is in
           let some = h.some in
-          far_from s b (omega (arith, some, used)) (subst (λ (x : Limits). x.bytes ≤ s.positions.used) (sym same_limits) (omega (arith, full, n, used))) (h.limited limited)
+          far_from s b (omega (arith, some, used)) (subst (λ (x : Limits). x.bytes ≤ s.positions.used) (sym (limits_are limits few_bytes few short bytes none)) (omega (arith, full, n, used))) (h.limited limited)
 
   pub long_decides : (b at_offset : ℕ) → IsLong limits bytes b at_offset → fault_of limits (bytes ++ b ∷ []) ≡ Some (record { at = at_offset; why = why.TooLong })
   unfolding framed

@@ -1,8 +1,7 @@
 -- What is known of the bytes of a token in hand, and that they are a whole token where it ends.
 use Rattle.std.proofs.Common.{◌≡◌, ℕ, ◌+◌, ◌-◌, ◌<◌, ◌≤◌, ⊎_elim, Bool, true, false, not, ◌&&◌, ◌||◌, ◌==◌, eqb, if◌then◌else◌, List, [], ◌∷◌, ◌++◌, Option, Some, None, refl, sym, ap, subst, ◌∙◌, length, length-append, append_assoc, take, drop, arith, get_or}
 use Rattle.std.proofs.Math.Seq.{get_or-append_seam}
-use Rattle.std.proofs.lemmas.Bool.{and_parts, and_right, cases_Bool, cond_both, eqb-true, false≢true, ltb-true, or_parts, true≢false}
-use Rattle.std.proofs.lemmas.Bool.Decides.{nat_tests}
+use Rattle.std.proofs.lemmas.Bool.{and_parts, and_right, cases_Bool, cond_both, eqb-true, false≢true, ltb-true, or_parts, true≢false, or_from}
 use Rattle.std.proofs.lemmas.Grind.{take_at_read}
 use Rattle.std.proofs.lemmas.List.{take-append-drop}
 use Rattle.std.specs.List.{list_all}
@@ -393,12 +392,7 @@ same_end (x ∷ xs) n m b c h e = and_right (m == 2) (b == 62) (no_ascii x xs b 
 section_more : (inside : List ℕ) (b : ℕ) → has_section_end inside ≡ false → (counted_behind 0 inside == 2 && b == 62) ≡ false → has_section_end (inside ++ b ∷ []) ≡ false
 section_more inside b h last =
     let front : ends_after 0 inside ≡ false = sym (section_end_0 inside) ∙ h in
-    section_end_0 (inside ++ b ∷ []) ∙ ends-append 0 inside (b ∷ []) ∙ both (ends_after 0 inside) (counted_behind 0 inside == 2 && b == 62) front last
-  where
-    both : (x y : Bool) → x ≡ false → y ≡ false → (x || (y || false)) ≡ false
-    both true y e f = absurd (true≢false e)
-    both false true e f = absurd (true≢false f)
-    both false false e f = refl
+    section_end_0 (inside ++ b ∷ []) ∙ ends-append 0 inside (b ∷ []) ∙ or_from (ends_after 0 inside) _ front (or_from (counted_behind 0 inside == 2 && b == 62) false last refl)
 
 module _ (s : State) (b : ℕ) (more : List ℕ) (is : s.lexical.mode ≡ mode.Section) (d : SectionIn s.pending s.lexical.brackets more) (c : continues s.pending b ≡ true) where
   section_on : (u : State) → u.lexical.mode ≡ s.lexical.mode → u.pending ≡ s.pending → u.lexical.brackets ≡ brackets_after s.lexical.brackets b → ends_section s b ≡ false → Marks 60 b more u

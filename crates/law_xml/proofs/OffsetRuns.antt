@@ -2,6 +2,7 @@
 use Rattle.std.proofs.Common.{◌≡◌, ◌≢◌, ℕ, ◌<◌, ◌⊎◌, inl, inr, ⊎_elim, Bool, true, false, not, ◌&&◌, ◌==◌, if◌then◌else◌, List, [], ◌∷◌, ◌++◌, length, length-append, Some, None, refl, sym, ap, subst, ◌∙◌, append_assoc, append-nil, arith}
 use Rattle.std.proofs.lemmas.Bool.{and_from, cases_Bool, eqb-true, false≢true, true≢false}
 use Rattle.std.proofs.lemmas.List.Folds.{list_all-append}
+use Rattle.std.proofs.lemmas.Option.{same_Some}
 use Rattle.std.specs.Option.{is_some}
 use Rattle.xml_tokens.specs.Utf8.{continues, held_after}
 use Rattle.law_xml.proofs.CountLaws.{takes}
@@ -296,16 +297,13 @@ module _ (t : Turn) (b : ℕ) (bytes : List ℕ) (h : Known t.state bytes) where
   fault_there : (f : Fault) → s.fault ≡ None → (step t b).state.fault ≡ Some f → f.why ≢ why.TooLong → IsAtToken bytes b f.at
   fault_there f before is other =
       ⊎_elim
-      (λ (far : is_too_long s b ≡ true). absurd (other (ap (λ (g : Fault). g.why) (sym (one_some _ f (sym (long t b before far) ∙ is))))))
+      (λ (far : is_too_long s b ≡ true). absurd (other (ap (λ (g : Fault). g.why) (sym (same_Some _ f (sym (long t b before far) ∙ is))))))
       (λ (near : is_too_long s b ≡ false).
       ⊎_elim (λ (good : continues s.pending b ≡ true). taken_fault f (record { no_fault = before; mode_is = refl; short = near; is_text = good }) is)
       (λ (bad : continues s.pending b ≡ false).
-      here f (token_position s) (ap (λ (g : Fault). g.at) (sym (one_some _ f (sym (broken t b before near bad) ∙ is)))) (at_position (is_text s.lexical.mode) s.lexical.in_run refl refl bad))
+      here f (token_position s) (ap (λ (g : Fault). g.at) (sym (same_Some _ f (sym (broken t b before near bad) ∙ is)))) (at_position (is_text s.lexical.mode) s.lexical.in_run refl refl bad))
       (cases_Bool (continues s.pending b)))
       (cases_Bool (is_too_long s b))
-    where
-      one_some : (f g : Fault) → Some f ≡ Some g → f ≡ g
-      one_some f g e = cc
 
 known_run : (bs : List ℕ) (t : Turn) (bytes : List ℕ) → Known t.state bytes → (run t bs).state.fault ≡ None → Known (run t bs).state (bytes ++ bs)
 known_run [] t bytes h none = subst (Known t.state) (sym (append-nil bytes)) h

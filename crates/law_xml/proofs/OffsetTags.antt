@@ -27,7 +27,6 @@ use Rattle.xml_framer.specs.TagSteps.{added_to, begun, closed, closed_open, elem
 use Rattle.xml_framer.specs.TextSteps.{between, bracket_taken, character_begun, character_taken, ends_section, in_reference, in_section, in_text, inside, is_forbidden, judged_outside, judged_section, judged_text, markup_begun, other_taken, refers, section_taken, text_inside, text_outside}
 use Rattle.xml_trees.specs.Trees.{Elem}
 use Rattle.xml_framer.specs.declared.items.Item.TheVariants as item
-use Rattle.xml_framer.specs.declared.fault.Fault.{Fault}
 use Rattle.xml_framer.specs.declared.fault.Why.TheVariants as why
 use Rattle.xml_framer.specs.declared.states.Mode.{Mode}
 use Rattle.xml_framer.specs.declared.states.Mode.TheVariants as mode
@@ -119,6 +118,15 @@ footer_close t =
 
 -- ---- a byte of a tag
 
+-- what holds of either branch holds of the choice
+pub turn_by : (P : Turn → Type 0) (u v : Turn) (c : Bool) → (c ≡ true → P u) → (c ≡ false → P v) → P (if c then u else v)
+turn_by P u v true x y = x refl
+turn_by P u v false x y = y refl
+
+pub state_by : (P : State → Type 0) (u v : State) (c : Bool) → (c ≡ true → P u) → (c ≡ false → P v) → P (if c then u else v)
+state_by P u v true x y = x refl
+state_by P u v false x y = y refl
+
 -- the tag goes on in this mode, or it ends
 abbrev TagOn : Mode → ℕ → State → State → Type 0
 TagOn m b s u =
@@ -131,12 +139,8 @@ tag_on : (t : Turn) (b : ℕ) → TagOn mode.Tag b t.state (in_tag t b).state
 unfolding in_tag
 tag_on t b =
     let whole = moved t (gathered t.state b) in
-    by_test (λ v. TagOn mode.Tag b t.state v.state) (tag_closes whole) (moved t (tag_gathered t.state b)) (b == 62 && not (is_some t.state.lexical.quote))
+    turn_by (λ v. TagOn mode.Tag b t.state v.state) (tag_closes whole) (moved t (tag_gathered t.state b)) (b == 62 && not (is_some t.state.lexical.quote))
     (λ e. ended_tag mode.Tag b t.state (tag_closes whole).state (closes_close whole)) (λ f e n. (refl, f, refl))
-  where
-    by_test : (P : Turn → Type 0) (u v : Turn) (c : Bool) → (c ≡ true → P u) → (c ≡ false → P v) → P (if c then u else v)
-    by_test P u v true x y = x refl
-    by_test P u v false x y = y refl
 
 quote_same : (q : Option ℕ) (b : ℕ) → (is_some q || is_quote b) ≡ false → q ≡ quote_behind q b
 quote_same None b e = rw e refl
@@ -150,20 +154,12 @@ footer_on t b is =
     let quoted = record s { lexical = record s.lexical { quote = quote_behind s.lexical.quote b; spoiled = true } } in
     let spoiled = record s { lexical = record s.lexical { spoiled = true } } in
     let rest = (if is_white b then s else spoiled) in
-    by_test (λ v. TagOn mode.Footer b s v.state) (footer_closes whole) (moved t (footer_gathered s b)) (b == 62 && not (is_some s.lexical.quote))
+    turn_by (λ v. TagOn mode.Footer b s v.state) (footer_closes whole) (moved t (footer_gathered s b)) (b == 62 && not (is_some s.lexical.quote))
     (λ e. ended_tag mode.Footer b s (footer_closes whole).state (footer_close whole))
-    (λ f. one_of (λ v. TagOn mode.Footer b s v) quoted (if nat_lt (length s.token) (length s.name + 2) then gathered s b else rest) (is_some s.lexical.quote || is_quote b) (λ g e n. (is, f, refl))
+    (λ f. state_by (λ v. TagOn mode.Footer b s v) quoted (if nat_lt (length s.token) (length s.name + 2) then gathered s b else rest) (is_some s.lexical.quote || is_quote b) (λ g e n. (is, f, refl))
     (λ g. let same = quote_same s.lexical.quote b g in
-    one_of (λ v. TagOn mode.Footer b s v) (gathered s b) rest (nat_lt (length s.token) (length s.name + 2)) (λ i e n. (is, f, same))
-    (λ i. one_of (λ v. TagOn mode.Footer b s v) s spoiled (is_white b) (λ j e n. (is, f, same)) (λ j e n. (is, f, same)))))
-  where
-    by_test : (P : Turn → Type 0) (u v : Turn) (c : Bool) → (c ≡ true → P u) → (c ≡ false → P v) → P (if c then u else v)
-    by_test P u v true x y = x refl
-    by_test P u v false x y = y refl
-
-    one_of : (P : State → Type 0) (u v : State) (c : Bool) → (c ≡ true → P u) → (c ≡ false → P v) → P (if c then u else v)
-    one_of P u v true x y = x refl
-    one_of P u v false x y = y refl
+    state_by (λ v. TagOn mode.Footer b s v) (gathered s b) rest (nat_lt (length s.token) (length s.name + 2)) (λ i e n. (is, f, same))
+    (λ i. state_by (λ v. TagOn mode.Footer b s v) s spoiled (is_white b) (λ j e n. (is, f, same)) (λ j e n. (is, f, same)))))
 
 -- ---- what stands after a `<`
 
@@ -246,15 +242,6 @@ SpotOn b u = is_text u.lexical.mode ≡ false → u.fault ≡ None → Spot u.le
 
 slash_spot : (b : ℕ) (q : Option ℕ) → b ≡ 47 → q ≡ None → Spot mode.Footer q (b ∷ [])
 slash_spot b q is n = subst (λ d. Spot mode.Footer q (d ∷ [])) (sym is) (refl, refl, refl, n, refl)
-
--- what holds of either branch holds of the choice
-pub turn_by : (P : Turn → Type 0) (u v : Turn) (c : Bool) → (c ≡ true → P u) → (c ≡ false → P v) → P (if c then u else v)
-turn_by P u v true x y = x refl
-turn_by P u v false x y = y refl
-
-pub state_by : (P : State → Type 0) (u v : State) (c : Bool) → (c ≡ true → P u) → (c ≡ false → P v) → P (if c then u else v)
-state_by P u v true x y = x refl
-state_by P u v false x y = y refl
 
 tag_spot : (t : Turn) (b : ℕ) → t.state.lexical.quote ≡ None → (b == 33) ≡ false → (b == 63) ≡ false → SpotOn b (in_tag t b).state
 tag_spot t b quote no_bang no_question e n =

@@ -1,12 +1,12 @@
 -- The bytes tell what a state has in hand.
-use Rattle.std.proofs.Common.{◌≡◌, ℕ, ⊎_elim, Bool, true, false, if◌then◌else◌, List, [], ◌∷◌, ◌++◌, None, length, refl, sym, ap, subst, ◌∙◌, append_assoc, append-nil}
+use Rattle.std.proofs.Common.{◌≡◌, ℕ, ⊎_elim, Bool, true, false, if◌then◌else◌, List, [], ◌∷◌, ◌++◌, None, length, refl, sym, ap, subst, ◌∙◌, append-nil}
 use Rattle.std.proofs.lemmas.Bool.{cases_Bool, false≢true}
 use Rattle.std.specs.List.{list_all}
 use Rattle.law_xml.proofs.HandsTold.{are_kept, none_held, run_held}
 use Rattle.law_xml.proofs.OffsetMarks.{is_open, tails}
 use Rattle.law_xml.proofs.OffsetRuns.{Known, known_of}
 use Rattle.law_xml.proofs.OffsetTags.{named_there}
-use Rattle.law_xml.proofs.OneOffset.{Hand, before_hand as spread, from_first, hand_marked, hand_no_text, hand_rest, markup_in_hand, one_front, one_run, reference_in_hand, text_rest}
+use Rattle.law_xml.proofs.OneOffset.{Hand, before_hand as spread, from_first, hand_marked, hand_no_text, hand_rest, markup_in_hand, one_front, one_run, reference_in_hand, text_rest, heads}
 use Rattle.law_xml.specs.Hands.{AreKept, IsHolding, IsReading, brackets_last}
 use Rattle.law_xml.specs.Offsets.{AreBefore, AreTokens, IsOpen, IsRun, character_left, first_of, is_no_end, is_reference}
 use Rattle.law_xml.specs.Streams.{position_of}
@@ -14,9 +14,6 @@ use Rattle.xml_framer.specs.Machine.{run}
 use Rattle.xml_framer.specs.Readings.{fault_of, framed}
 use Rattle.xml_framer.specs.States.{State, from_start, is_text, turn}
 use Rattle.xml_framer.specs.declared.limits.Limits.{Limits}
-
-pub heads : (x y : ℕ) (xs ys : List ℕ) → x ∷ xs ≡ y ∷ ys → x ≡ y
-heads x y xs ys e = cc
 
 module _ (s : State) (bytes : List ℕ) (h : Known s bytes) where
   -- the token that the state has

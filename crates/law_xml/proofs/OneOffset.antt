@@ -11,11 +11,8 @@ use Rattle.law_xml.specs.Streams.{position_of}
 use Rattle.law_xml.specs.Texts.{has_section_end}
 use Rattle.law_xml.proofs.OffsetMarks.{some_none, tails}
 
-heads : (x y : ℕ) (xs ys : List ℕ) → x ∷ xs ≡ y ∷ ys → x ≡ y
+pub heads : (x y : ℕ) (xs ys : List ℕ) → x ∷ xs ≡ y ∷ ys → x ≡ y
 heads x y xs ys e = cc
-
-both : (x y : ℕ) (xs ys : List ℕ) → x ≡ y → xs ≡ ys → x ∷ xs ≡ y ∷ ys
-both x y xs ys e f = ap (λ z. z ∷ xs) e ∙ ap (λ l. y ∷ l) f
 
 -- ---- a tag has one first `>` outside quotes
 
@@ -37,7 +34,7 @@ one_tag q (c ∷ cs) (d ∷ ds) x y h k e =
     let r = (and_parts (not (d == 62 && not (is_some q))) (is_open_tag (quote_behind q d) ds) k.0).1 in
     let next : IsClosed (quote_behind q c) ds = subst (λ z. IsClosed (quote_behind q z) ds) (sym same) (r, k.1) in
     let more = one_tag (quote_behind q c) cs ds x y (p, h.1) next (tails c d (cs ++ 62 ∷ x) (ds ++ 62 ∷ y) e) in
-    (both c d cs ds same more.0, more.1)
+    ((λ i. same i ∷ more.0 i), more.1)
 
 tag_ended : (q : Option ℕ) (a x c : List ℕ) → IsClosed q a → is_open_tag q c ≡ true → a ++ 62 ∷ x ≡ c → ⊥
 tag_ended q [] x c h k e = no_greater q x h.1 (subst (λ l. is_open_tag q l ≡ true) (sym e) k)
@@ -54,7 +51,8 @@ one_name [] (d ∷ ds) x y h k e = absurd (false≢true (subst (λ z. is_no_end 
 one_name (c ∷ cs) [] x y h k e = absurd (false≢true (subst (λ z. is_no_end z ≡ true) (heads c 59 (cs ++ 59 ∷ x) y e) (and_parts (is_no_end c) (list_all is_no_end cs) h).0))
 one_name (c ∷ cs) (d ∷ ds) x y h k e =
     let more = one_name cs ds x y (and_parts (is_no_end c) (list_all is_no_end cs) h).1 (and_parts (is_no_end d) (list_all is_no_end ds) k).1 (tails c d (cs ++ 59 ∷ x) (ds ++ 59 ∷ y) e) in
-    (both c d cs ds (heads c d (cs ++ 59 ∷ x) (ds ++ 59 ∷ y) e) more.0, more.1)
+    let same = heads c d (cs ++ 59 ∷ x) (ds ++ 59 ∷ y) e in
+    ((λ i. same i ∷ more.0 i), more.1)
 
 name_ended : (a x c : List ℕ) → list_all is_no_end c ≡ true → a ++ 59 ∷ x ≡ c → ⊥
 name_ended a x c k e = ended a (subst (λ l. list_all is_no_end l ≡ true) (sym e) k)
@@ -80,7 +78,8 @@ one_declaration (c ∷ cs) [] x y p q e = absurd (no_asked c cs y x p (sym e))
 one_declaration (c ∷ cs) (d ∷ ds) x y p q e =
     let more = one_declaration cs ds x y (or_parts (begins_declaration_end (c ∷ cs)) (has_declaration_end cs) p).1 (or_parts (begins_declaration_end (d ∷ ds)) (has_declaration_end ds) q).1
     (tails c d (cs ++ (63 ∷ 62 ∷ x)) (ds ++ (63 ∷ 62 ∷ y)) e) in
-    (both c d cs ds (heads c d (cs ++ (63 ∷ 62 ∷ x)) (ds ++ (63 ∷ 62 ∷ y)) e) more.0, more.1)
+    let same = heads c d (cs ++ (63 ∷ 62 ∷ x)) (ds ++ (63 ∷ 62 ∷ y)) e in
+    ((λ i. same i ∷ more.0 i), more.1)
 
 declaration_ended : (a x c : List ℕ) → has_declaration_end c ≡ false → a ++ (63 ∷ 62 ∷ x) ≡ c → ⊥
 declaration_ended a x c k e = ended a (subst (λ l. has_declaration_end l ≡ false) (sym e) k)
@@ -230,7 +229,8 @@ one_run (c ∷ cs) [] x y h j p q e =
     let first : is_no_markup c ≡ false = subst BeginsMarked (sym e) q in absurd (true≢false (sym (and_parts (is_no_markup c) (list_all is_no_markup cs) h).0 ∙ first))
 one_run (c ∷ cs) (d ∷ ds) x y h j p q e =
     let more = one_run cs ds x y (and_parts (is_no_markup c) (list_all is_no_markup cs) h).1 (and_parts (is_no_markup d) (list_all is_no_markup ds) j).1 p q (tails c d (cs ++ x) (ds ++ y) e) in
-    (both c d cs ds (heads c d (cs ++ x) (ds ++ y) e) more.0, more.1)
+    let same = heads c d (cs ++ x) (ds ++ y) e in
+    ((λ i. same i ∷ more.0 i), more.1)
 
 -- ---- tokens from the first on
 

@@ -7,7 +7,7 @@ use Rattle.std.specs.List.{AllByRecursion}
 use Rattle.xml_tokens.specs.Spelling.{spelled_value}
 use Rattle.xml_tokens.specs.Tags as tokens
 use Rattle.xml_tokens.specs.Characters.{is_name_start}
-use Rattle.xml_tokens.specs.Tags.{IsEndTag, IsTag, end_tag, start_tag}
+use Rattle.xml_tokens.specs.Tags.{end_tag, start_tag}
 use Rattle.xml_names.proofs.StartLaws as laws
 use Rattle.xml_names.specs.Grammar.{IsShort, IsStart}
 use Rattle.xml_names.specs.Headers.{header_of}

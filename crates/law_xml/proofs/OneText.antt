@@ -1,14 +1,14 @@
 -- Of the bytes in front of a tag, one list alone is a text, and it says one thing.
-use Rattle.std.proofs.Common.{◌≡◌, ℕ, ◌⊎◌, inl, inr, Bool, true, false, cond, eqb, not, ◌||◌, List, [], ◌∷◌, ◌++◌, codes, encode_utf8, refl, sym, ap, subst, ◌∙◌, arith, ⊎_elim, append_assoc}
+use Rattle.std.proofs.Common.{◌≡◌, ℕ, Bool, true, false, eqb, not, ◌||◌, List, [], ◌∷◌, ◌++◌, codes, encode_utf8, refl, sym, ap, subst, ◌∙◌, arith, append_assoc}
 use Rattle.std.proofs.lemmas.Bool.{and_parts, and_from, or_parts, false≢true, not_from_false}
 use Rattle.std.proofs.lemmas.Bool.Decides.{nat_tests}
 use Rattle.std.proofs.lemmas.List.{append_cancel_left}
 use Rattle.std.specs.List.{list_all}
 use Rattle.xml_tokens.proofs.Going.{references_go_on}
 use Rattle.xml_tokens.proofs.Splits.{following-append, front-append, stops}
-use Rattle.xml_tokens.specs.Characters.{is_digit, is_name_byte, is_name_start}
+use Rattle.xml_tokens.specs.Characters.{is_digit}
 use Rattle.xml_tokens.specs.Fronts.{following, front}
-use Rattle.xml_tokens.specs.References.{each_goes_on, is_hex_digit, number_goes_on, reference_goes_on, referred}
+use Rattle.xml_tokens.specs.References.{each_goes_on, is_hex_digit, reference_goes_on, referred}
 use Rattle.xml_tokens.specs.declared.references.Reference.TheVariants.{Character, Malformed}
 use Rattle.law_xml.specs.Texts.{IsCharacterData, IsText, SpellsText, begins_section_end, data_alone, has_section_end, with_reference, with_section}
 use Rattle.xml_tokens.specs.Lines.{line_ends}
@@ -50,10 +50,6 @@ one_section (c ∷ cs) (d ∷ ds) x y p q e =
     (λ i. head i ∷ more.0 i, more.1)
 
 -- ---- a reference's name runs up to the first `;`
-
-chosen : {X : Type 0} (b : Bool) (x y z : X) → cond b x y ≡ z → ((b ≡ true) × (x ≡ z)) ⊎ ((b ≡ false) × (y ≡ z))
-chosen true x y z e = inl (refl, e)
-chosen false x y z e = inr (refl, e)
 
 digit_unended : (b : ℕ) → is_digit b ≡ true → eqb b 59 ≡ false
 digit_unended b h = grind (arith, nat_tests)

@@ -11,23 +11,23 @@ use Rattle.xml_names.specs.Ends.{end_of}
 use Rattle.xml_framer.specs.Machine.{is_too_long, step}
 use Rattle.xml_framer.specs.Readings.{fault_of, framed}
 use Rattle.xml_framer.specs.States.{OpenElement, State, Turn, gathered, is_text}
-use Rattle.xml_framer.specs.TagSteps.{ends_stream, is_between, is_name_of}
+use Rattle.xml_framer.specs.TagSteps.{ends_stream, is_name_of}
 use Rattle.xml_framer.specs.declared.fault.Why.{Why}
 use Rattle.xml_framer.specs.declared.items.Item.{Item}
 use Rattle.xml_framer.specs.declared.limits.Limits.{Limits}
 use Rattle.xml_framer.specs.declared.states.Mode.{Mode}
 use Rattle.xml_framer.specs.declared.states.Mode.TheVariants as mode
-use Rattle.xml_framer.specs.declared.states.Phase.{Phase}
 use Rattle.xml_framer.specs.declared.states.Phase.TheVariants as phase
-use Rattle.law_xml.proofs.ByteRowLaws.{pending_is, sixty, thirty, unbroken}
+use Rattle.law_xml.proofs.ByteRowLaws.{pending_is, thirty, unbroken}
 use Rattle.law_xml.proofs.ContextRuns.{context_is}
 use Rattle.law_xml.proofs.ContextStays.{at, at_more, markup_along, markup_same, none_before, text_same}
 use Rattle.law_xml.proofs.ContextsTold.{context_in, context_of}
 use Rattle.law_xml.proofs.FooterHands.{IsFooter, footer_begins, footer_more}
-use Rattle.law_xml.proofs.OneHand.{heads, markup_held, text_read}
+use Rattle.law_xml.proofs.OneHand.{markup_held, text_read}
+use Rattle.law_xml.proofs.OneOffset.{heads}
 use Rattle.law_xml.proofs.PrefixRuns.{known_first}
 use Rattle.law_xml.proofs.ReadCharacters.{ascii_alone}
-use Rattle.law_xml.proofs.ReadOutside.{footer_tag}
+use Rattle.law_xml.proofs.ReadOutside.{footer_tag, is_phase}
 use Rattle.law_xml.proofs.ReadSoFar.{BeginsNoEnd, Hand, Read}
 use Rattle.law_xml.proofs.RowsDecide.{rows_of_bytes}
 use Rattle.law_xml.proofs.TagByteRows.{admits_is, from_outside, inside, outside, to_whole}
@@ -86,14 +86,8 @@ bang_kind mode.Text s no_text e k = absurd (false≢true (sym no_text))
 bang_kind mode.Reference s no_text e k = absurd (thirty e)
 bang_kind mode.Opening s no_text e k = absurd (some_none 33 (codes "[CDATA") k.1)
 bang_kind mode.Bang s no_text e k = (refl, k.0)
-bang_kind mode.Question s no_text e k = absurd (apart (heads 63 33 (codes "xml") (codes "[CDATA" ++ k.1) k.2))
-  where
-    apart : ◌≡◌ {A = ℕ} 63 33 → ⊥
-    apart e = omega (arith, e)
-bang_kind mode.Declaration s no_text e k = absurd (apart (heads 33 63 (codes "[CDATA") (codes "xml" ++ k.1 ∷ k.2) k.3))
-  where
-    apart : ◌≡◌ {A = ℕ} 33 63 → ⊥
-    apart e = omega (arith, e)
+bang_kind mode.Question s no_text e k = absurd (let same = heads 63 33 (codes "xml") (codes "[CDATA" ++ k.1) k.2 in omega (arith, same))
+bang_kind mode.Declaration s no_text e k = absurd (let same = heads 33 63 (codes "[CDATA") (codes "xml" ++ k.1 ∷ k.2) k.3 in omega (arith, same))
 bang_kind mode.Tag s no_text e k = absurd (false≢true k.1)
 bang_kind mode.Footer s no_text e k = absurd (false≢true k.0)
 bang_kind mode.Section s no_text e k = absurd (longer (ap length k.1) (length-append (codes "![CDATA[") k.0))
@@ -106,14 +100,8 @@ section_kind mode.Text s inside no_text e k = absurd (false≢true (sym no_text)
 section_kind mode.Reference s inside no_text e k = absurd (thirty e)
 section_kind mode.Opening s inside no_text e k = absurd (some_none 33 (codes "[CDATA[" ++ inside) k.1)
 section_kind mode.Bang s inside no_text e k = let short = k.4 in let n = length-append (codes "![CDATA[") inside in absurd (omega (arith, short, n))
-section_kind mode.Question s inside no_text e k = absurd (apart (heads 63 33 (codes "xml") ((codes "[CDATA[" ++ inside) ++ k.1) k.2))
-  where
-    apart : ◌≡◌ {A = ℕ} 63 33 → ⊥
-    apart e = omega (arith, e)
-section_kind mode.Declaration s inside no_text e k = absurd (apart (heads 33 63 (codes "[CDATA[" ++ inside) (codes "xml" ++ k.1 ∷ k.2) k.3))
-  where
-    apart : ◌≡◌ {A = ℕ} 33 63 → ⊥
-    apart e = omega (arith, e)
+section_kind mode.Question s inside no_text e k = absurd (let same = heads 63 33 (codes "xml") ((codes "[CDATA[" ++ inside) ++ k.1) k.2 in omega (arith, same))
+section_kind mode.Declaration s inside no_text e k = absurd (let same = heads 33 63 (codes "[CDATA[" ++ inside) (codes "xml" ++ k.1 ∷ k.2) k.3 in omega (arith, same))
 section_kind mode.Tag s inside no_text e k = absurd (false≢true k.1)
 section_kind mode.Footer s inside no_text e k = absurd (false≢true k.0)
 section_kind mode.Section s inside no_text e k = refl
@@ -272,13 +260,6 @@ module _ (limits : Limits) (few_bytes : limits.bytes < 2 ^ 64) (few : limits.att
           markup_along limits before (λ p v. IsFooter v.state (60 ∷ p)) (λ p d v k ok goes_on. footer_more v d (60 ∷ p) k ok goes_on) e.ahead (47 ∷ []) rest bounded open_all start in
           subst (λ l. IsFooter (at limits l).state (60 ∷ more)) (sym all) (subst (λ l. IsFooter (at limits (before ++ 60 ∷ ((47 ∷ []) ++ rest))).state (60 ∷ l)) (sym r.1) last)
 
-      between_is : (p : Phase) → is_between p ≡ true → p ≡ phase.Between
-      between_is phase.First e = absurd (false≢true e)
-      between_is phase.FirstDeclared e = absurd (false≢true e)
-      between_is phase.Between e = refl
-      between_is phase.Declared e = absurd (false≢true e)
-      between_is phase.Ended e = absurd (false≢true e)
-
       end_named : (token name : List ℕ) (r : Option (List ℕ)) → end_of token ≡ r → is_name_of r name ≡ true → IsEndTag token name
       end_named token name None is e = absurd (false≢true e)
       end_named token name (Some n) is e = subst (IsEndTag token) ((bytes_eq-Decides n name).0 e) ((end_tags_are_read token n).0 is)
@@ -291,7 +272,7 @@ module _ (limits : Limits) (few_bytes : limits.bytes < 2 ^ 64) (few : limits.att
           let hand = f.1 (not-true s.lexical.spoiled p.0) in
           let tag = footer_tag s.token hand.white s.name b is hand.is_white (end_named (s.token ++ b ∷ []) s.name (end_of (s.token ++ b ∷ [])) refl q.1) in
           let whole : s.token ++ (hand.white ++ b ∷ []) ≡ 60 ∷ (more ++ b ∷ []) = sym (append_assoc s.token hand.white (b ∷ [])) ∙ ap (λ l. l ++ b ∷ []) (sym hand.hand_is) in
-          (between_is s.lexical.phase q.0, subst (λ l. IsEndTag l s.name) whole tag)
+          (is_phase s.lexical.phase q.0, subst (λ l. IsEndTag l s.name) whole tag)
 
       -- ---- each row decides
 

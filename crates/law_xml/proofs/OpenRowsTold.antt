@@ -9,7 +9,6 @@ use Rattle.xml_tokens.specs.Utf8.{continues, ends_character, ends_forbidden_char
 use Rattle.xml_framer.specs.Machine.{is_too_long, run}
 use Rattle.xml_framer.specs.Readings.{fault_of, framed}
 use Rattle.xml_framer.specs.States.{State, Turn, from_start, is_text, turn}
-use Rattle.xml_framer.specs.declared.fault.Fault.{Fault}
 use Rattle.xml_framer.specs.declared.fault.Why.{Why}
 use Rattle.xml_framer.specs.declared.fault.Why.TheVariants as why
 use Rattle.xml_framer.specs.declared.items.Item.TheVariants as item
@@ -37,7 +36,7 @@ use Rattle.law_xml.specs.Rows.{DeclarationRow, FooterRow, QuestionRow, Reference
 use Rattle.law_xml.specs.Standing.{StandsOutside}
 use Rattle.law_xml.specs.Streams.{position_of}
 use Rattle.law_xml.proofs.OffsetSteps.{none_some as some_fault}
-use Rattle.law_xml.proofs.OneHand.{heads}
+use Rattle.law_xml.proofs.OneOffset.{heads}
 
 encoding_short : why.Encoding ≢ why.TooLong
 encoding_short e = cc

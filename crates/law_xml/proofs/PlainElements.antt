@@ -9,11 +9,10 @@ use Rattle.std.specs.List.{All, AllByRecursion, AllZip}
 use Rattle.std.specs.Ordering.{match_ordering}
 use Rattle.std.specs.Str.{chars, is_utf8}
 use lib.Utf8.{encode}
-use Rattle.std.proofs.lemmas.Str.{IsUtf8-from_is_utf8}
 use Rattle.xml_tokens.specs.Characters.{are_characters}
 use Rattle.xml_tokens.specs.Lines.{IsCharacters}
 use Rattle.xml_tokens.specs.Tags as tokens
-use Rattle.xml_tokens.specs.Tags.{AreAttributes, IsTag, has_parts, is_qualified, start_tag, tag_end}
+use Rattle.xml_tokens.specs.Tags.{AreAttributes, has_parts, is_qualified, tag_end}
 use Rattle.xml_names.specs.Declarations.{MayDeclare, bindings_of, declared_prefix, others_of, unless_binding, with_binding}
 use Rattle.xml_names.specs.Grammar.{IsElementIn, IsExpanded, IsStart}
 use Rattle.xml_names.specs.Headers.{header_of, value_in}
@@ -39,7 +38,7 @@ use Rattle.law_xml.proofs.CanonLaws.{canon_spelled, declares_empty as declares}
 use Rattle.law_xml.proofs.HeaderLaws.{header_spelled, plain_literal as characters_literal}
 use Rattle.law_xml.proofs.SaidCharacters.{local_is_plain, text_says_characters, value_says_characters}
 use Rattle.law_xml.proofs.SpelledAttributes.{Bounded}
-use Rattle.law_xml.proofs.SpelledNames.{differ}
+use Rattle.base_lemmas.proofs.Bytes.{other-from_bytes_eq}
 use Rattle.law_xml.proofs.SpelledTrees.{begun_is, spelled_tree}
 
 -- ---- lists
@@ -96,9 +95,9 @@ xml_plain = record {
   characters = xml_characters;
   may = record {
     xml_alone = (λ e. refl, λ e. refl);
-    not_xmlns = differ (codes "xml") (codes "xmlns") refl;
-    not_its_name = differ xml_namespace xmlns_namespace refl;
-    not_undeclared = λ e. absurd (differ xml_namespace [] refl e);
+    not_xmlns = other-from_bytes_eq (codes "xml") (codes "xmlns") refl;
+    not_its_name = other-from_bytes_eq xml_namespace xmlns_namespace refl;
+    not_undeclared = λ e. absurd (other-from_bytes_eq xml_namespace [] refl e);
   };
 }
 
@@ -144,7 +143,7 @@ expanded_plain scope a e s h (prefix, named, within, says) =
       ns = subst IsCharacters (sym none.1) no_characters;
       name = plain_name;
       value = value;
-      not_xmlns = λ is. differ [] xmlns_namespace refl (sym none.1 ∙ is);
+      not_xmlns = λ is. other-from_bytes_eq [] xmlns_namespace refl (sym none.1 ∙ is);
       no_declaration = λ is. no_declaration a e.name h (subst (λ p. IsName a.name p e.name) none.0 named);
     })
     (λ (some : (prefix ≢ []) × (bound scope prefix ≡ Some e.ns)).
@@ -199,7 +198,7 @@ plain_name scope prefix ns name s p within =
     (λ (none : (prefix ≡ []) × (ns ≡ unwrap_or (bound scope []) [])).
     ⊎_elim
     (λ (is : bound scope [] ≡ Some ns). bound_name (ap (bound scope) none.0 ∙ is))
-    (λ (is : ns ≡ []). record { characters = subst IsCharacters (sym is) no_characters; name_is = p; not_xmlns = λ e. differ [] xmlns_namespace refl (sym is ∙ e) })
+    (λ (is : ns ≡ []). record { characters = subst IsCharacters (sym is) no_characters; name_is = p; not_xmlns = λ e. other-from_bytes_eq [] xmlns_namespace refl (sym is ∙ e) })
     (default_is (bound scope []) ns none.1))
     (λ (some : (prefix ≢ []) × (prefix ≢ codes "xmlns") × (bound scope prefix ≡ Some ns)). bound_name some.2)
     within
@@ -222,11 +221,11 @@ begun_plain : (scope : Scope) (t : Tag) (kids : Nodes) (e : Elem) → IsPlainTag
 begun_plain scope t kids e h begun inside =
     subst IsPlainElement (sym (begun_is t kids e begun)) (h.name, sorted_each IsPlainAttribute (map attribute_of t.attributes) h.attributes, inside)
 
-text_plain : (says : List ℕ) (more : Nodes) → IsCharacters says → ArePlainNodes more → ArePlainNodes (joined (text_node says) more)
+pub text_plain : (says : List ℕ) (more : Nodes) → IsCharacters says → ArePlainNodes more → ArePlainNodes (joined (text_node says) more)
 text_plain [] more h k = k
 text_plain (c ∷ cs) more h k = (h, k)
 
-only_text_plain : (says : List ℕ) → IsCharacters says → ArePlainNodes (text_node says)
+pub only_text_plain : (says : List ℕ) → IsCharacters says → ArePlainNodes (text_node says)
 only_text_plain [] h = tt
 only_text_plain (c ∷ cs) h = (h, tt)
 

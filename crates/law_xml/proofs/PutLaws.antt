@@ -1,5 +1,5 @@
 -- What an end puts enters as that item, a header with the declaration before it.
-use Rattle.std.proofs.Common.{◌≡◌, ℕ, ◌<◌, ◌≤◌, ◌^◌, true, false, not, ◌&&◌, List, [], ◌++◌, Option, None, codes, length, refl, sym, ap, subst, ◌∙◌, inl, arith}
+use Rattle.std.proofs.Common.{◌≡◌, ℕ, ◌<◌, ◌≤◌, ◌^◌, true, false, List, [], ◌++◌, codes, length, refl, sym, ap, subst, ◌∙◌, inl, arith}
 use Rattle.std.specs.Option.{is_some}
 use Rattle.xml_tokens.specs.Declarations.{declaration_of, has_other, is_good, is_utf8_label}
 use Rattle.xml_tokens.specs.Tags.{is_qualified, spelled_at}
@@ -11,7 +11,7 @@ use Rattle.xml_names.specs.Scopes.{Scope}
 use Rattle.xml_names.specs.declared.headers.Header.{Header}
 use Rattle.xml_framer.specs.Machine.{run}
 use Rattle.xml_framer.specs.MarkupSteps.{declared_phase}
-use Rattle.xml_framer.specs.States.{OpenElement, State, admits_declaration, from_start, turn}
+use Rattle.xml_framer.specs.States.{State, admits_declaration, from_start, turn}
 use Rattle.xml_framer.specs.TagSteps.{scope_in}
 use Rattle.xml_framer.specs.declared.items.Item.{Item}
 use Rattle.xml_framer.specs.declared.items.Item.TheVariants as item
@@ -25,7 +25,6 @@ use Rattle.law_xml.specs.Plain.{IsPlainHeader}
 use Rattle.law_xml.specs.Spells.{as_written, written_scope}
 use Rattle.law_xml.specs.Standing.{Gives, StandsOutside}
 use Rattle.law_xml.proofs.DeclarationRuns.{HasDeclared, declaration_run}
-use Rattle.law_xml.proofs.Quiet.{IsQuiet}
 use Rattle.law_xml.proofs.WrittenFits.{written_element_is_read}
 use Rattle.law_xml.proofs.WrittenHeaders.{declared_header_is_read, first_declared_header_is_read, footer_is_read}
 use Rattle.net_pipes.specs.Pipes.{Pipe}

@@ -18,7 +18,7 @@ use Rattle.law_xml.specs.Puts.{OutFits, StandsAt, phase_behind, read_out}
 -- ---- pipes
 
 -- what is carried is told by the bytes and the end mark
-same_carries : (s : State) (part : List ℕ) (p q : Pipe) (items : List Item) (t : State) → p.bytes ≡ q.bytes → p.ended ≡ q.ended → Carries s part p items t → Carries s part q items t
+pub same_carries : (s : State) (part : List ℕ) (p q : Pipe) (items : List Item) (t : State) → p.bytes ≡ q.bytes → p.ended ≡ q.ended → Carries s part p items t → Carries s part q items t
 same_carries s part p q items t bytes ended c = record {
   no_fault = c.no_fault;
   none_given = c.none_given;
@@ -33,7 +33,7 @@ stays_open p more open_still = rw open_still refl
 
 -- ---- where the framer stands behind an item
 
-stands_after : (i : ItemOut) (t : State) → StandsOutside t (phase_behind i) written_scope (codes "stream:stream") → StandsAt t (phase_behind i)
+pub stands_after : (i : ItemOut) (t : State) → StandsOutside t (phase_behind i) written_scope (codes "stream:stream") → StandsAt t (phase_behind i)
 stands_after (Opening h) t at = at
 stands_after (Whole e) t at = at
 stands_after Closing t at = at

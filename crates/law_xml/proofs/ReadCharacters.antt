@@ -7,7 +7,7 @@ use Rattle.std.specs.List.{list_all}
 use Rattle.std.specs.Option.{is_some, option_and_then}
 use Rattle.xml_tokens.proofs.Utf8Runs.{after_IsPending, nothing_is, runs_are_text}
 use Rattle.xml_tokens.specs.Characters.{are_characters, are_characters_after, ends_forbidden, is_control}
-use Rattle.xml_tokens.specs.Utf8.{IsPending, continues, ends_character, ends_forbidden_character, held_after, is_lead, is_nothing, is_second, is_tail, utf8_next, utf8_run}
+use Rattle.xml_tokens.specs.Utf8.{IsPending, continues, ends_character, ends_forbidden_character, held_after, is_lead, is_second, is_tail, utf8_next, utf8_run}
 use Rattle.xml_tokens.specs.Lines.{IsCharacters}
 use Rattle.law_xml.proofs.SpelledTexts.{none_some, one_some}
 

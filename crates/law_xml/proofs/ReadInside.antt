@@ -5,7 +5,7 @@ use Rattle.std.proofs.lemmas.Slice.Eq.{bytes_eq-Decides}
 use Rattle.std.specs.Option.{is_some}
 use Rattle.xml_tokens.specs.References.{reference_goes_on, referred}
 use Rattle.xml_tokens.specs.Tags as tokens
-use Rattle.xml_tokens.specs.Tags.{IsEndTag, end_tag, is_end}
+use Rattle.xml_tokens.specs.Tags.{IsEndTag, is_end}
 use Rattle.xml_tokens.specs.Utf8.{continues, ends_character, held_after}
 use Rattle.xml_tokens.specs.declared.references.Reference.{Reference}
 use Rattle.xml_tokens.specs.declared.references.Reference.TheVariants as reference
@@ -33,7 +33,6 @@ use Rattle.law_xml.specs.Texts.{IsText}
 use Rattle.xml_framer.specs.TextSteps.{bracket_taken, character_taken, ends_section, in_reference, in_section, in_text, inside, is_forbidden, judged_section, judged_text, markup_begun, other_taken, refers, section_taken, text_inside}
 use Rattle.xml_trees.specs.Tidied.{tidied}
 use Rattle.xml_trees.specs.Trees.{Elem, element, Nodes, no_nodes, child, name_of, namespace_of, with_nodes}
-use Rattle.xml_framer.specs.declared.fault.Fault.{Fault}
 use Rattle.xml_framer.specs.declared.fault.Why.{Why}
 use Rattle.xml_framer.specs.declared.fault.Why.TheVariants as why
 use Rattle.xml_framer.specs.declared.items.Item.{Item}

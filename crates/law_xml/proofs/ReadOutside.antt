@@ -39,7 +39,6 @@ use Rattle.xml_framer.specs.declared.limits.Limits.{Limits}
 use Rattle.law_xml.specs.Streams.{InForce, IsDeclared, SpellsEmptyHeaderIn, SpellsHeaderIn, declared, ended, headed, headed_and_ended, white_space, with_element}
 use Rattle.xml_framer.specs.TagSteps.{begun, element_from, ends_stream, footer_closes, footer_gathered, header_items, header_tag, heads, in_footer, in_opening, in_tag, is_between, is_header, is_name_of, is_too_deep, largest_limits, leaf, level, misplaced, phase_behind, says_stream, scope_in, starts, tag_anew, tag_closes, tag_gathered, tag_here, tag_in, tag_limits, tag_outside, unlimited}
 use Rattle.xml_framer.specs.TextSteps.{between, character_begun, in_text, judged_outside, markup_begun, text_outside}
-use Rattle.xml_framer.specs.declared.fault.Fault.{Fault}
 use Rattle.xml_framer.specs.declared.fault.Why.{Why}
 use Rattle.xml_framer.specs.declared.fault.Why.TheVariants as why
 use Rattle.xml_framer.specs.declared.items.Item.{Item}
@@ -49,6 +48,7 @@ use Rattle.xml_framer.specs.declared.states.Mode.TheVariants as mode
 use Rattle.xml_framer.specs.declared.states.Phase.{Phase}
 use Rattle.xml_framer.specs.declared.states.Phase.TheVariants as phase
 use Rattle.law_xml.proofs.OffsetSteps.{none_some as no_fault}
+use Rattle.std.proofs.Math.Bool.{and-true}
 
 pub grown_some : (xs : List ℕ) (b : ℕ) → xs ++ b ∷ [] ≡ [] → ⊥
 grown_some [] b e = absurd cc
@@ -74,7 +74,7 @@ is_declared phase.Between e = inr (refl, refl)
 is_declared phase.Declared e = absurd (false≢true e)
 is_declared phase.Ended e = absurd (false≢true e)
 
-is_phase : (p : Phase) → is_between p ≡ true → p ≡ phase.Between
+pub is_phase : (p : Phase) → is_between p ≡ true → p ≡ phase.Between
 is_phase phase.First e = absurd (false≢true e)
 is_phase phase.FirstDeclared e = absurd (false≢true e)
 is_phase phase.Between e = refl
@@ -129,11 +129,7 @@ begins_more (x ∷ []) b h = absurd (omega (arith, h.0))
 begins_more (x ∷ y ∷ rest) b h = (omega arith, h.1)
 
 begins_with : (token : List ℕ) (b : ℕ) → token ≡ 60 ∷ [] → (b == 47 && true) ≡ false → BeginsNoEnd (token ++ b ∷ [])
-begins_with token b is other = subst (λ t. BeginsNoEnd (t ++ b ∷ [])) (sym is) (omega arith, slash (b == 47) other)
-  where
-    slash : (x : Bool) → (x && true) ≡ false → x ≡ false
-    slash true h = absurd (true≢false h)
-    slash false h = refl
+begins_with token b is other = subst (λ t. BeginsNoEnd (t ++ b ∷ [])) (sym is) (omega arith, sym (and-true (b == 47)) ∙ other)
 
 -- a state outside elements
 abbrev pub outer : State → Mode → State
@@ -520,11 +516,7 @@ module _ (given : Limits) (s : State) (items : List Item) (b : ℕ) (bytes : Lis
   asks e f g = let no_slash : (b == 47) ≡ false = subst (λ d. (d == 47) ≡ false) (sym (eqb-true b 63 f)) refl in rw (no_slash, e, f, g) refl
 
   begins_tag : (b == 33) ≡ false → (b == 63) ≡ false → (b == 47 && true) ≡ false → shows_unlimited (outer s mode.Opening) b ≡ false
-  begins_tag e f g = rw (slash (b == 47) g, e, f) refl
-    where
-      slash : (x : Bool) → (x && true) ≡ false → x ≡ false
-      slash true h = absurd (true≢false h)
-      slash false h = refl
+  begins_tag e f g = rw (sym (and-true (b == 47)) ∙ g, e, f) refl
 
   outside_opening : (s.limits.bytes < 2 ^ 64 → 0 < used → shows_unlimited (outer s mode.Opening) b ≡ false → (used + 1 ≤ s.limits.bytes) × (s.positions.used ≡ used + 1)) → Outside mode.Opening (outer s mode.Opening) used items bytes → After given b bytes (in_opening (turn (outer s mode.Opening) items) b)
   unfolding in_opening

@@ -1,5 +1,5 @@
 -- What is read is spelled so: each byte keeps what is known of a stream.
-use Rattle.std.proofs.Common.{◌≡◌, ℕ, ◌+◌, ◌<◌, ◌≤◌, ◌^◌, Bool, true, false, not, ◌&&◌, ◌||◌, ◌==◌, arith, if◌then◌else◌, List, [], ◌∷◌, ◌++◌, Option, Some, None, refl, sym, ap, subst, ◌∙◌, append_assoc, append-nil}
+use Rattle.std.proofs.Common.{◌≡◌, ℕ, ◌+◌, ◌<◌, ◌≤◌, ◌^◌, Bool, true, false, not, ◌||◌, ◌==◌, arith, if◌then◌else◌, List, [], ◌∷◌, ◌++◌, Option, Some, None, refl, sym, ap, subst, ◌∙◌, append_assoc, append-nil}
 use Rattle.std.proofs.lemmas.Bool.{cond_both, not-false, or_parts, true≢false}
 use Rattle.std.proofs.lemmas.Bool.Decides.{nat_tests}
 use Rattle.std.specs.Option.{is_some}
@@ -24,6 +24,7 @@ use Rattle.xml_framer.specs.declared.states.Mode.TheVariants as mode
 use Rattle.xml_framer.specs.declared.states.Phase.TheVariants as phase
 use Rattle.law_xml.proofs.OffsetSteps.{none_some as no_fault}
 use Rattle.xml_framer.proofs.PlainTags.{never as none_shown}
+use Rattle.std.proofs.Math.Bool.{and-true}
 
 -- a state of which this element and this token are in hand
 abbrev with_hand : State → Option OpenElement → Mode → State
@@ -49,14 +50,10 @@ has_room : (s : State) (b : ℕ) → is_too_long s b ≡ false → s.limits.byte
 unfolding is_too_long
 has_room s b near few p limited =
     let some = some_used s.positions.used p in
-    let less = below s.limits.bytes s.positions.used (with_true (nat_le s.limits.bytes s.positions.used) (rw (some.0, limited) at near)) in
+    let less = below s.limits.bytes s.positions.used (sym (and-true (nat_le s.limits.bytes s.positions.used)) ∙ rw (some.0, limited) at near) in
     let next : next_position s.positions.used ≡ s.positions.used + 1 = omega (arith, few, less) in
     let is : (counted s).positions.used ≡ next_position s.positions.used = rw some.1 refl in
     (omega (arith, less), is ∙ next)
-  where
-    with_true : (x : Bool) → (x && true) ≡ false → x ≡ false
-    with_true true e = absurd (true≢false e)
-    with_true false e = refl
 
 failed : (given : Limits) (t : Turn) (at : ℕ) (w : Why) (b : ℕ) (bytes : List ℕ) → Explained given (moved t (fails t.state at w)) (bytes ++ b ∷ [])
 failed given t at w b bytes none = absurd (no_fault (record { at = at; why = w }) none)

@@ -10,7 +10,6 @@ use Rattle.xml_tokens.specs.References.{are_digits, each_goes_on, ends_forbidden
 use Rattle.xml_tokens.specs.declared.references.Reference.{Reference}
 use Rattle.xml_tokens.specs.declared.references.Reference.TheVariants as reference
 use Rattle.law_xml.specs.ReferenceParts.{IsNumberPart, IsReferencePart, decimal, hexadecimal, sharp, sharp_x}
-use Rattle.law_xml.proofs.ReadOutside.{grown_some}
 
 unknown_well : (r : Reference) → r ≡ reference.Unknown → r ≢ reference.Malformed
 unknown_well r e f = let g : reference.Unknown ≡ reference.Malformed = sym e ∙ f in cc

@@ -1,18 +1,17 @@
 -- What a rest gives: nothing, and no fault.
-use Rattle.std.proofs.Common.{◌≡◌, ℕ, zero, suc, ◌+◌, ◌<◌, ◌≤◌, ⊎_elim, inl, inr, Bool, true, false, true≢false, List, [], ◌∷◌, ◌++◌, Option, Some, None, length, take, drop, refl, sym, ap, subst, ◌∙◌, arith, append_assoc, length-append, ◌-◌, leb}
+use Rattle.std.proofs.Common.{◌≡◌, ℕ, zero, suc, ◌+◌, ◌<◌, ◌≤◌, ⊎_elim, inl, inr, Bool, true, false, List, [], ◌∷◌, ◌++◌, None, length, take, drop, refl, sym, ap, subst, ◌∙◌, arith, append_assoc, length-append, ◌-◌, leb}
 use Rattle.std.proofs.Math.Seq.{take-append-add, take-append_seam}
 use Rattle.std.proofs.lemmas.Bool.{cases_Bool}
 use Rattle.std.proofs.lemmas.Bool.Decides.{nat_tests}
 use Rattle.std.proofs.lemmas.List.{take-append-drop, take-append-le}
-use Rattle.std.specs.Option.{is_some}
 use Rattle.xml_framer.proofs.ItemsBefore.{run_grows}
-use Rattle.xml_framer.proofs.Pieces.{run_append, stays}
+use Rattle.xml_framer.proofs.Pieces.{run_append}
 use Rattle.xml_framer.specs.Machine.{run}
 use Rattle.xml_framer.specs.States.{State, Turn, turn}
-use Rattle.xml_framer.specs.declared.fault.Fault.{Fault}
 use Rattle.xml_framer.specs.declared.items.Item.{Item}
 use Rattle.law_xml.specs.Items.{GivesOne, IsFront, IsRest}
 use Rattle.law_xml.proofs.RunPositions.{no_fault_before}
+use Rattle.law_xml.proofs.ElementStates.{front_none}
 
 pub as_rest : (lost : Bool) (s : State) (bytes : List ℕ) → IsRest lost s bytes → IsRest true s bytes
 as_rest false s bytes r = inl r
@@ -62,15 +61,11 @@ rest_no_fault s bytes none_there r =
 last_or_before : (n a : ℕ) → n < a + 1 → n ≤ a
 last_or_before n a less = omega (arith, less)
 
-nothing_before : (l more : List Item) → l ++ more ≡ [] → l ≡ []
-nothing_before [] more e = refl
-nothing_before (i ∷ l) more e = cc
-
 fewer_give_none : (s : State) (bytes : List ℕ) (n : ℕ) → (run (turn s []) bytes).items ≡ [] → (run (turn s []) (take n bytes)).items ≡ []
 fewer_give_none s bytes n none =
     let grows = run_grows (run (turn s []) (take n bytes)) (drop n bytes) in
     let whole : run (run (turn s []) (take n bytes)) (drop n bytes) ≡ run (turn s []) bytes = sym (run_append (turn s []) (take n bytes) (drop n bytes)) ∙ ap (run (turn s [])) (take-append-drop n bytes) in
-    nothing_before (run (turn s []) (take n bytes)).items grows.0 (sym grows.1 ∙ ap (λ (t : Turn). t.items) whole ∙ none)
+    front_none (run (turn s []) (take n bytes)).items grows.0 (sym grows.1 ∙ ap (λ (t : Turn). t.items) whole ∙ none)
 
 -- where nothing was given before the last byte, nothing was before an earlier one
 pub by_last_byte : (s : State) (front : List ℕ) (last : ℕ) (i : Item) (following : State) → run (turn s []) (front ++ last ∷ []) ≡ turn following (i ∷ []) → (run (turn s []) front).items ≡ [] → following.fault ≡ None

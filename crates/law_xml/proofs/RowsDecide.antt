@@ -1,5 +1,5 @@
 -- Each row of the table of faults decides its fault, and no other fault is decided.
-use Rattle.std.proofs.Common.{◌≡◌, ℕ, ◌↔◌, ⊎_elim, Bool, true, false, not, ◌&&◌, if◌then◌else◌, List, [], ◌∷◌, ◌++◌, Some, None, Err, refl, sym, ap, subst, ◌∙◌, arith}
+use Rattle.std.proofs.Common.{◌≡◌, ℕ, ◌↔◌, ⊎_elim, Bool, true, false, not, if◌then◌else◌, List, [], ◌∷◌, ◌++◌, Some, None, Err, refl, sym, ap, subst, ◌∙◌, arith}
 use Rattle.std.proofs.lemmas.Bool.{cases_Bool}
 use Rattle.std.specs.Option.{is_some}
 use Rattle.std.specs.Prelude.{codes, slice_index}
@@ -13,7 +13,7 @@ use Rattle.law_xml.proofs.OffsetMarks.{Mark}
 use Rattle.law_xml.proofs.OffsetRuns.{known_of}
 use Rattle.law_xml.proofs.OffsetTags.{Spot}
 use Rattle.law_xml.proofs.ReadCharacters.{ascii_alone}
-use Rattle.law_xml.proofs.RowsTold.{decides_row, fault_at}
+use Rattle.law_xml.proofs.RowsTold.{decides_row, fault_at, text_place}
 use Rattle.law_xml.specs.FaultRows.{Decides, EndsTag, Takes}
 use Rattle.law_xml.specs.Rows.{BangRow, DeclarationRow, FooterRow, OpeningRow, QuestionRow, ReferenceRow, Row, SectionRow, TagRow, TextRow, TokenRow, WholeTagRow, after_footer, bad_declaration, bad_first_header, bad_footer, bad_next_header, bad_reference, bad_start, bad_top, deep_start, deep_top, departing_declaration, departing_reference, departing_section, forbidden_in_section, forbidden_in_text, in_text_row, in_token_row, no_declaration, no_header_declared, no_name, no_utf8, other_encoding, other_end, reference_outside, section_end_in_text, section_outside, text_outside, too_long, unknown_reference, unspaced_declaration, whole_tag_row}
 use Rattle.xml_framer.specs.Machine.{run, step}
@@ -32,14 +32,11 @@ decided t b n y at w d at_is w_is = d ∙ (ap (λ k. fault_at k y) (sym at_is) �
 
 -- the place of a text
 text_position : (s : State) → s.lexical.mode ≡ mode.Text → (in_run s).positions.token_at ≡ token_position s
-text_position s text = run_position s.lexical.in_run ∙ sym (placed s.lexical.mode text)
+text_position s text = run_position s.lexical.in_run ∙ sym (text_place s s.lexical.mode text)
   where
     run_position : (x : Bool) → (if x then s else run_begun s).positions.token_at ≡ (if not x then s.positions.at else s.positions.token_at)
     run_position true = refl
     run_position false = refl
-
-    placed : (m : Mode) → m ≡ mode.Text → (if is_text m && not s.lexical.in_run then s.positions.at else s.positions.token_at) ≡ (if not s.lexical.in_run then s.positions.at else s.positions.token_at)
-    placed m is = rw is refl
 
 running_position : (s : State) → s.lexical.mode ≡ mode.Text → s.lexical.in_run ≡ true → s.positions.token_at ≡ token_position s
 running_position s text running = rw (text, running) refl

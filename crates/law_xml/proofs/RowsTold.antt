@@ -19,7 +19,7 @@ use Rattle.xml_tokens.specs.declared.references.Reference.{Reference}
 use Rattle.xml_tokens.specs.declared.references.Reference.TheVariants as reference
 use Rattle.law_xml.proofs.FaultLaws.{broken, goes, long, nothing_closes}
 use Rattle.law_xml.specs.FaultRows.{Decides, Takes}
-use Rattle.law_xml.specs.Rows.{BangRow, DeclarationRow, FooterRow, OpeningRow, QuestionRow, ReferenceRow, Row, SectionRow, TagRow, TextRow, TokenRow, WholeTagRow, after_footer, bad_declaration, bad_first_header, bad_footer, bad_next_header, bad_reference, bad_start, bad_top, deep_start, deep_top, departing_declaration, departing_reference, departing_section, forbidden_in_section, forbidden_in_text, in_text_row, in_token_row, no_declaration, no_header_declared, no_name, no_utf8, other_encoding, other_end, reference_outside, section_end_in_text, section_outside, too_long, unknown_reference, unspaced_declaration, whole_tag_row}
+use Rattle.law_xml.specs.Rows.{BangRow, DeclarationRow, FooterRow, OpeningRow, QuestionRow, ReferenceRow, Row, SectionRow, TagRow, TextRow, WholeTagRow, after_footer, bad_declaration, bad_first_header, bad_footer, bad_next_header, bad_reference, bad_start, bad_top, deep_start, deep_top, departing_declaration, departing_reference, departing_section, forbidden_in_section, forbidden_in_text, in_text_row, in_token_row, no_declaration, no_header_declared, no_name, no_utf8, other_encoding, other_end, reference_outside, section_end_in_text, section_outside, too_long, unknown_reference, unspaced_declaration, whole_tag_row}
 use Rattle.law_xml.specs.Rows as rows
 use Rattle.xml_framer.specs.Machine.{is_too_long, taken_in}
 use Rattle.xml_framer.specs.MarkupSteps.{declares, ends_in_question, in_bang, in_declaration, in_phase, in_question, section_opened}
@@ -40,6 +40,10 @@ use Rattle.law_xml.proofs.OffsetSteps.{none_some}
 
 abbrev pub fault_at : ℕ → Why → Option Fault
 fault_at at w = Some (record { at = at; why = w })
+
+-- a token of a text stands where its run began
+pub text_place : (s : State) (m : Mode) → m ≡ mode.Text → (if is_text m && not s.lexical.in_run then s.positions.at else s.positions.token_at) ≡ (if not s.lexical.in_run then s.positions.at else s.positions.token_at)
+text_place s m is = rw is refl
 
 pub one_some : (f g : Fault) → Some f ≡ Some g → f ≡ g
 one_some f g e = cc
@@ -326,10 +330,7 @@ module _ (s : State) (b at : ℕ) (w : Why) (none : s.fault ≡ None) where
 
   module _ (text : s.lexical.mode ≡ mode.Text) where
     at_text : at ≡ r.positions.token_at → at ≡ token_position s
-    at_text e = e ∙ (run_position ∙ sym (placed s.lexical.mode text))
-      where
-        placed : (m : Mode) → m ≡ mode.Text → (if is_text m && not s.lexical.in_run then s.positions.at else s.positions.token_at) ≡ (if not s.lexical.in_run then s.positions.at else s.positions.token_at)
-        placed m is = rw is refl
+    at_text e = e ∙ (run_position ∙ sym (text_place s s.lexical.mode text))
 
     inside_text_row : is_some s.here ≡ true → Found (inside c b) → TextRow s b at w
     unfolding inside text_inside

@@ -45,14 +45,12 @@ first_forgotten c x (y ∷ ys) h = rw h refl
 quiet : (a c x : ℕ) → eqb c 191 ≡ false → ends_forbidden a c x ≡ ends_forbidden 0 0 x
 quiet a c x k = let e : (eqb a 239 && eqb c 191) ≡ false = rw k (and-false (eqb a 239)) in rw e refl
 
-both_same : (p q r s : Bool) → p ≡ q → r ≡ s → (p && r) ≡ (q && s)
-both_same p q r s e f = rw (e, f) refl
-
 forgotten : (a c : ℕ) (xs : List ℕ) → Forgets c → are_characters_after a c xs ≡ are_characters_after 0 0 xs
 forgotten a c [] h = refl
 forgotten a c (x ∷ xs) h =
-    both_same (not (ends_forbidden a c x)) (not (ends_forbidden 0 0 x)) (are_characters_after c x xs) (are_characters_after 0 x xs)
-    (ap not (quiet a c x h.no_second)) (first_forgotten c x xs h.no_first)
+    let first = ap not (quiet a c x h.no_second) in
+    let rest = first_forgotten c x xs h.no_first in
+    (λ i. first i && rest i)
 
 -- the same after any two bytes that are forgotten
 same_after : (a c u v : ℕ) (xs : List ℕ) → Forgets c → Forgets v → are_characters_after a c xs ≡ are_characters_after u v xs
@@ -92,7 +90,9 @@ anew a c [] h = refl
 anew a c (b ∷ bs) h =
     let l = leads [] b bs h in
     let starts = begins_low b [] l.next refl l.is in
-    both_same (not (ends_forbidden a c b)) (not (ends_forbidden 0 0 b)) (are_characters_after c b bs) (are_characters_after 0 b bs) (ap not (no_third a c b starts)) (second_anew c 0 b bs (no_second b starts))
+    let first = ap not (no_third a c b starts) in
+    let rest = second_anew c 0 b bs (no_second b starts) in
+    (λ i. first i && rest i)
 
 -- ---- whole texts of XML's characters
 

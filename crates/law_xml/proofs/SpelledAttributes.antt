@@ -20,7 +20,8 @@ use Rattle.law_xml.specs.Plain.{IsPlainAttribute}
 use Rattle.law_xml.specs.Spells.{bind}
 use Rattle.xml_tokens.specs.Lines.{IsCharacters}
 use Rattle.xml_trees.proofs.AttributeOrder.{has_name-order}
-use Rattle.law_xml.proofs.SpelledNames.{apart_by_local, apart_by_prefix, differ, name_no_colon, name_qualified, numbered_differ, numbered_plain, numbered_prefix, prefixed_qualified, xml_plain, xmlns_plain}
+use Rattle.law_xml.proofs.SpelledNames.{apart_by_local, apart_by_prefix, name_no_colon, name_qualified, numbered_differ, numbered_plain, numbered_prefix, prefixed_qualified, xml_plain, xmlns_plain}
+use Rattle.base_lemmas.proofs.Bytes.{other-from_bytes_eq}
 use Rattle.xml_tokens.proofs.TagWords.{none-from_is_empty as empty_is, some-from_is_empty as some_is}
 
 -- ---- attribute by attribute
@@ -63,7 +64,7 @@ by_attributes P done none xml foreign n (a ∷ more) =
     (xml n a more (spelled_attributes n more) ((bytes_eq-Decides a.ns xml_namespace).0 x) (by_attributes P done none xml foreign n more)))
     (λ (x : bytes_eq a.ns xml_namespace ≡ false).
     subst (P n (a ∷ more)) (sym (foreign_attribute n a more e x))
-    (foreign n a more (spelled_attributes (n + 1) more) (some_is a.ns e) (differ a.ns xml_namespace x) (by_attributes P done none xml foreign (n + 1) more)))
+    (foreign n a more (spelled_attributes (n + 1) more) (some_is a.ns e) (other-from_bytes_eq a.ns xml_namespace x) (by_attributes P done none xml foreign (n + 1) more)))
     (cases_Bool (bytes_eq a.ns xml_namespace)))
     (cases_Bool (is_empty a.ns))
 
@@ -148,28 +149,28 @@ Above a more = AllByRecursion (λ b. name_order a b ≡ Less) more
 none_apart : (n : ℕ) (a : Attribute) (more : List Attribute) (x y : List ℕ) → Above a more → a.ns ≡ [] → IsName x [] a.name → Shape n more y → x ≢ y
 none_apart n a more x y above e is (of_none b o f js) =
     apart_by_local x y [] [] a.name b.name is js (name_differs a b (at_each (λ b. name_order a b ≡ Less) b more above o) (e ∙ sym f))
-none_apart n a more x y above e is (of_xml b o f js) = apart_by_prefix x y [] (codes "xml") a.name b.name is js (differ [] (codes "xml") refl)
-none_apart n a more x y above e is (declares m le js) = apart_by_prefix x y [] (codes "xmlns") a.name (numbered_prefix m) is js (differ [] (codes "xmlns") refl)
-none_apart n a more x y above e is (numbered m l le js) = apart_by_prefix x y [] (numbered_prefix m) a.name l is js (differ [] (numbered_prefix m) refl)
+none_apart n a more x y above e is (of_xml b o f js) = apart_by_prefix x y [] (codes "xml") a.name b.name is js (other-from_bytes_eq [] (codes "xml") refl)
+none_apart n a more x y above e is (declares m le js) = apart_by_prefix x y [] (codes "xmlns") a.name (numbered_prefix m) is js (other-from_bytes_eq [] (codes "xmlns") refl)
+none_apart n a more x y above e is (numbered m l le js) = apart_by_prefix x y [] (numbered_prefix m) a.name l is js (other-from_bytes_eq [] (numbered_prefix m) refl)
 
 xml_apart : (n : ℕ) (a : Attribute) (more : List Attribute) (x y : List ℕ) → Above a more → a.ns ≡ xml_namespace → IsName x (codes "xml") a.name → Shape n more y → x ≢ y
-xml_apart n a more x y above e is (of_none b o f js) = apart_by_prefix x y (codes "xml") [] a.name b.name is js (differ (codes "xml") [] refl)
+xml_apart n a more x y above e is (of_none b o f js) = apart_by_prefix x y (codes "xml") [] a.name b.name is js (other-from_bytes_eq (codes "xml") [] refl)
 xml_apart n a more x y above e is (of_xml b o f js) =
     apart_by_local x y (codes "xml") (codes "xml") a.name b.name is js (name_differs a b (at_each (λ b. name_order a b ≡ Less) b more above o) (e ∙ sym f))
-xml_apart n a more x y above e is (declares m le js) = apart_by_prefix x y (codes "xml") (codes "xmlns") a.name (numbered_prefix m) is js (differ (codes "xml") (codes "xmlns") refl)
-xml_apart n a more x y above e is (numbered m l le js) = apart_by_prefix x y (codes "xml") (numbered_prefix m) a.name l is js (differ (codes "xml") (numbered_prefix m) refl)
+xml_apart n a more x y above e is (declares m le js) = apart_by_prefix x y (codes "xml") (codes "xmlns") a.name (numbered_prefix m) is js (other-from_bytes_eq (codes "xml") (codes "xmlns") refl)
+xml_apart n a more x y above e is (numbered m l le js) = apart_by_prefix x y (codes "xml") (numbered_prefix m) a.name l is js (other-from_bytes_eq (codes "xml") (numbered_prefix m) refl)
 
 declared_apart : (n : ℕ) (more : List Attribute) (x y : List ℕ) → IsName x (codes "xmlns") (numbered_prefix n) → Shape (n + 1) more y → x ≢ y
-declared_apart n more x y is (of_none b o f js) = apart_by_prefix x y (codes "xmlns") [] (numbered_prefix n) b.name is js (differ (codes "xmlns") [] refl)
-declared_apart n more x y is (of_xml b o f js) = apart_by_prefix x y (codes "xmlns") (codes "xml") (numbered_prefix n) b.name is js (differ (codes "xmlns") (codes "xml") refl)
+declared_apart n more x y is (of_none b o f js) = apart_by_prefix x y (codes "xmlns") [] (numbered_prefix n) b.name is js (other-from_bytes_eq (codes "xmlns") [] refl)
+declared_apart n more x y is (of_xml b o f js) = apart_by_prefix x y (codes "xmlns") (codes "xml") (numbered_prefix n) b.name is js (other-from_bytes_eq (codes "xmlns") (codes "xml") refl)
 declared_apart n more x y is (declares m le js) =
     apart_by_local x y (codes "xmlns") (codes "xmlns") (numbered_prefix n) (numbered_prefix m) is js (numbered_differ n m (λ same. omega (arith, same, le)))
-declared_apart n more x y is (numbered m l le js) = apart_by_prefix x y (codes "xmlns") (numbered_prefix m) (numbered_prefix n) l is js (differ (codes "xmlns") (numbered_prefix m) refl)
+declared_apart n more x y is (numbered m l le js) = apart_by_prefix x y (codes "xmlns") (numbered_prefix m) (numbered_prefix n) l is js (other-from_bytes_eq (codes "xmlns") (numbered_prefix m) refl)
 
 numbered_apart : (n : ℕ) (more : List Attribute) (x y l : List ℕ) → IsName x (numbered_prefix n) l → Shape (n + 1) more y → x ≢ y
-numbered_apart n more x y l is (of_none b o f js) = apart_by_prefix x y (numbered_prefix n) [] l b.name is js (differ (numbered_prefix n) [] refl)
-numbered_apart n more x y l is (of_xml b o f js) = apart_by_prefix x y (numbered_prefix n) (codes "xml") l b.name is js (differ (numbered_prefix n) (codes "xml") refl)
-numbered_apart n more x y l is (declares m le js) = apart_by_prefix x y (numbered_prefix n) (codes "xmlns") l (numbered_prefix m) is js (differ (numbered_prefix n) (codes "xmlns") refl)
+numbered_apart n more x y l is (of_none b o f js) = apart_by_prefix x y (numbered_prefix n) [] l b.name is js (other-from_bytes_eq (numbered_prefix n) [] refl)
+numbered_apart n more x y l is (of_xml b o f js) = apart_by_prefix x y (numbered_prefix n) (codes "xml") l b.name is js (other-from_bytes_eq (numbered_prefix n) (codes "xml") refl)
+numbered_apart n more x y l is (declares m le js) = apart_by_prefix x y (numbered_prefix n) (codes "xmlns") l (numbered_prefix m) is js (other-from_bytes_eq (numbered_prefix n) (codes "xmlns") refl)
 numbered_apart n more x y l is (numbered m k le js) = apart_by_prefix x y (numbered_prefix n) (numbered_prefix m) l k is js (numbered_differ n m (λ same. omega (arith, same, le)))
 
 abbrev pub Apart : List (List ℕ) → Type 0
@@ -211,7 +212,7 @@ all_named n attrs = by_attributes (λ n attrs xs. ArePlain attrs → Named n att
     record {
       shaped = (declares n (omega arith) is, (numbered n a.name (omega arith) js, each (Shape (n + 1) more) (Shape n (a ∷ more)) (λ x. wider n (n + 1) a more x (omega arith)) (names_of xs) was.shaped));
       apart = λ s. first_apart x (z ∷ names_of xs)
-          (apart_by_prefix x z (codes "xmlns") (numbered_prefix n) (numbered_prefix n) a.name is js (differ (codes "xmlns") (numbered_prefix n) refl), each (Shape (n + 1) more) (λ y. x ≢ y) (λ y. declared_apart n more x y is) (names_of xs) was.shaped)
+          (apart_by_prefix x z (codes "xmlns") (numbered_prefix n) (numbered_prefix n) a.name is js (other-from_bytes_eq (codes "xmlns") (numbered_prefix n) refl), each (Shape (n + 1) more) (λ y. x ≢ y) (λ y. declared_apart n more x y is) (names_of xs) was.shaped)
           (first_apart z (names_of xs) (each (Shape (n + 1) more) (λ y. z ≢ y) (λ y. numbered_apart n more z y a.name js) (names_of xs) was.shaped) (was.apart s.1));
     })
     n attrs
@@ -223,9 +224,9 @@ names_apart n attrs h = (all_named n attrs h).apart
 default_apart : (n : ℕ) (attrs : List Attribute) (y : List ℕ) → ArePlain attrs → Shape n attrs y → codes "xmlns" ≢ y
 default_apart n attrs y h (of_none b o f js) =
     apart_by_local (codes "xmlns") y [] [] (codes "xmlns") b.name (inr (refl, refl, refl)) js (λ e. (at_each IsPlainAttribute b attrs h o).no_declaration f (sym e))
-default_apart n attrs y h (of_xml b o f js) = apart_by_prefix (codes "xmlns") y [] (codes "xml") (codes "xmlns") b.name (inr (refl, refl, refl)) js (differ [] (codes "xml") refl)
-default_apart n attrs y h (declares m le js) = apart_by_prefix (codes "xmlns") y [] (codes "xmlns") (codes "xmlns") (numbered_prefix m) (inr (refl, refl, refl)) js (differ [] (codes "xmlns") refl)
-default_apart n attrs y h (numbered m l le js) = apart_by_prefix (codes "xmlns") y [] (numbered_prefix m) (codes "xmlns") l (inr (refl, refl, refl)) js (differ [] (numbered_prefix m) refl)
+default_apart n attrs y h (of_xml b o f js) = apart_by_prefix (codes "xmlns") y [] (codes "xml") (codes "xmlns") b.name (inr (refl, refl, refl)) js (other-from_bytes_eq [] (codes "xml") refl)
+default_apart n attrs y h (declares m le js) = apart_by_prefix (codes "xmlns") y [] (codes "xmlns") (codes "xmlns") (numbered_prefix m) (inr (refl, refl, refl)) js (other-from_bytes_eq [] (codes "xmlns") refl)
+default_apart n attrs y h (numbered m l le js) = apart_by_prefix (codes "xmlns") y [] (numbered_prefix m) (codes "xmlns") l (inr (refl, refl, refl)) js (other-from_bytes_eq [] (numbered_prefix m) refl)
 
 pub default_first : (n : ℕ) (attrs : List Attribute) → ArePlain attrs → IsStrictlySortedBy name_order attrs → Apart (codes "xmlns" ∷ names_of (spelled_attributes n attrs))
 default_first n attrs h s =
@@ -251,14 +252,14 @@ declared l =
     cond-false (bytes_eq x (codes "xmlns")) (Some []) _ f ∙ cond-true (bytes_eq (prefix_of x) (codes "xmlns")) (Some (local_of x)) None g ∙ ap Some parts.1
 
 pub other_name : (a : Attribute) → IsPlainAttribute a → a.ns ≡ [] → declared_prefix a.name ≡ None
-other_name a h e = undeclared a.name [] a.name (unprefixed a h) (h.no_declaration e) (differ [] (codes "xmlns") refl)
+other_name a h e = undeclared a.name [] a.name (unprefixed a h) (h.no_declaration e) (other-from_bytes_eq [] (codes "xmlns") refl)
 
 pub other_xml : (l : List ℕ) → declared_prefix (codes "xml:" ++ l) ≡ None
-other_xml l = undeclared (codes "xml:" ++ l) (codes "xml") l (xml_name l) (differ (codes "xml:" ++ l) (codes "xmlns") refl) (differ (codes "xml") (codes "xmlns") refl)
+other_xml l = undeclared (codes "xml:" ++ l) (codes "xml") l (xml_name l) (other-from_bytes_eq (codes "xml:" ++ l) (codes "xmlns") refl) (other-from_bytes_eq (codes "xml") (codes "xmlns") refl)
 
 other_numbered : (n : ℕ) (l : List ℕ) → declared_prefix (numbered_prefix n ++ (58 ∷ l)) ≡ None
 other_numbered n l =
-    undeclared (numbered_prefix n ++ (58 ∷ l)) (numbered_prefix n) l (numbered_name n l) (differ (numbered_prefix n ++ (58 ∷ l)) (codes "xmlns") refl) (differ (numbered_prefix n) (codes "xmlns") refl)
+    undeclared (numbered_prefix n ++ (58 ∷ l)) (numbered_prefix n) l (numbered_name n l) (other-from_bytes_eq (numbered_prefix n ++ (58 ∷ l)) (codes "xmlns") refl) (other-from_bytes_eq (numbered_prefix n) (codes "xmlns") refl)
 
 pub binds_nothing : (a : tokens.Attribute) (xs : List tokens.Attribute) → declared_prefix a.name ≡ None → bindings_of (a ∷ xs) ≡ bindings_of xs
 binds_nothing a xs e = ap (λ p. with_binding p a.value (bindings_of xs)) e
@@ -282,8 +283,8 @@ foreign_others n a xs =
 
 numbered_may : (n : ℕ) (a : Attribute) → IsPlainAttribute a → a.ns ≢ [] → a.ns ≢ xml_namespace → MayDeclare (bind (numbered_prefix n) a.ns)
 numbered_may n a h some other = record {
-  xml_alone = (λ e. absurd (differ (numbered_prefix n) (codes "xml") refl e), λ e. absurd (other e));
-  not_xmlns = differ (numbered_prefix n) (codes "xmlns") refl;
+  xml_alone = (λ e. absurd (other-from_bytes_eq (numbered_prefix n) (codes "xml") refl e), λ e. absurd (other e));
+  not_xmlns = other-from_bytes_eq (numbered_prefix n) (codes "xmlns") refl;
   not_its_name = h.not_xmlns;
   not_undeclared = λ e. absurd (some e);
 }
@@ -332,11 +333,11 @@ says_none scope a h e = ([], unprefixed a h, inl (refl, e), refl)
 
 says_xml : (scope : Scope) (a : Attribute) → a.ns ≡ xml_namespace → IsExpanded scope (spelled (codes "xml:" ++ a.name) a.value) (expanded a)
 unfolding bound
-says_xml scope a e = (codes "xml", xml_name a.name, inr (differ (codes "xml") [] refl, ap Some (sym e)), refl)
+says_xml scope a e = (codes "xml", xml_name a.name, inr (other-from_bytes_eq (codes "xml") [] refl, ap Some (sym e)), refl)
 
 says_numbered : (scope : Scope) (n : ℕ) (a : Attribute) → first_bound scope (numbered_prefix n) ≡ Some a.ns → IsExpanded scope (prefixed n a) (expanded a)
 unfolding bound
-says_numbered scope n a e = (numbered_prefix n, numbered_name n a.name, inr (differ (numbered_prefix n) [] refl, e), refl)
+says_numbered scope n a e = (numbered_prefix n, numbered_name n a.name, inr (other-from_bytes_eq (numbered_prefix n) [] refl, e), refl)
 
 pass_one : (n : ℕ) (front : Scope) (ns : List ℕ) → Passes n front → Passes (n + 1) (front ++ bind (numbered_prefix n) ns ∷ [])
 pass_one n front ns h m le outer =

@@ -1,15 +1,14 @@
 -- Names as they are written, with a prefix or without one.
-use Rattle.std.proofs.Common.{◌≡◌, ◌≢◌, ℕ, ◌+◌, ◌<◌, Bool, true, false, eqb, not, ◌&&◌, List, [], ◌∷◌, ◌++◌, get_or, map, codes, bytes_eq, refl, sym, ap, ◌∙◌, arith, ⊎_elim, append-nil}
-use Rattle.std.proofs.lemmas.Bool.{cases_Bool, and_parts, and_from, or_left, eqb-true, false≢true}
+use Rattle.std.proofs.Common.{◌≡◌, ◌≢◌, ℕ, ◌+◌, ◌<◌, true, false, eqb, not, ◌&&◌, List, [], ◌∷◌, ◌++◌, get_or, map, codes, refl, sym, ap, ◌∙◌, arith, ⊎_elim, append-nil}
+use Rattle.std.proofs.lemmas.Bool.{cases_Bool, and_parts, and_from, or_left, eqb-true, not_from_false, and_right}
 use Rattle.std.proofs.lemmas.Bool.Decides.{nat_tests}
 use Rattle.std.proofs.lemmas.Int.Digits.{all_below_base_digits_of, first_digits_of, same_from_digits_of}
 use Rattle.std.proofs.lemmas.List.Elements.{All-from_recursion}
-use Rattle.std.proofs.lemmas.Slice.Eq.{bytes_eq-Decides}
 use Rattle.std.proofs.lemmas.Str.{IsUtf8-append, IsUtf8-from_ascii, IsUtf8-from_is_utf8, is_utf8-from_IsUtf8}
 use Rattle.std.proofs.lemmas.Str.Ascii.{IsAscii-from_all}
 use Rattle.std.specs.Int.Digits.{digits_of, AllBelowBase}
 use Rattle.std.specs.List.{AllByRecursion}
-use Rattle.std.specs.Str.{IsUtf8, is_utf8, chars}
+use Rattle.std.specs.Str.{is_utf8, chars}
 use lib.Utf8.{encode}
 use Rattle.xml_tokens.proofs.Splits.{front-append, following-append}
 use Rattle.xml_tokens.specs.Characters.{is_name, is_named, is_name_byte, is_name_start, go_on, is_control, ends_forbidden, are_characters, are_characters_after}
@@ -19,6 +18,7 @@ use Rattle.xml_names.proofs.NameLaws.{parts_of}
 use Rattle.xml_names.specs.Names.{IsName, no_colon, prefix_of, local_of}
 use Rattle.xml_writer.specs.Canon.{number_text}
 use Rattle.law_xml.specs.Plain.{IsPlainName}
+use Rattle.base_lemmas.proofs.Utf8.{IsUtf8-one}
 
 -- ---- names without a colon
 
@@ -43,16 +43,13 @@ name_qualified name h =
     let b : following (λ b. not (eqb b 58)) name ≡ [] = ap (following (λ b. not (eqb b 58))) (sym (append-nil name)) ∙ following-append (λ b. not (eqb b 58)) name [] plain refl in
     and_from _ _ (and_from _ _ (ap is_name f ∙ h.is_name) (ap is_after_colon b)) (is_utf8-from_IsUtf8 name h.characters.utf8)
 
-one_utf8 : (b : ℕ) → b < 128 → IsUtf8 (b ∷ [])
-one_utf8 b h = IsUtf8-from_ascii (b ∷ []) (IsAscii-from_all (b ∷ []) (All-from_recursion (λ x. x < 128) (b ∷ []) (h, tt)))
-
 pub prefixed_qualified : (prefix name : List ℕ) → IsPlainName prefix → IsPlainName name → is_qualified (prefix ++ (58 ∷ name)) ≡ true
 unfolding is_qualified
 prefixed_qualified prefix name p h =
     let plain = name_no_colon prefix p.is_name in
     let f : front (λ b. not (eqb b 58)) (prefix ++ (58 ∷ name)) ≡ prefix = front-append (λ b. not (eqb b 58)) prefix (58 ∷ name) plain refl in
     let b : following (λ b. not (eqb b 58)) (prefix ++ (58 ∷ name)) ≡ 58 ∷ name = following-append (λ b. not (eqb b 58)) prefix (58 ∷ name) plain refl in
-    let text = IsUtf8-append prefix (58 ∷ name) p.characters.utf8 (IsUtf8-append (58 ∷ []) name (one_utf8 58 (omega arith)) h.characters.utf8) in
+    let text = IsUtf8-append prefix (58 ∷ name) p.characters.utf8 (IsUtf8-append (58 ∷ []) name (IsUtf8-one 58 (omega arith)) h.characters.utf8) in
     and_from _ _ (and_from _ _ (ap is_name f ∙ p.is_name) (ap is_after_colon b ∙ h.is_name)) (is_utf8-from_IsUtf8 (prefix ++ (58 ∷ name)) text)
 
 -- ---- numbered prefixes
@@ -76,11 +73,7 @@ figure_allowed a b d h =
     let calm : is_control (48 + d) ≡ false = grind (arith, nat_tests, h) in
     let n190 : eqb (48 + d) 190 ≡ false = grind (arith, nat_tests, h) in
     let n191 : eqb (48 + d) 191 ≡ false = grind (arith, nat_tests, h) in
-    rw (calm, n190, n191) (none (eqb a 239 && eqb b 191))
-  where
-    none : (t : Bool) → not (t && false) ≡ true
-    none true = refl
-    none false = refl
+    rw (calm, n190, n191) (not_from_false _ (and_right (eqb a 239 && eqb b 191) false refl))
 
 figures_characters : (a b : ℕ) (ds : List ℕ) → AllBelowBase 10 ds → are_characters_after a b (figures ds) ≡ true
 figures_characters a b [] h = refl
@@ -142,9 +135,6 @@ pub numbered_differ : (m n : ℕ) → m ≢ n → numbered_prefix m ≢ numbered
 numbered_differ m n other e = other (number_same m n (tail_same 97 (number_text m) (number_text n) e))
 
 -- ---- names that differ
-
-pub differ : (xs ys : List ℕ) → bytes_eq xs ys ≡ false → xs ≢ ys
-differ xs ys f e = false≢true (sym f ∙ (bytes_eq-Decides xs ys).1 e)
 
 pub apart_by_prefix : (x y p q l m : List ℕ) → IsName x p l → IsName y q m → p ≢ q → x ≢ y
 apart_by_prefix x y p q l m hx hy other e = other (sym (parts_of x p l hx).0 ∙ ap prefix_of e ∙ (parts_of y q m hy).0)

@@ -50,11 +50,11 @@ quoted_run : (q : ℕ) (raw rest : List ℕ) → list_all (λ b. not (eqb b q)) 
 quoted_run q [] rest inside = let same : eqb q q ≡ true = eq-eqb q q refl in rw same refl
 quoted_run q (b ∷ bs) rest inside = let p = and_parts (not (eqb b q)) _ inside in rw (not-true _ p.0) (quoted_run q bs rest p.1)
 
+pub quote_no_end : (q : ℕ) → is_quote q ≡ true → eqb q 62 ≡ false
+quote_no_end q h = grind (arith, nat_tests)
+
 opening_run : (q : ℕ) (rest : List ℕ) → is_quote q ≡ true → ends_last None (q ∷ rest) ≡ ends_last (Some q) rest
-opening_run q rest h = rw (no_end q h, h) refl
-  where
-    no_end : (q : ℕ) → is_quote q ≡ true → eqb q 62 ≡ false
-    no_end q h = grind (arith, nat_tests)
+opening_run q rest h = rw (quote_no_end q h, h) refl
 
 white_goes_by : (xs : List ℕ) → are_white xs ≡ true → list_all goes_by xs ≡ true
 white_goes_by [] h = refl

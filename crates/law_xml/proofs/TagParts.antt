@@ -16,6 +16,7 @@ use Rattle.xml_tokens.proofs.ValueSpellings.{says_value}
 use Rattle.xml_framer.proofs.PlainTags.{quote_append}
 use Rattle.xml_tokens.proofs.ValueTexts.{ascii_runs, ascii_step, runs_append, value_runs}
 use Rattle.xml_framer.specs.ManyBytes.{quote_after}
+use Rattle.law_xml.proofs.TagEnds.{quote_no_end}
 
 -- a byte ends a tag
 abbrev pub ends_tag : Option ℕ → ℕ → Bool
@@ -107,9 +108,6 @@ quoted_ends q (b ∷ bs) h =
 
 quote_low : (q : ℕ) → is_quote q ≡ true → ltb q 128 ≡ true
 quote_low q h = grind (arith, nat_tests)
-
-quote_no_end : (q : ℕ) → is_quote q ≡ true → eqb q 62 ≡ false
-quote_no_end q h = grind (arith, nat_tests)
 
 -- the quote that closes a value
 closing_part : (q : ℕ) → is_quote q ≡ true → (none_ends (Some q) (q ∷ []) ≡ true) × (quote_after (Some q) (q ∷ []) ≡ None)

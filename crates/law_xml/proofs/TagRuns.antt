@@ -1,6 +1,6 @@
 -- A framer reads what spells a tag: at the tag's `>` the whole tag is in its hand.
 use Rattle.std.proofs.Common.{◌≡◌, ℕ, ◌+◌, ◌<◌, ◌≤◌, ◌^◌, ◌⊎◌, ⊎_elim, Bool, true, false, eqb, ltb, leb, not, ◌&&◌, if◌then◌else◌, List, [], ◌∷◌, ◌++◌, Option, Some, None, length, unwrap_or, refl, sym, ap, subst, ◌∙◌, arith, append_assoc, append-nil, length-append}
-use Rattle.std.proofs.lemmas.Bool.{and_parts, and_left, and_right, false≢true, not-true}
+use Rattle.std.proofs.lemmas.Bool.{and_parts, and_left, and_right, false≢true, not-true, lt-leb}
 use Rattle.std.proofs.lemmas.Bool.Decides.{nat_tests}
 use Rattle.std.proofs.lemmas.Option.{same_Some}
 use Rattle.std.specs.Option.{is_some}
@@ -126,10 +126,7 @@ fits s t n total room alike count less =
 
 is_short : (t : State) (b : ℕ) → t.positions.used < t.limits.bytes → is_too_long t b ≡ false
 unfolding is_too_long
-is_short t b less = and_right (ltb 0 t.positions.used) _ (and_left (leb t.limits.bytes t.positions.used) _ (above t.limits.bytes t.positions.used less))
-  where
-    above : (m n : ℕ) → n < m → leb m n ≡ false
-    above m n h = grind (arith, nat_tests)
+is_short t b less = and_right (ltb 0 t.positions.used) _ (and_left (leb t.limits.bytes t.positions.used) _ (lt-leb t.limits.bytes t.positions.used less))
 
 -- ---- a byte of a tag
 

@@ -11,6 +11,7 @@ use Rattle.law_xml.proofs.ReadCharacters.{second_high, tail_high}
 use Rattle.law_xml.specs.Texts.{IsCharacterData, SpellsText, begins_section_end, data_alone, has_section_end, with_reference, with_section}
 use Rattle.xml_tokens.specs.Lines.{line_ends, line_ends_after}
 use Rattle.xml_framer.specs.TextSteps.{brackets_after}
+use Rattle.std.proofs.Math.Bool.{or-false, or_assoc}
 
 -- ---- `]]>`, with the `]` in front counted
 
@@ -32,14 +33,6 @@ ends_after n (b ∷ bs) = (n == 2 && b == 62) || ends_after (brackets_after n b)
 by_test : {P : Type 0} (b : Bool) → (b ≡ true → P) → (b ≡ false → P) → P
 by_test true t f = t refl
 by_test false t f = f refl
-
-or_assoc : (x y z : Bool) → ((x || y) || z) ≡ (x || (y || z))
-or_assoc true y z = refl
-or_assoc false y z = refl
-
-or_none : (x : Bool) → (x || false) ≡ x
-or_none true = refl
-or_none false = refl
 
 returned-append : (r : Bool) (xs ys : List ℕ) → returned_after r (xs ++ ys) ≡ returned_after (returned_after r xs) ys
 returned-append r [] ys = refl
@@ -183,7 +176,7 @@ one_says r b e =
     (λ f. by_test (r && b == 10) (λ t. rw (f, t) refl) (λ g. rw (f, g, e) refl))
 
 character : (r : Bool) (n : ℕ) (held : List ℕ) (b : ℕ) → IsPending held → ends_character held b ≡ true → IsCharacter r n held b
-character r n [] b p e = record { returned = refl; counted = refl; ends = or_none (n == 2 && b == 62); says = one_says r b e }
+character r n [] b p e = record { returned = refl; counted = refl; ends = or-false (n == 2 && b == 62); says = one_says r b e }
 character r n (x ∷ xs) b p e =
     let last = last_high x xs b e in
     let high = high-append (x ∷ xs) b (pending_high (x ∷ xs) p) last in

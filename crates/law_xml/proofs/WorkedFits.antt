@@ -1,13 +1,11 @@
 -- What is written, and fits, at a stream that was worked out beforehand.
-use Rattle.std.proofs.Common.{◌≡◌, ℕ, true, List, [], ◌∷◌, Some, None, codes, refl, arith}
+use Rattle.std.proofs.Common.{◌≡◌, List, [], ◌∷◌, Some, None, codes, refl, arith}
 use Rattle.std.proofs.lemmas.List.Elements.{All-from_recursion}
-use Rattle.std.proofs.lemmas.Str.{IsUtf8-from_is_utf8}
 use Rattle.std.specs.List.{All}
 use Rattle.std.specs.List.Sorted.{IsStrictlySortedBy}
 use Rattle.std.specs.Str.{is_utf8, chars}
 use lib.Utf8.{encode}
 use Rattle.xml_tokens.specs.Characters.{are_characters}
-use Rattle.xml_tokens.specs.Lines.{IsCharacters}
 use Rattle.xml_tokens.specs.Spelling.{text_byte, value_byte}
 use Rattle.xml_names.specs.declared.headers.Header.{Header}
 use Rattle.xml_trees.specs.Attributes.{attribute}
@@ -21,7 +19,7 @@ use Rattle.xml_writer.specs.Canon.{assignment, canon, client_namespace, declared
 use Rattle.law_xml.specs.Fitting.{Fits, HeaderFits}
 use Rattle.law_xml.specs.Plain.{IsPlain, IsPlainHeader}
 use Rattle.law_xml.specs.WrittenStreams.{ItemFits, MayFollow}
-use Rattle.law_xml.proofs.SpelledNames.{differ}
+use Rattle.base_lemmas.proofs.Bytes.{other-from_bytes_eq}
 use Rattle.law_xml.proofs.HeaderLaws.{plain_literal as literal}
 
 abbrev opening : Header
@@ -51,32 +49,32 @@ message_plain : IsPlain message
 unfolding are_characters is_utf8 chars encode
 message_plain = record {
   inside = (
-    record { characters = literal client_namespace refl refl; name_is = record { characters = literal (codes "message") refl refl; is_name = refl }; not_xmlns = differ _ _ refl },
+    record { characters = literal client_namespace refl refl; name_is = record { characters = literal (codes "message") refl refl; is_name = refl }; not_xmlns = other-from_bytes_eq _ _ refl },
     (
       record {
         ns = literal (codes "u") refl refl;
         name = record { characters = literal (codes "k") refl refl; is_name = refl };
         value = literal (codes "<") refl refl;
-        not_xmlns = differ _ _ refl;
-        no_declaration = λ e. absurd (differ (codes "u") [] refl e);
+        not_xmlns = other-from_bytes_eq _ _ refl;
+        no_declaration = λ e. absurd (other-from_bytes_eq (codes "u") [] refl e);
       },
       tt,
     ),
     (
       (
-        record { characters = literal (codes "v") refl refl; name_is = record { characters = literal (codes "x") refl refl; is_name = refl }; not_xmlns = differ _ _ refl },
+        record { characters = literal (codes "v") refl refl; name_is = record { characters = literal (codes "x") refl refl; is_name = refl }; not_xmlns = other-from_bytes_eq _ _ refl },
         tt,
         (literal (codes "&") refl refl, tt),
       ),
       tt,
     ),
   );
-  no_header = λ n. differ client_namespace streams_namespace refl n.0;
+  no_header = λ n. other-from_bytes_eq client_namespace streams_namespace refl n.0;
 }
 
 message_tree : IsTree message
 unfolding IsStrictlySortedBy
-message_tree = ((tt, tt), ((tt, ((λ e. differ (codes "&") [] refl e), tt, tt)), tt))
+message_tree = ((tt, tt), ((tt, ((λ e. other-from_bytes_eq (codes "&") [] refl e), tt, tt)), tt))
 
 message_fits : Fits server_limits message
 unfolding assignment value_byte text_byte declared_default default_inside next_number number_text spelled_attribute spelled_name

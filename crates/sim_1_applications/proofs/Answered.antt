@@ -16,7 +16,7 @@ use Rattle.sim_1_applications.specs.Events.{number_or_none}
 use Rattle.sim_1_applications.specs.Events as events
 use Rattle.sim_1_applications.specs.Kept.{IsFront, IsPosition, IsAnswered, IsAt, IsOpen, IsPage, PageKept, AreLogged, request_of}
 use Rattle.sim_1_applications.proofs.Numbered.{requests_append, answers_append}
-use Rattle.sim_1_applications.proofs.Intervals.{next_of_page, not_found_next, new_after}
+use Rattle.sim_1_applications.proofs.Intervals.{next_of_page, not_found_next, new_after, some_left}
 use Rattle.sim_1_applications.proofs.Logs.{IsTaken, broken_after, run_after, taken, logged_then}
 
 -- the next stanza is the next one of the answer to the open page
@@ -113,10 +113,6 @@ reads_result x b page a n tail is answer split short =
     (both_true _ _ (eq-eqb page.number page.number refl) (lt-ltb (length page.results) page.max short))
     ∙ ap (λ o. events.quiet (record b { page = Some (record page { results = page.results ++ n ∷ []; answer = option_map events.passed o }) })) answer
     ∙ ap (λ zs. events.quiet (record b { page = Some (record page { results = page.results ++ n ∷ []; answer = Some (record a { rest = drop 1 zs }) }) })) split
-
-some_left : (xs : List Down) (z : Down) → xs ++ z ∷ [] ≢ []
-some_left [] z e = let bad : ⊥ = cc in bad
-some_left (x ∷ xs) z e = let bad : ⊥ = cc in bad
 
 -- A6 behind a result
 pub page_result : (keep : ℕ) (x : events.Around) (d : Device) (page : OpenPage) (a : Answer) (n : ℕ) (more : List ℕ) (rest tail : List Down) →

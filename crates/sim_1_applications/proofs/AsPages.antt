@@ -26,6 +26,9 @@ number_of e = e.number
 old_is : (keep last : ℕ) (kept : List EntryView) → length kept ≡ min last keep → purged last kept ≡ last - keep
 old_is keep last kept size = omega arith
 
+rest_of : (k m l size old : ℕ) → size ≡ min l k → old ≡ l - k → l - k ≤ m → m ≤ l → size - (m - old) ≡ l - m
+rest_of k m l size old is purged_is low high = omega arith
+
 -- the numbers of a cut behind n
 cut_numbers : (keep n last most : ℕ) (kept : List EntryView) → AreKept keep last kept → length kept ≡ min last keep → last - keep ≤ n → n ≤ last →
     map number_of (take most (kept_after n last kept)) ≡ following n (size n last most)
@@ -35,9 +38,6 @@ cut_numbers keep n last most kept known long low high =
     let follow : FollowFrom (suc n) (kept_after n last kept) = subst (λ k. FollowFrom k (kept_after n last kept)) first (follow_drop (n - purged last kept) (purged last kept + 1) kept (kept_follow keep last kept known)) in
     let many : length (kept_after n last kept) ≡ last - n = length-drop (n - purged last kept) kept ∙ rest_of keep n last (length kept) (purged last kept) long old low high in
     take_numbers number_of most n (last - n) (kept_after n last kept) (numbers_follow n (kept_after n last kept) follow ∙ ap (following n) many)
-  where
-    rest_of : (k m l size old : ℕ) → size ≡ min l k → old ≡ l - k → l - k ≤ m → m ≤ l → size - (m - old) ≡ l - m
-    rest_of k m l size old is purged_is low2 high2 = omega arith
 
 cut_stanzas : (keep n last most q : ℕ) (kept : List EntryView) → 1 ≤ keep → AreKept keep last kept → length kept ≡ min last keep → last - keep ≤ n → n ≤ last →
     map (Res q) (following n (size n last most)) ++ Fin q (nat_le (last - n) most) (last_in (following n (size n last most))) (last + 1 - first_of keep last) ∷ [] ≡ stanzas_of q (Some (cut_at n most last kept))
@@ -49,9 +49,6 @@ cut_stanzas keep n last most q kept some known long low high =
     ∙ ap (λ k. map (Res q) (map number_of (take most (kept_after n last kept))) ++ Fin q (nat_le k most) (last_in (map number_of (take most (kept_after n last kept)))) (last + 1 - first_of keep last) ∷ []) (sym many)
     ∙ ap (λ c. map (Res q) (map number_of (take most (kept_after n last kept))) ++ Fin q (nat_le (length (kept_after n last kept)) most) (last_in (map number_of (take most (kept_after n last kept)))) c ∷ []) count
   where
-    rest_of : (k m l size2 old2 : ℕ) → size2 ≡ min l k → old2 ≡ l - k → l - k ≤ m → m ≤ l → size2 - (m - old2) ≡ l - m
-    rest_of k m l size2 old2 is purged_is low2 high2 = omega arith
-
     counted : (k l size2 : ℕ) → 1 ≤ k → size2 ≡ min l k → l + 1 - (l - k + 1) ≡ size2
     counted k l size2 one is = omega arith
 

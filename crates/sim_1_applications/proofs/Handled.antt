@@ -2,7 +2,7 @@
 use Rattle.std.proofs.Common.{◌≡◌, ℕ, ◌+◌, ◌-◌, ◌<◌, ◌≤◌, ◌==◌, Bool, true, false, cond, List, [], ◌∷◌, ◌++◌, length, map, refl, sym, ap, ◌∙◌, subst, arith, append_assoc, inl, inr}
 use Rattle.std.specs.List.{flat_map, filter, AllByRecursion}
 use Rattle.std.specs.Prelude.{◌||◌, not, nat_le}
-use Rattle.std.proofs.lemmas.Bool.{cases_Bool, eqb-true, eq-eqb}
+use Rattle.std.proofs.lemmas.Bool.{cases_Bool, eqb-true, eq-eqb, or_parts, not-true}
 use Rattle.std.proofs.lemmas.List.{append-nil, length-append}
 use Rattle.std.proofs.lemmas.List.Concat.{flat_map-append}
 use Rattle.sim_1_applications.specs.Stanzas.{Down, requests, answers, lives}
@@ -10,7 +10,7 @@ use Rattle.sim_1_applications.specs.Stanzas.Down.{Accepted, Bounced, Live, Res, 
 use Rattle.sim_1_applications.specs.Devices.{Device, OpenPage, Answer, log_of}
 use Rattle.sim_1_applications.specs.Devices.Stage.{Known}
 use Rattle.sim_1_applications.specs.Answers.{is_position, edge, size}
-use Rattle.sim_1_applications.specs.Events.{number_or_none, is_number_among}
+use Rattle.sim_1_applications.specs.Events.{is_number_among}
 use Rattle.sim_1_applications.specs.Events as events
 use Rattle.sim_1_applications.specs.Kept.{PageKept, LogKept, AreLogged, AreApart}
 use Rattle.sim_1_applications.proofs.Numbered.{answers_append, lives_append}
@@ -19,7 +19,6 @@ use Rattle.sim_1_applications.proofs.Lists.{all_append, all_rest}
 use Rattle.sim_1_applications.proofs.Logs.{broken_after, run_after, logged_grows}
 use Rattle.sim_1_applications.proofs.Pages.{Quiet, page_quiet}
 use Rattle.sim_1_applications.proofs.Answered.{IsNext, Next, next_answer, Kind, AResult, AnEnd, NoPlace, kind_of, numbers_of, end_of, reads_result, page_result, page_restart, lost_position, reads_restart, ended, TakenThen, taken_then, end_is_read, page_end}
-use Rattle.sim_1_applications.proofs.Legal.{off as not_false}
 
 -- both
 pub record ReadKept (keep first last : ℕ) (d : Device) : Type 0 where
@@ -50,23 +49,11 @@ lives_rest P zs z rest split known = all_rest P (lives (z ∷ [])) (lives rest) 
 apart_push : (hs : List ℕ) (n : ℕ) → AreApart hs → is_number_among n hs ≡ false → AreApart (hs ++ n ∷ [])
 apart_push [] n apart new = (refl, tt)
 apart_push (h ∷ hs) n apart new =
-    (among_append h hs (n ∷ []) apart.0 (other (n == h) (h == n) (is_number_among n hs) new (λ e. eq-eqb n h (sym (eqb-true h n e)))), apart_push hs n apart.1 (second (n == h) (is_number_among n hs) new))
+    (among_append h hs (n ∷ []) apart.0 (other (n == h) (h == n) (is_number_among n hs) new (λ e. eq-eqb n h (sym (eqb-true h n e)))), apart_push hs n apart.1 ((or_parts (n == h) (is_number_among n hs) new).1))
   where
-    second : (b c : Bool) → (b || c) ≡ false → c ≡ false
-    second true c e = absurd (let bad : ⊥ = cc in bad)
-    second false c e = e
-
     other : (b b2 c : Bool) → (b || c) ≡ false → (b2 ≡ true → b ≡ true) → (b2 || false) ≡ false
     other b true c e same = absurd (let was : b ≡ true = same refl in let f : (b || c) ≡ true = ap (λ e2. e2 || c) was in let bad : ⊥ = cc in bad)
     other b false c e same = refl
-
-or_first : (b c : Bool) → (b || c) ≡ false → b ≡ false
-or_first true c e = absurd (let bad : ⊥ = cc in bad)
-or_first false c e = refl
-
-or_second : (b c : Bool) → (b || c) ≡ false → c ≡ false
-or_second true c e = absurd (let bad : ⊥ = cc in bad)
-or_second false c e = e
 
 read_quiet : (keep : ℕ) (x : events.Around) (z : Down) (rest : List Down) (d : Device) → d.sessions.now.down_rest ≡ z ∷ rest → answers (z ∷ []) ≡ [] →
     ReadKept keep x.first x.last d → ReadKept keep x.first x.last (events.reacted (events.quiet d.reading) z rest d)
@@ -87,12 +74,12 @@ read_live keep x n rest d split kept =
         apart = elim (cases_Bool (events.holds n d.reading)) [
           | inl skip ↦ subst AreApart (sym (ap (λ b. cond b d.reading.held (d.reading.held ++ n ∷ [])) skip)) kept.log.apart
           | inr new ↦ subst AreApart (sym (ap (λ b. cond b d.reading.held (d.reading.held ++ n ∷ [])) new))
-              (apart_push d.reading.held n kept.log.apart (or_second _ _ (or_first _ _ new)))
+              (apart_push d.reading.held n kept.log.apart ((or_parts _ _ ((or_parts _ _ new).0)).1))
         ];
         held = elim (cases_Bool (events.holds n d.reading)) [
           | inl skip ↦ subst (AllByRecursion _) (sym (ap (λ b. cond b d.reading.held (d.reading.held ++ n ∷ [])) skip)) kept.log.held
           | inr new ↦ subst (AllByRecursion _) (sym (ap (λ b. cond b d.reading.held (d.reading.held ++ n ∷ [])) new))
-              (all_append (λ h. (is_number_among h (log_of d.reading) ≡ false) × (1 ≤ h) × (h ≤ x.last)) d.reading.held (n ∷ []) kept.log.held ((or_first _ _ (or_first _ _ new), known.0.0, known.0.1), tt))
+              (all_append (λ h. (is_number_among h (log_of d.reading) ≡ false) × (1 ≤ h) × (h ≤ x.last)) d.reading.held (n ∷ []) kept.log.held (((or_parts _ _ ((or_parts _ _ new).0)).0, known.0.0, known.0.1), tt))
         ];
         live = known.1;
       };
@@ -146,15 +133,15 @@ held_filtered log results last (h ∷ hs) known = chosen (not (is_number_among h
 
     chosen : (b : Bool) → not (is_number_among h results) ≡ b → AllByRecursion (λ n. (is_number_among n (log ++ results) ≡ false) × (1 ≤ n) × (n ≤ last)) (filter (λ n. not (is_number_among n results)) hs) →
         AllByRecursion (λ n. (is_number_among n (log ++ results) ≡ false) × (1 ≤ n) × (n ≤ last)) (cond b (h ∷ filter (λ n. not (is_number_among n results)) hs) (filter (λ n. not (is_number_among n results)) hs))
-    chosen true is others = ((among_append h log results known.0.0 (not_false (is_number_among h results) is), known.0.1, known.0.2), others)
+    chosen true is others = ((among_append h log results known.0.0 (not-true (is_number_among h results) is), known.0.1, known.0.2), others)
     chosen false is others = others
 
 filtered_none : (n : ℕ) (p : ℕ → Bool) (hs : List ℕ) → is_number_among n hs ≡ false → is_number_among n (filter p hs) ≡ false
 filtered_none n p [] none = refl
-filtered_none n p (h ∷ hs) none = chosen (p h) (filtered_none n p hs (or_second (n == h) _ none))
+filtered_none n p (h ∷ hs) none = chosen (p h) (filtered_none n p hs ((or_parts (n == h) _ none).1))
   where
     chosen : (b : Bool) → is_number_among n (filter p hs) ≡ false → is_number_among n (cond b (h ∷ filter p hs) (filter p hs)) ≡ false
-    chosen true others = ap (λ c. c || is_number_among n (filter p hs)) (or_first (n == h) _ none) ∙ others
+    chosen true others = ap (λ c. c || is_number_among n (filter p hs)) ((or_parts (n == h) _ none).0) ∙ others
     chosen false others = others
 
 apart_filtered : (p : ℕ → Bool) (hs : List ℕ) → AreApart hs → AreApart (filter p hs)

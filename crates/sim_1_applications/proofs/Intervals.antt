@@ -1,7 +1,7 @@
 -- Numbers in a row, and an answer's stanzas one after the other.
 use Rattle.std.proofs.Common.{◌≡◌, ℕ, suc, zero, ◌+◌, ◌<◌, ◌≤◌, ◌≢◌, ◌==◌, Bool, true, false, cond, List, [], ◌∷◌, ◌++◌, Option, Some, length, map, take, refl, sym, ap, ◌∙◌, arith, inl, inr, ◌⊎◌}
 use Rattle.std.specs.Prelude.{◌&&◌, ◌||◌, not}
-use Rattle.std.proofs.lemmas.Bool.{eqb-true, false_from_ne_true}
+use Rattle.std.proofs.lemmas.Bool.{or_from, ne_eqb}
 use Rattle.sim_1_applications.specs.Stanzas.{Request, Down, answers}
 use Rattle.sim_1_applications.specs.Stanzas.Down.{Accepted, Bounced, Live, Res, Fin, NotFound}
 use Rattle.sim_1_applications.specs.Answers.{following, last_in, size, edge, is_position, page_from, page_answer_of}
@@ -21,17 +21,11 @@ pub last_after : (n k : ℕ) → last_in (following n (suc k)) ≡ Some (n + suc
 last_after n zero = (let e : suc n ≡ n + suc zero = omega arith in ap Some e)
 last_after n (suc k) = last_after (suc n) k ∙ (let e : suc n + suc k ≡ n + suc (suc k) = omega arith in ap Some e)
 
-different : (m n : ℕ) → m ≢ n → (m == n) ≡ false
-different m n other = false_from_ne_true (m == n) (λ h. other (eqb-true m n h))
-
-or_false : (a b : Bool) → a ≡ false → b ≡ false → (a || b) ≡ false
-or_false a b first second = ap (λ c. c || b) first ∙ second
-
 -- above a list of numbers, or below
 pub none_among : (m n k : ℕ) → (m ≤ n) ⊎ (n + k < m) → is_number_among m (following n k) ≡ false
 none_among m n zero apart = refl
-none_among m n (suc k) (inl low) = or_false (m == suc n) _ (different m (suc n) (λ e. omega arith)) (none_among m (suc n) k (inl (omega arith)))
-none_among m n (suc k) (inr high) = or_false (m == suc n) _ (different m (suc n) (λ e. omega arith)) (none_among m (suc n) k (inr (omega arith)))
+none_among m n (suc k) (inl low) = or_from (m == suc n) _ (ne_eqb m (suc n) (λ e. omega arith)) (none_among m (suc n) k (inl (omega arith)))
+none_among m n (suc k) (inr high) = or_from (m == suc n) _ (ne_eqb m (suc n) (λ e. omega arith)) (none_among m (suc n) k (inr (omega arith)))
 
 pub among_append : (m : ℕ) (a b : List ℕ) → is_number_among m a ≡ false → is_number_among m b ≡ false → is_number_among m (a ++ b) ≡ false
 among_append m [] b first second = second
@@ -47,7 +41,7 @@ pub new_after : (log : List ℕ) (n k : ℕ) → ((m : ℕ) → n < m → is_num
 new_after log n zero above = refl
 new_after log n (suc k) above =
     both (is_number_among (suc n) log) _ (above (suc n) (omega arith))
-    (new_after (suc n ∷ log) (suc n) k (λ m high. or_false (m == suc n) _ (different m (suc n) (λ e. omega arith)) (above m (omega arith))))
+    (new_after (suc n ∷ log) (suc n) k (λ m high. or_from (m == suc n) _ (ne_eqb m (suc n) (λ e. omega arith)) (above m (omega arith))))
   where
     both : (c e : Bool) → c ≡ false → e ≡ true → (not c && e) ≡ true
     both true e wrong known = absurd (let none : ⊥ = cc in none)
@@ -91,15 +85,15 @@ none_taken (suc k) (Res q n ∷ zs) none = absurd (let wrong : Res q n ∷ answe
 none_taken (suc k) (Fin q c l t ∷ zs) none = absurd (let wrong : Fin q c l t ∷ answers zs ≡ [] = none in let bad : ⊥ = cc in bad)
 none_taken (suc k) (NotFound q ∷ zs) none = absurd (let wrong : NotFound q ∷ answers zs ≡ [] = none in let bad : ⊥ = cc in bad)
 
+pub some_left : (xs : List Down) (z : Down) → xs ++ z ∷ [] ≢ []
+some_left [] z e = let bad : ⊥ = cc in bad
+some_left (x ∷ xs) z e = let bad : ⊥ = cc in bad
+
 pub answer_some : (first last : ℕ) (r : Request) → page_answer_of first last r ≢ []
 answer_some first last r = chosen (is_position first last r.after)
   where
-    some : (a : List Down) (z : Down) → a ++ z ∷ [] ≢ []
-    some [] z e = let none : ⊥ = cc in none
-    some (x ∷ a) z e = let none : ⊥ = cc in none
-
     chosen : (b : Bool) → cond b (page_from (edge first r.after) first last r) (NotFound r.number ∷ []) ≢ []
-    chosen true = some (map (Res r.number) (following (edge first r.after) (size (edge first r.after) last r.max))) (Fin r.number _ _ _)
+    chosen true = some_left (map (Res r.number) (following (edge first r.after) (size (edge first r.after) last r.max))) (Fin r.number _ _ _)
     chosen false = λ e. let none : ⊥ = cc in none
 
 -- what stands next in an answer: a result and more, or the end

@@ -46,14 +46,18 @@ use Rattle.sim_1_applications.specs.Runs.{IsRunOf, LineRun, begins, events_in, m
 
 -- What is known of the last state.
 
-keeps_some : (version : Version) → IsTrue (may_keep version) → 1 ≤ keep_of version
+pub keeps_some : (version : Version) → IsTrue (may_keep version) → 1 ≤ keep_of version
 keeps_some One may = omega arith
 keeps_some (Two keep) may = leb-true 1 keep (and_parts _ _ may).0
 
 pub standing : (s : WireView) (worlds : List ReportWorld) (r : ReportView) → IsRunOf s worlds r → AreStanding [] (steps_in s)
 standing s worlds r run = wire_stand [] nothing_above s.lines refl run.right.lines
 
-home_at : (owned : List Owned) (i : ℕ) (o : Owned) → slice_get owned i ≡ Some o → slice_get (new_devices (map (λ (p : Owned). p.account) owned)) i ≡ Some (new_device o.account)
+pub tiles_many : (keep : ℕ) (history : List EntryView) (ts : List Tile) (numbers : List ℕ) → length (map page_line (pages_with keep history ts numbers)) ≡ length ts
+tiles_many keep history [] numbers = refl
+tiles_many keep history (t ∷ ts) numbers = ap suc (tiles_many keep history ts (drop t.count numbers))
+
+pub home_at : (owned : List Owned) (i : ℕ) (o : Owned) → slice_get owned i ≡ Some o → slice_get (new_devices (map (λ (p : Owned). p.account) owned)) i ≡ Some (new_device o.account)
 home_at [] i o at = absurd (none-some o at)
 home_at (p ∷ owned) zero o at = ap (λ (q : Owned). Some (new_device q.account)) (same_Some p o at)
 home_at (p ∷ owned) (suc i) o at = home_at owned i o at
@@ -246,10 +250,6 @@ device_paged s worlds r run i line at =
           let here : IsShown (owned_of s) run.last shown = subst (λ v. IsShown (owned_of s) v shown) (sym last) is in
           ap (λ name. length (shown.pages name)) at.is.name ∙ here.pages i at.o at.d at.owner at.device ∙ sym (tiles_many (keep_of s.version) (history_at (owned_of s) run.last.takes at.o.account) at.d.reading.tiles _) ∙ sym (ap length at.is.pages));
     }
-  where
-    tiles_many : (keep : ℕ) (history : List EntryView) (ts : List Tile) (numbers : List ℕ) → length (map page_line (pages_with keep history ts numbers)) ≡ length ts
-    tiles_many keep history [] numbers = refl
-    tiles_many keep history (t ∷ ts) numbers = ap suc (tiles_many keep history ts (drop t.count numbers))
 
 -- The laws.
 

@@ -3,7 +3,7 @@ use Rattle.std.proofs.Common.{◌≡◌, ◌≢◌, length, refl, ap, List, [], 
 use Rattle.std.specs.Prelude.{◌&&◌, not, nat_le}
 use Rattle.std.specs.List.{slice_get}
 use Rattle.std.specs.Option.{option_map_or}
-use Rattle.std.proofs.lemmas.Bool.{leb-true}
+use Rattle.std.proofs.lemmas.Bool.{leb-true, not-true}
 use Rattle.sim_1_applications.specs.Devices.{AppWorld, Device, OpenPage, Stage, Row}
 use Rattle.sim_1_applications.specs.Devices.Stage.{Named, Counted, Known}
 use Rattle.sim_1_applications.specs.Devices.Row.{NoRow, Unread, Present}
@@ -46,10 +46,6 @@ both : (b c : Bool) → (b && c) ≡ true → (b ≡ true) × (c ≡ true)
 both true c e = (refl, e)
 both false c e = absurd (let bad : ⊥ = cc in bad)
 
-pub off : (b : Bool) → not b ≡ true → b ≡ false
-off true e = absurd (let bad : ⊥ = cc in bad)
-off false e = refl
-
 present : (r : Row) → is_present r ≡ true → r ≡ Present
 present NoRow e = absurd (let bad : ⊥ = cc in bad)
 present Unread e = absurd (let bad : ⊥ = cc in bad)
@@ -86,10 +82,10 @@ no_page (Some page) e = absurd (let bad : ⊥ = cc in bad)
 
 may_is : (act : Act) (d : Device) → may act d ≡ true → May act d
 may_is Bind d e = tt
-may_is (ReadBound true) d e = let p = both _ _ e in (off _ p.0, unread _ p.1)
-may_is (ReadBound false) d e = let p = both _ _ e in (off _ p.0, absent _ p.1)
+may_is (ReadBound true) d e = let p = both _ _ e in (not-true _ p.0, unread _ p.1)
+may_is (ReadBound false) d e = let p = both _ _ e in (not-true _ p.0, absent _ p.1)
 may_is Enable d e = let p = both _ _ e in (present _ p.0, named _ p.1)
-may_is ReadEnabled d e = let p = both _ _ e in (off _ p.0, counted _ p.1)
+may_is ReadEnabled d e = let p = both _ _ e in (not-true _ p.0, counted _ p.1)
 may_is End d e = tt
 may_is Drop d e = tt
 may_is (Acknowledge n) d e = let p = both _ _ e in let q = both _ _ p.1 in (p.0, leb-true _ _ q.0, leb-true _ _ q.1)

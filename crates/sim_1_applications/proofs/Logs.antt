@@ -1,8 +1,8 @@
 -- A7: the log with the results of a page.
-use Rattle.std.proofs.Common.{◌≡◌, ℕ, suc, zero, ◌+◌, ◌-◌, ◌<◌, ◌≤◌, Bool, true, false, cond, List, [], ◌∷◌, ◌++◌, Option, Some, None, length, refl, sym, ap, ◌∙◌, subst, arith, inl, inr}
+use Rattle.std.proofs.Common.{◌≡◌, ℕ, suc, zero, ◌+◌, ◌-◌, ◌<◌, ◌≤◌, true, false, cond, List, [], ◌∷◌, ◌++◌, Option, Some, None, length, refl, sym, ap, ◌∙◌, subst, arith, inl, inr}
 use Rattle.std.specs.List.{slice_get, flat_map}
 use Rattle.std.specs.Prelude.{◌&&◌, nat_le}
-use Rattle.std.proofs.lemmas.Bool.{leb-true}
+use Rattle.std.proofs.lemmas.Bool.{leb-true, and_parts}
 use Rattle.std.proofs.lemmas.List.{length-append}
 use Rattle.sim_1_applications.specs.Devices.{first_of}
 use Rattle.sim_1_applications.specs.Answers.{following, last_in, is_position, edge, size}
@@ -140,11 +140,7 @@ taken keep first last afirst alast max broken (n ∷ run) (Some m) known positio
     ]
   where
     within_position : (nat_le afirst m && nat_le m alast) ≡ true → m ≤ alast
-    within_position e = leb-true m alast (second (nat_le afirst m) (nat_le m alast) e)
-      where
-        second : (b c : Bool) → (b && c) ≡ true → c ≡ true
-        second true c e2 = e2
-        second false c e2 = absurd (let bad : ⊥ = cc in bad)
+    within_position e = leb-true m alast ((and_parts (nat_le afirst m) (nat_le m alast) e).1)
 taken keep first last afirst alast max broken (n ∷ run) None known position is begun some most low high =
     anew (size (afirst - 1) alast max) refl
   where

@@ -1,14 +1,13 @@
 -- Devices by their places and by their names, which differ.
 use Rattle.std.proofs.Common.{◌≡◌, ◌≢◌, ℕ, zero, suc, ◌<◌, ◌==◌, true, false, List, [], ◌∷◌, ◌++◌, Some, length, map, refl, sym, ap, ◌∙◌, subst, arith, inl, inr}
-use Rattle.std.proofs.lemmas.Bool.{cases_Bool, false≢true, or_parts}
+use Rattle.std.proofs.lemmas.Bool.{or_parts}
 use Rattle.std.proofs.lemmas.Bool.Decides.{eqb_tells}
 use Rattle.std.proofs.lemmas.List.Folds.{list_any-append}
 use Rattle.std.proofs.lemmas.Option.{none-some, same_Some}
-use Rattle.std.proofs.lemmas.Slice.Eq.{bytes_eq-Decides}
 use Rattle.std.specs.List.{AllByRecursion, slice_get}
 use Rattle.std.specs.Str.{bytes_eq}
 use Rattle.mam_archive.specs.Entries.{EntryView}
-use Rattle.base_lemmas.proofs.Bytes.{bytes_eq-self}
+use Rattle.base_lemmas.proofs.Bytes.{bytes_eq-self, bytes_eq-from_other, other-from_bytes_eq}
 use Rattle.base_lemmas.proofs.Lists.{AllByRecursion-weaker}
 use Rattle.base_io.specs.Names.{is_among}
 use Rattle.cmd_report.specs.Lawful.{EachPair, device_named}
@@ -77,19 +76,12 @@ name_differs first [] j others within = absurd (omega arith)
 name_differs first (p ∷ owned) zero others within = others.0
 name_differs first (p ∷ owned) (suc j) others within = name_differs first owned j others.1 (omega arith)
 
-other_way : (a b : List ℕ) → bytes_eq a b ≡ false → bytes_eq b a ≡ false
-other_way a b differs =
-    elim (cases_Bool (bytes_eq b a)) [
-      | inl same ↦ absurd (let equal : b ≡ a = (bytes_eq-Decides b a).0 same in false≢true (sym differs ∙ ap (bytes_eq a) equal ∙ bytes_eq-self a))
-      | inr other ↦ other
-    ]
-
 pub name_other : (owned : List Owned) (i j : ℕ) (o : Owned) → Differ (names_of owned) → slice_get owned i ≡ Some o → j < length owned → j ≢ i → bytes_eq o.device (name_at owned j) ≡ false
 name_other [] i j o differ at within other = absurd (omega arith)
 name_other (p ∷ owned) zero zero o differ at within other = absurd (other refl)
 name_other (p ∷ owned) zero (suc j) o differ at within other =
     ap (λ (q : Owned). bytes_eq q.device (name_at owned j)) (sym (same_Some p o at))
-    ∙ other_way (name_at owned j) p.device (name_differs p.device owned j differ.0 (omega arith))
+    ∙ bytes_eq-from_other p.device (name_at owned j) (λ same. other-from_bytes_eq (name_at owned j) p.device (name_differs p.device owned j differ.0 (omega arith)) (sym same))
 name_other (p ∷ owned) (suc i) zero o differ at within other =
     ap (λ name. bytes_eq name p.device) (sym (name_is owned i o at)) ∙ name_differs p.device owned i differ.0 (within_of owned i o at)
   where

@@ -201,22 +201,16 @@ oldest_number keep history d line k first p follow a at after number =
     let gone = purged_number keep history d line k p a at after in
     let s = start_of keep n (turn_of a.t) in
     let same : first ≡ suc s =
-    first_number_is s first (lines_of_page k line) (span s (end_of keep n (turn_of a.t)) history) (start_small keep n a.t.given a.within a.small) (ids_of_page keep history d line k a)
+    first_number_is s first (lines_of_page k line) (span s (end_of keep n (turn_of a.t)) history) (let within = a.within in let small = a.small in omega arith) (ids_of_page keep history d line k a)
     (follow_span s (end_of keep n (turn_of a.t)) history follow) number in
     starts keep n first a.t.given gone same
   where
-    start_small : (k2 m last : ℕ) → m ≤ last → last ≤ 4294967295 → max m (last - k2) ≤ 4294967295
-    start_small k2 m last low small = omega arith
-
     starts : (k2 m one last : ℕ) → m ≤ last - k2 → one ≡ suc (max m (last - k2)) → one ≡ suc (last - k2)
     starts k2 m one last gone same = omega arith
 
 -- the end of a page is no greater than the archive's last number
 end_within : (keep n : ℕ) (t : Turn) → end_of keep n t ≤ t.last
-end_within keep n t = least (start_of keep n t + t.most) t.last
-  where
-    least : (a b : ℕ) → min a b ≤ b
-    least a b = omega arith
+end_within keep n t = omega arith
 
 distinct_lines : (keep : ℕ) (history : List EntryView) (turns : List Turn) → 1 ≤ keep → AreRising 0 (length history) turns → FollowFrom 1 history → length history ≤ 4294967295 →
     EachPair (λ a b. a.entry.id ≢ b.entry.id) (logged_from 0 (pages_by keep history 0 turns))

@@ -18,16 +18,9 @@ use Rattle.cmd_report.specs.declared.report.LoggedLine.{LoggedLine}
 use Rattle.cmd_report.specs.declared.report.PageLine.{PageLine}
 use Rattle.cmd_schedule.proofs.Lists.{all_append, all_map, all_of}
 
--- where nothing is purged, turns go on where the log ends
-start_is : (keep n : ℕ) (turn : Turn) → turn.last ≤ keep → start_of keep n turn ≡ n
-start_is keep n turn wide = omega arith
-
 -- the log ends where the turn does
 ends_there : {c n s k m t : ℕ} → c ≡ n → s ≡ n → k ≡ m → s + m ≡ t → c + k ≡ t
 ends_there is same size whole = omega arith
-
-top_within : {last high keep : ℕ} → last ≤ high → high ≤ keep → last ≤ keep
-top_within top wide = omega arith
 
 pub prefix_run : (keep n low high : ℕ) (history : List EntryView) (turns : List Turn) → 1 ≤ keep → high ≤ keep → n ≤ low → AreRising low high turns →
     high ≤ length history → FollowFrom 1 history → run_by keep history n turns ≡ span n (ends_at keep n turns) history
@@ -36,7 +29,8 @@ prefix_run keep n low high history (turn ∷ turns) some wide within rise long f
     let t = end_of keep n turn in
     let top = rising_bounds turn.last high turns rise.2 in
     let go = goes keep n low high history turn some within rise.0 rise.1 top long follow in
-    let same : start_of keep n turn ≡ n = start_is keep n turn (top_within top wide) in
+    let within_kept : turn.last ≤ keep = omega arith in
+    let same : start_of keep n turn ≡ n = omega arith in
     let bounds = ends_bounds keep t turn.last high turns some go.within rise.2 in
     ap (λ k. span k t history ++ run_by keep history t turns) same
     ∙ ap (λ es. span n t history ++ es) (prefix_run keep t turn.last high history turns some wide go.within rise.2 long follow)
@@ -47,9 +41,6 @@ prefix_run keep n low high history (turn ∷ turns) some wide within rise long f
 after_is : (n old : ℕ) → old ≡ 0 → cond (leb n old) None (Some (id_of n)) ≡ id_after n
 after_is zero old none = let test : leb zero old ≡ true = le-leb zero old (omega arith) in rw test refl
 after_is (suc n) old none = let test : leb (suc n) old ≡ false = lt-leb (suc n) old (omega arith) in rw test refl
-
-nothing_purged : (keep n : ℕ) (turn : Turn) → turn.last ≤ keep → turn.last - keep ≡ 0
-nothing_purged keep n turn wide = omega arith
 
 no_break : (n : ℕ) → is_break n (id_after n) ≡ false
 no_break zero = refl
@@ -68,10 +59,11 @@ unbroken_turns keep n low high c history (turn ∷ turns) some wide within rise 
     let go = goes keep n low high history turn some within rise.0 rise.1 top long follow in
     let entries = span (start_of keep n turn) t history in
     let after = cond (leb n (turn.last - keep)) None (Some (id_of n)) in
-    let given : after ≡ id_after n = after_is n (turn.last - keep) (nothing_purged keep n turn (top_within top wide)) in
+    let given : after ≡ id_after n = after_is n (turn.last - keep) (omega arith) in
     let joined : is_break c after ≡ false = ap (is_break c) given ∙ ap (λ k. is_break k (id_after n)) is ∙ no_break n in
     let size : length (map as_logged entries) ≡ length entries = length-map entries as_logged in
-    let same : start_of keep n turn ≡ n = start_is keep n turn (top_within top wide) in
+    let within_kept : turn.last ≤ keep = omega arith in
+    let same : start_of keep n turn ≡ n = omega arith in
     let next : c + length (map as_logged entries) ≡ t = ends_there is same size go.whole in
     all_append (λ l. l.broken ≡ false) (logged_after (is_break c after) (map as_logged entries)) (logged_from (c + length (map as_logged entries)) (pages_by keep history t turns))
     (unbroken_after (is_break c after) (map as_logged entries) joined)
@@ -96,7 +88,7 @@ whole_total : (keep n : ℕ) (turn : Turn) (count many : ℕ) → 1 ≤ keep →
     leb (turn.last - start_of keep n turn) turn.most ≡ true → min turn.last keep ≡ many + count
 whole_total keep n turn count many some within wide before size complete =
     let end : end_of keep n turn ≡ turn.last = complete_end keep n turn some within complete in
-    let start : start_of keep n turn ≡ n = start_is keep n turn wide in
+    let start : start_of keep n turn ≡ n = omega arith in
     let all_kept : min turn.last keep ≡ turn.last = omega arith in
     let pieces : count ≡ turn.last - n = size ∙ ap (λ t. t - start_of keep n turn) end ∙ ap (λ s. turn.last - s) start in
     all_kept ∙ summed within before pieces
@@ -121,13 +113,14 @@ tiles_one keep n low high history (turn ∷ turns) before some wide within rise 
     let size : length lines ≡ length (map as_logged entries) = length_after broken (map as_logged entries) in
     let mapped : length (map as_logged entries) ≡ length entries = length-map entries as_logged in
     let whole : length (before ++ lines) ≡ length before + length (map as_logged entries) = length-append before lines ∙ ap (λ k. length before + k) size in
-    let same : s ≡ n = start_is keep n turn (top_within top wide) in
+    let within_kept : turn.last ≤ keep = omega arith in
+    let same : s ≡ n = omega arith in
     let next : length (before ++ lines) ≡ t = whole ∙ ends_there many same mapped go.whole in
     let later : AreTiles (before ++ lines) (map page_line pages) (logged_from (length (before ++ lines)) pages) =
     tiles_one keep t turn.last high history turns (before ++ lines) some wide go.within rise.2 long follow (last_after keep n history turn broken before go known) next in
     tile_step before lines (logged_from (length before + length (map as_logged entries)) pages) (page_line page) (map page_line pages) size
-    (after_is n (turn.last - keep) (nothing_purged keep n turn (top_within top wide)) ∙ sym known)
+    (after_is n (turn.last - keep) (omega arith) ∙ sym known)
     (λ partial. some_count (mapped ∙ go.size) (partial_some keep n turn rise.1 (total_partial page.complete page.total partial)))
     (total_if page.complete page.total (λ total. total ≡ length before + length (map as_logged entries))
-    (λ complete. whole_total keep n turn (length (map as_logged entries)) (length before) some go.inside (top_within top wide) many (mapped ∙ go.size) complete))
+    (λ complete. whole_total keep n turn (length (map as_logged entries)) (length before) some go.inside (omega arith) many (mapped ∙ go.size) complete))
     (subst (λ c. AreTiles (before ++ lines) (map page_line pages) (logged_from c pages)) whole later)

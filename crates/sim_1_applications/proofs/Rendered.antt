@@ -1,5 +1,5 @@
 -- The pages that a device took over, by turns: each is one page of an archive that had given a last number.
-use Rattle.std.proofs.Common.{◌≡◌, ◌≢◌, ℕ, zero, suc, ◌+◌, ◌-◌, ◌<◌, ◌≤◌, ◌==◌, ◌^◌, min, Bool, true, false, cond, leb, List, [], ◌∷◌, ◌++◌, Option, Some, None, is_some, length, take, drop, map, refl, sym, ap, ◌∙◌, arith, inl, inr}
+use Rattle.std.proofs.Common.{◌≡◌, ◌≢◌, ℕ, zero, suc, ◌+◌, ◌-◌, ◌<◌, ◌≤◌, ◌==◌, ◌^◌, min, Bool, true, false, cond, leb, List, [], ◌∷◌, ◌++◌, Option, Some, None, is_some, length, take, drop, map, refl, sym, ap, ◌∙◌, arith, inl, inr, le_trans}
 use Rattle.std.proofs.lemmas.Bool.{cases_Bool, eq-eqb, false_from_ne_true, false≢true, or_parts}
 use Rattle.std.proofs.lemmas.List.{drop_at, length-map, map-append, take_at}
 use Rattle.std.proofs.lemmas.Option.{none-some, same_Some}
@@ -21,9 +21,9 @@ use Rattle.cmd_schedule.specs.Contents.{Owned}
 use Rattle.sim_1_applications.proofs.Intervals.{length_after}
 use Rattle.sim_1_applications.specs.Answers.{following}
 use Rattle.sim_1_applications.specs.Devices as sessions
-use Rattle.sim_1_applications.specs.Devices.{Reading, Tile, last_of, log_of}
+use Rattle.sim_1_applications.specs.Devices.{Reading, Tile, last_of}
 use Rattle.sim_1_applications.specs.Events.{is_number_among}
-use Rattle.sim_1_applications.specs.Kept.{AreTiles, IsTile, TilesKept, numbers_by}
+use Rattle.sim_1_applications.specs.Kept.{AreTiles, TilesKept, numbers_by}
 use Rattle.sim_1_applications.specs.Kept as kept
 use Rattle.sim_1_applications.specs.Reported.{entries_at, history_at, page_with, pages_of, pages_with, take_of}
 
@@ -123,23 +123,14 @@ pages_rendered keep n low high history (t ∷ ts) some below known long follow =
     let s = start_of keep n (turn_of t) in
     let e = end_of keep n (turn_of t) in
     let rest = numbers_by keep e ts in
-    let within : n ≤ t.given = through below tile.asked tile.answered in
+    let within : n ≤ t.given = le_trans (le_trans below tile.asked) tile.answered in
     let top : t.last ≤ high = tiles_within keep e t.last high ts known.1 in
     let bounds = turn_bounds keep n (turn_of t) some tile.some within in
     let size : length (following s (e - s)) ≡ t.count = length_after s (e - s) ∙ sym tile.count in
-    let page = page_rendered keep n high history t (following s (e - s) ++ rest) rest some within tile.some (three tile.over top long) follow tile.after tile.count tile.total refl in
+    let page = page_rendered keep n high history t (following s (e - s) ++ rest) rest some within tile.some (le_trans (le_trans tile.over top) long) follow tile.after tile.count tile.total refl in
     ap (λ p. p ∷ pages_with keep history ts (drop t.count (following s (e - s) ++ rest))) page
     ∙ ap (λ ns. page_by keep history n (turn_of t) ∷ pages_with keep history ts ns) (drop_at (following s (e - s)) rest t.count size)
-    ∙ ap (λ ps. page_by keep history n (turn_of t) ∷ ps) (pages_rendered keep e t.last high history ts some (two bounds.2 tile.over) known.1 long follow)
-  where
-    through : {a b c d : ℕ} → a ≤ b → b ≤ c → c ≤ d → a ≤ d
-    through first second third = omega arith
-
-    three : {a b c d : ℕ} → a ≤ b → b ≤ c → c ≤ d → a ≤ d
-    three first second third = omega arith
-
-    two : {a b c : ℕ} → a ≤ b → b ≤ c → a ≤ c
-    two first second = omega arith
+    ∙ ap (λ ps. page_by keep history n (turn_of t) ∷ ps) (pages_rendered keep e t.last high history ts some (le_trans bounds.2 tile.over) known.1 long follow)
 
 pub turns_rise : (keep n low high : ℕ) (ts : List Tile) → AreTiles keep n low high ts → AreRising low high (turns_of ts)
 turns_rise keep n low high [] known = known
@@ -172,22 +163,16 @@ run_numbers keep n low high history (t ∷ ts) some below known long follow =
     let tile = known.0 in
     let s = start_of keep n (turn_of t) in
     let e = end_of keep n (turn_of t) in
-    let within : n ≤ t.given = through below tile.asked tile.answered in
+    let within : n ≤ t.given = le_trans (le_trans below tile.asked) tile.answered in
     let top : t.last ≤ high = tiles_within keep e t.last high ts known.1 in
     let bounds = turn_bounds keep n (turn_of t) some tile.some within in
     let size : length (span s e history) ≡ e - s = length_span s e history (four bounds.2 tile.over top long) in
     map-append number_of (span s e history) (run_by keep history e (turns_of ts))
     ∙ ap (λ ns. ns ++ map number_of (run_by keep history e (turns_of ts))) (numbers_follow s (span s e history) (follow_span s e history follow) ∙ ap (following s) size)
-    ∙ ap (λ ns. following s (e - s) ++ ns) (run_numbers keep e t.last high history ts some (two bounds.2 tile.over) known.1 long follow)
+    ∙ ap (λ ns. following s (e - s) ++ ns) (run_numbers keep e t.last high history ts some (le_trans bounds.2 tile.over) known.1 long follow)
   where
-    through : {a b c d : ℕ} → a ≤ b → b ≤ c → c ≤ d → a ≤ d
-    through first second third = omega arith
-
     four : {a b c d e : ℕ} → a ≤ b → b ≤ c → c ≤ d → d ≤ e → a ≤ e
     four first second third fourth = omega arith
-
-    two : {a b c : ℕ} → a ≤ b → b ≤ c → a ≤ c
-    two first second = omega arith
 
 ids_differ : (m n : ℕ) → m < 2 ^ 64 → n < 2 ^ 64 → (m == n) ≡ false → bytes_eq (id_of m) (id_of n) ≡ false
 ids_differ m n small few other =

@@ -1,7 +1,7 @@
 -- The number of a device's last request stays at an event, or rises by one; and a device is there before an event where
 -- it is there behind it.
-use Rattle.std.proofs.Common.{◌≡◌, ◌≢◌, ◌⊎◌, ℕ, ◌+◌, ◌≤◌, ◌==◌, Bool, true, false, cond, List, [], ◌∷◌, ◌++◌, Some, refl, sym, ap, ◌∙◌, subst, arith, inl, inr}
-use Rattle.std.proofs.lemmas.Bool.{cases_Bool, eq-eqb, true≢false}
+use Rattle.std.proofs.Common.{◌≡◌, ◌≢◌, ◌⊎◌, ℕ, ◌+◌, ◌≤◌, ◌==◌, true, false, cond, List, [], ◌∷◌, ◌++◌, Some, refl, sym, ap, ◌∙◌, subst, arith, inl, inr}
+use Rattle.std.proofs.lemmas.Bool.{cases_Bool, eq-eqb, both_ways}
 use Rattle.std.proofs.lemmas.Option.{same_Some}
 use Rattle.std.specs.List.{slice_get}
 use Rattle.std.specs.Option.{option_map}
@@ -47,14 +47,11 @@ becomes (At j act) w next led i e at = (before.0, before.1, elim (cases_Bool (i 
 
     there : (i == j) ≡ false → Becomes w (At j act) i before.0 e
     there other =
-        Heard j act refl (λ same. different (i == j) (self i j (sym same)) other) new
+        Heard j act refl (λ same. both_ways (i == j) other (self i j (sym same))) new
         (before.2 ∙ ap (λ b. heard (cond b (events.own (events.around w before.0) act before.0) before.0)) other)
       where
         self : (a b : ℕ) → a ≡ b → (a == b) ≡ true
         self a b same = eq-eqb a b same
-
-        different : (b : Bool) → b ≡ true → b ≡ false → ⊥
-        different b yes_it no_it = true≢false (sym yes_it ∙ no_it)
 
 -- the device that it was, where it is told
 pub becomes_of : (event : events.AppEvent) (w next : AppWorld) → events.Moves event w next → (i : ℕ) (d e : Device) → slice_get w.devices i ≡ Some d → slice_get next.devices i ≡ Some e → Becomes w event i d e

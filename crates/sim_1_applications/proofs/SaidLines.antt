@@ -215,7 +215,7 @@ not_first x l apart = of_epoch (x.epoch == l.epoch) refl
     of_epoch true same = let low = apart (eqb-true x.epoch l.epoch same) in and_right (x.epoch == l.epoch) (x.n == l.n) (ne_eqb x.n l.n (λ e. omega arith))
     of_epoch false other = and_left (x.epoch == l.epoch) (x.n == l.n) other
 
-all_both : (P Q S : SaidLine → Type 0) → ((x : SaidLine) → P x → Q x → S x) → (xs : List SaidLine) → AllByRecursion P xs → AllByRecursion Q xs → AllByRecursion S xs
+pub all_both : (P Q S : SaidLine → Type 0) → ((x : SaidLine) → P x → Q x → S x) → (xs : List SaidLine) → AllByRecursion P xs → AllByRecursion Q xs → AllByRecursion S xs
 all_both P Q S each [] first second = tt
 all_both P Q S each (x ∷ xs) first second = (each x first.0 second.0, all_both P Q S each xs first.1 second.1)
 

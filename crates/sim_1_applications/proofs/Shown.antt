@@ -78,6 +78,10 @@ shown_at owned (w ∷ states) (x ∷ worlds) (suc i) shown are at =
     let rest = shown_at owned states worlds i shown are.1 at in
     record { state = rest.state; at = rest.at; is = rest.is }
 
+pub after_both : (xs ys : List AppEvent) (v : sessions.AppWorld) → state_after v (xs ++ ys) ≡ state_after (state_after v xs) ys
+after_both [] ys v = refl
+after_both (x ∷ xs) ys v = after_both xs ys (after v x)
+
 -- the last world shows the last state
 pub ends_with : (owned : List Owned) (moves : List (List AppEvent)) (w : sessions.AppWorld) (worlds : List ReportWorld) (line : DeviceView) → AreRepresented owned (states_of w moves) worlds →
     ((shown : ReportWorld) → IsShown owned (state_after w (flat_map (λ move. move) moves)) shown → length (shown.pages line.name) ≡ length line.pages) → EndsWith worlds line
@@ -93,7 +97,3 @@ ends_with owned (move ∷ moves) w (x ∷ []) line are each = absurd (none_left 
 ends_with owned (move ∷ moves) w (x ∷ y ∷ worlds) line are each =
     ends_with owned moves (state_after w move) (y ∷ worlds) line are.1
     (λ shown is. each shown (subst (λ v. IsShown owned v shown) (sym (after_both move (flat_map (λ m. m) moves) w)) is))
-  where
-    after_both : (xs ys : List AppEvent) (v : sessions.AppWorld) → state_after v (xs ++ ys) ≡ state_after (state_after v xs) ys
-    after_both [] ys v = refl
-    after_both (x2 ∷ xs) ys v = after_both xs ys (after v x2)

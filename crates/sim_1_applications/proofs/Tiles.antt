@@ -2,8 +2,8 @@
 use Rattle.std.proofs.Common.{◌≡◌, ℕ, suc, zero, ◌+◌, ◌-◌, ◌<◌, ◌≤◌, max, min, Bool, true, false, cond, List, [], ◌∷◌, ◌++◌, Option, Some, None, length, refl, sym, ap, ◌∙◌, subst, arith, append_assoc, inl, inr}
 use Rattle.std.specs.List.{flat_map}
 use Rattle.std.specs.Option.{option_map_or}
-use Rattle.std.specs.Prelude.{◌&&◌, nat_le}
-use Rattle.std.proofs.lemmas.Bool.{false≢true, le-leb, leb-true, lt-leb}
+use Rattle.std.specs.Prelude.{nat_le}
+use Rattle.std.proofs.lemmas.Bool.{le-leb, leb-true, lt-leb, and_parts}
 use Rattle.std.proofs.lemmas.List.{append-nil}
 use Rattle.sim_1_applications.specs.Devices.{OpenPage, Answer, Tile, first_of}
 use Rattle.sim_1_applications.specs.Answers.{following, last_in, is_position, edge, size}
@@ -93,7 +93,7 @@ log_last keep high ts some kept = last_or_none (numbers_by keep 0 ts) ∙ (numbe
 
 -- The tile of a page.
 
-last_append : (a : List ℕ) (n : ℕ) (ns : List ℕ) → last_in (a ++ n ∷ ns) ≡ last_in (n ∷ ns)
+pub last_append : (a : List ℕ) (n : ℕ) (ns : List ℕ) → last_in (a ++ n ∷ ns) ≡ last_in (n ∷ ns)
 last_append [] n ns = refl
 last_append (x ∷ []) n ns = refl
 last_append (x ∷ y ∷ a) n ns = last_append (y ∷ a) n ns
@@ -112,10 +112,6 @@ pub record IsEnded (keep n : ℕ) (page : OpenPage) (a : Answer) : Type 0 where
 
 abbrev ends : ℕ → ℕ → OpenPage → Answer → Type 0
 ends keep n page a = (page.after ≡ cond (nat_le n (a.last - keep)) None (Some n)) × (edge a.first page.after ≡ max n (a.last - keep))
-
-first_true : (b c : Bool) → (b && c) ≡ true → b ≡ true
-first_true true c e = refl
-first_true false c e = absurd (false≢true e)
 
 -- from the archive's first entry on, where the log's last number was purged
 from_first : (keep n : ℕ) (page : OpenPage) (a : Answer) → a.first ≡ first_of keep a.last → page.after ≡ None → n < a.first → ends keep n page a
@@ -141,8 +137,11 @@ page_ended keep n run page a last kept position placed within =
         from_first keep n page a kept none (omega arith)
     after_last (Some p) some m at same =
         let number : p ≡ n = ap number_or_none (sym some ∙ same) ∙ sym last in
-        let low : a.first ≤ p = leb-true a.first p (first_true (nat_le a.first p) (nat_le p a.last) (ap (is_position a.first a.last) (sym some) ∙ placed)) in
+        let low : a.first ≤ p = leb-true a.first p ((and_parts (nat_le a.first p) (nat_le p a.last) (ap (is_position a.first a.last) (sym some) ∙ placed)).0) in
         from_last keep n page a kept (some ∙ ap Some number) (omega arith)
+
+counted : (m old last most : ℕ) → m ≤ last → old ≤ last → min most (last - max m old) ≡ min (max m old + most) last - max m old
+counted m old last most low high = omega arith
 
 -- A8: the tile that the end of a page lays
 pub tile_end : (keep n low : ℕ) (x : events.Around) (page : OpenPage) (a : Answer) → 1 ≤ keep → 1 ≤ page.max → page.answer ≡ Some a → IsEnded keep n page a →
@@ -167,9 +166,6 @@ tile_end keep n low x page a some many answer ended results begun began last com
     given_is : option_map_or (λ (y : Answer). y.last) page.answer x.last ≡ a.last
     given_is = ap (λ o. option_map_or (λ (y : Answer). y.last) o x.last) answer
 
-    counted : (m old last most : ℕ) → m ≤ last → old ≤ last → min most (last - max m old) ≡ min (max m old + most) last - max m old
-    counted m old last most low high = omega arith
-
     kept_count : a.first ≡ first_of keep a.last → a.last + 1 - a.first ≡ min a.last keep
     kept_count kept = omega arith
 
@@ -182,6 +178,3 @@ numbers_end keep n x complete count page a answer ended results =
     ∙ (let e : size (max n (a.last - keep)) a.last page.max ≡ min (max n (a.last - keep) + page.max) a.last - max n (a.last - keep) = counted n (a.last - keep) a.last page.max ended.within (omega arith) in
     ap (following (max n (a.last - keep))) e)
     ∙ ap (λ g. following (max n (g - keep)) (min (max n (g - keep) + page.max) g - max n (g - keep))) (sym (ap (λ o. option_map_or (λ (y : Answer). y.last) o x.last) answer))
-  where
-    counted : (m old last most : ℕ) → m ≤ last → old ≤ last → min most (last - max m old) ≡ min (max m old + most) last - max m old
-    counted m old last most low high = omega arith

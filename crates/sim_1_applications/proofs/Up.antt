@@ -51,7 +51,7 @@ two_more zs s none two =
     omega arith
 
 -- nothing was put before the client knows of the session
-nothing_put : (s : Session) → s.up_got ≡ [] → s.up_rest ≡ [] → up_put s ≡ []
+pub nothing_put : (s : Session) → s.up_got ≡ [] → s.up_rest ≡ [] → up_put s ≡ []
 nothing_put s got rest = ap (λ l. l ++ s.up_rest) got ∙ rest
 
 pub record UpKept (k : ℕ) (d : Device) : Type 0 where

@@ -1,11 +1,10 @@
 -- Where an archive keeps all, each log is a prefix of it, and the pages are tiles of the log.
-use Rattle.std.proofs.Common.{◌≡◌, ◌≢◌, ℕ, zero, suc, ◌+◌, ◌-◌, ◌<◌, ◌≤◌, ◌==◌, ◌||◌, true, false, List, [], ◌∷◌, IsTrue, length, drop, take, map, refl, sym, ap, ◌∙◌, subst, arith, inl, inr}
+use Rattle.std.proofs.Common.{◌≡◌, ◌≢◌, ℕ, zero, suc, ◌+◌, ◌-◌, ◌<◌, ◌≤◌, ◌==◌, ◌||◌, true, false, List, [], IsTrue, length, drop, take, map, refl, sym, ap, ◌∙◌, subst, arith, inl, inr}
 use Rattle.std.proofs.lemmas.Bool.{cases_Bool, eq-eqb, false≢true}
 use Rattle.std.proofs.lemmas.List.{drop-map, length-drop, length-map, take-map}
-use Rattle.std.proofs.lemmas.Slice.Eq.{bytes_eq-Decides}
 use Rattle.std.specs.List.{AllByRecursion}
-use Rattle.std.specs.Str.{bytes_eq}
 use Rattle.mam_archive.proofs.NumberedEntries.{FollowFrom, follow_drop}
+use Rattle.mam_archive.proofs.ChainPositions.{follow_take}
 use Rattle.mam_archive.specs.Entries.{EntryView}
 use Rattle.mam_archive.specs.Ids.{id_of}
 use Rattle.base_lemmas.proofs.Lists.{AllByRecursion-weaker}
@@ -56,11 +55,6 @@ front_of keep history d g wide =
       numbers = g.tiles.numbers ∙ sym (run_numbers keep 0 0 high history d.reading.tiles g.some (omega arith) g.tiles.tiles (omega arith) g.follow)
           ∙ ap (map number_of) run ∙ numbers_follow 0 (take end history) follow ∙ ap (following 0) (sym (ap length run) ∙ size);
     }
-  where
-    follow_take : (k s : ℕ) (es : List EntryView) → FollowFrom s es → FollowFrom s (take k es)
-    follow_take zero s es is = tt
-    follow_take (suc k) s [] is = tt
-    follow_take (suc k) s (e ∷ es) is = (is.0, follow_take k (suc s) es is.1)
 
 -- what isn't among the numbers up to n is above n
 not_among : (h n k : ℕ) → is_number_among h (following n k) ≡ false → n < h → n + k < h

@@ -8,13 +8,14 @@ use Rattle.sim_2_links.proofs.CutLinks.{some_one, there_cut, not_true}
 use Rattle.sim_2_links.proofs.Hands.{no_entry, piped_down, at_down, row_other, plain_on, plain_carries}
 use Rattle.sim_2_links.proofs.Heard.{told_kept, told_contains, told_goes, same_session}
 use Rattle.sim_2_links.proofs.Detached.{IsStill, still_asked, still_fits, carries_at}
+use Rattle.sim_2_links.proofs.StepParts.{StaysPlaced, none_carried}
 use Rattle.sim_2_links.specs.Words.{UpWord, ResumeAt, Bind, DownWord, Feat, Failed, Client, InFeatures2, InResume, InBind, Ready}
 use Rattle.sim_2_links.specs.Wires.{down_words, down_whole, send_up, left_down}
 use Rattle.sim_2_links.specs.Stages.{Stage, Reoffered, AsksResume, Refused, Resumes, AsksBind, client_of, phase_of, up_of, down_of, Ending, Stands, Errs, Closes, tail_of, Conn, IsAt, IsPlain, IsEarly}
-use Rattle.sim_2_links.specs.Views.{with_at, alter, has, Session, Row, Own, View, on_phase, session_on, carries}
+use Rattle.sim_2_links.specs.Views.{with_at, alter, has, Session, Own, View, on_phase, session_on, carries}
 use Rattle.sim_2_links.specs.LinkMoves.{told_if}
 use Rattle.sim_2_links.specs.SessionMoves.{IsAskResume, IsAskBind, IsRefused}
-use Rattle.sim_2_links.specs.Links.{carried_of, ArePiped, IsAsked, FitsOwn, is_yet, ConnKept, IsIdle, IsPlaced, OwnKept, SessionKept, IsCarried, LinkKept}
+use Rattle.sim_2_links.specs.Links.{carried_of, ArePiped, IsAsked, FitsOwn, is_yet, ConnKept, IsIdle, OwnKept, SessionKept, IsCarried, LinkKept}
 
 -- the client states its count, and nothing else changes
 
@@ -67,7 +68,7 @@ told_keeps {A = A} v p s is counted kept = record {
     gentle : IsStill {A = A} (λ q t. told_if (has (Some p) q) t)
     gentle = record { counted = λ q t. refl; epoch = λ q t. refl; read = λ q t. refl; told = λ q t h c. told_contains (has (Some p) q) t h c; got = λ q t. refl; stated = λ q t h c. c }
 
-    placed : (r : Row A) (t : Session A) (o : Option ℕ) → IsPlaced v.conns r t o → IsPlaced v.conns r (f r.number t) o
+    placed : StaysPlaced v f
     placed r t None a = a
     placed r t (Some n) (d, found, held, goes) = (d, found, held, λ e. told_goes (has (Some p) r.number) d t (goes e))
 
@@ -84,27 +85,19 @@ unheld_keeps {A = A} v k old new s own here is off bare at off' bare' yet piped 
   sessions = kept.sessions;
   goes_down = λ n c p e found carried. absurd (silent n c p e carried (entry k new v.conns n c found));
   idle_up = kept.idle_up;
-  idle_down = λ p t found counted. elim (kept.idle_down p t found counted) [ inl q ↦ inl q | inr c ↦ absurd (before p c) ];
+  idle_down = λ p t found counted. elim (kept.idle_down p t found counted) [ inl q ↦ inl q | inr c ↦ absurd (none_carried v k old here is (λ q e. no_entry q (sym bare ∙ e)) p c) ];
   late = λ n c p found away on carried. absurd (after p carried);
 }
   where
     works : has v.here k ≡ true
     works = is_has v.here k here
 
-    same : (n : ℕ) → v.here ≡ Some n → k ≡ n
-    same n e = let h = here in cc
-
     silent : (n : ℕ) (c : Conn A) (p : ℕ) → v.here ≡ Some n → carries c ≡ Some p → Entry k new v.conns n c → ⊥
     silent n c p e carried (New one this) = no_entry p (sym (carries_at s new at ∙ bare') ∙ subst (λ x. carries x ≡ Some p) (sym this) carried)
-    silent n c p e carried (Old ne there) = ne (same n e)
+    silent n c p e carried (Old ne there) = ne (some_one v.here k n here e)
 
     after : (p : ℕ) → IsCarried (record v { conns = with_at k new v.conns; own = own }) p → ⊥
     after p (n, c, e, found, carried) = silent n c p e carried (entry k new v.conns n c found)
-
-    before : (p : ℕ) → IsCarried v p → ⊥
-    before p (n, c, e, found, carried) =
-        let one : c ≡ old = some_one (v.conns k) c old (subst (λ x. v.conns x ≡ Some c) (sym (same n e)) found) is in
-        no_entry p (sym bare ∙ subst (λ x. carries x ≡ Some p) one carried)
 
     conn : (n : ℕ) (c : Conn A) → Entry k new v.conns n c → ConnKept (record v { conns = with_at k new v.conns; own = own }) n c
     conn n c (New one this) =
@@ -121,7 +114,7 @@ unheld_keeps {A = A} v k old new s own here is off bare at off' bare' yet piped 
         subst (λ x. ConnKept (record v { conns = with_at k new v.conns; own = own }) x c) one (subst (λ x. ConnKept (record v { conns = with_at k new v.conns; own = own }) k x) this now)
     conn n c (Old ne there) =
         let was_kept = kept.conns n c there in
-        record { piped = was_kept.piped; stage = was_kept.stage; at = was_kept.at; asked = was_kept.asked; fits = λ e. absurd (ne (same n (has_is v.here n e))); attached = was_kept.attached; uncounted = was_kept.uncounted; counting = was_kept.counting }
+        record { piped = was_kept.piped; stage = was_kept.stage; at = was_kept.at; asked = was_kept.asked; fits = λ e. absurd (ne (some_one v.here k n here (has_is v.here n e))); attached = was_kept.attached; uncounted = was_kept.uncounted; counting = was_kept.counting }
 
 -- the row of a client that has the features, and of one that asked for its session and was refused
 

@@ -7,6 +7,7 @@ use Rattle.sim_2_links.proofs.Tables.{send_down_whole, send_down_whole_up, left_
 use Rattle.sim_2_links.proofs.CutLinks.{not_true, some_one, there_cut, on_other, some_same}
 use Rattle.sim_2_links.proofs.Hands.{no_entry, piped_up, taken_stands}
 use Rattle.sim_2_links.proofs.ReadResumed.{phase_session}
+use Rattle.sim_2_links.proofs.StepParts.{carried_before}
 use Rattle.sim_2_links.specs.Words.{UpWord, Bind, Bound, InBind, AtSession}
 use Rattle.sim_2_links.specs.Wires.{Wires, up_whole, down_whole, send_down, left_up}
 use Rattle.sim_2_links.specs.Stages.{Stage, Greets, Greeted, Offered, Proves, Challenged, Answers, Succeeded, Regreets, Regreeted, Reoffered, AsksResume, Refused, Resumes, AsksBind, Binds, AsksEnable, Enables, Runs, client_of, up_of, down_of, Stands, tail_of, foot_of, Conn}
@@ -202,11 +203,7 @@ bound_keeps {A = A} k number v next m kept = subst LinkKept (sym m.gives) (recor
         by (inr ne) = (n, d, here, at_other k this v.conns n ne ∙ found, carried)
 
     back : (q : ℕ) → IsCarried (record v { conns = with_at k this v.conns; row = Some new; sessions = with_at number unread v.sessions; free = number + 1 }) q → IsCarried v q
-    back q (n, d, here, found, carried) = by (entry k this v.conns n d found)
-      where
-        by : Entry k this v.conns n d → IsCarried v q
-        by (New same is) = absurd (silent (send_down (Bound number ∷ []) (left_up m.rest m.conn.wires)) q (subst (λ x. carries x ≡ Some q) (sym is) carried))
-        by (Old ne there) = (n, d, here, there, carried)
+    back q (n, d, here, found, carried) = carried_before k this v q (λ e at. absurd (silent (send_down (Bound number ∷ []) (left_up m.rest m.conn.wires)) q at)) n d here carried (entry k this v.conns n d found)
 
     idle_up : (q : ℕ) (s : Session A) → s.counted ≡ true → Entry number unread v.sessions q s → IsIdle s.up ⊎ ((x : Row A) × (Some new ≡ Some x) × (x.number ≡ q))
     idle_up q s counted (New same this) = absurd (not_true {b = s.counted} (ap (λ (x : Session A). x.counted) (sym this)) counted)

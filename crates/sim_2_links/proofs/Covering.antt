@@ -1,13 +1,13 @@
 -- Where the client is online on a connection that flows, the count that covers what it asked for is still to come.
-use Rattle.std.proofs.Common.{◌≡◌, ◌≢◌, ℕ, Bool, true, false, ◌&&◌, ◌++◌, length, drop, refl, sym, ap, ◌∙◌, subst, inl, inr, Option, Some}
+use Rattle.std.proofs.Common.{◌≡◌, ◌≢◌, ℕ, Bool, true, ◌&&◌, ◌++◌, length, drop, refl, sym, ap, ◌∙◌, subst, inl, inr, Option, Some}
 use Rattle.sm_acks.proofs.Directions.{kept_reached}
-use Rattle.sim_2_links.proofs.Entries.{Entry, New, Old, entry, was}
+use Rattle.sim_2_links.proofs.Entries.{New, Old, entry, was}
 use Rattle.sim_2_links.proofs.CutLinks.{some_one, some_same}
 use Rattle.sim_2_links.proofs.UncountedEnds.{carried_holds}
 use Rattle.sim_2_links.specs.Words.{up_stanzas, InOnline}
 use Rattle.sim_2_links.specs.Wires.{is_flowing, up_words, down_whole}
-use Rattle.sim_2_links.specs.Stages.{Stands, Conn}
-use Rattle.sim_2_links.specs.Views.{Table, with_at, alter, has, Session, Row, Own, View, session_on, carried_by, sends}
+use Rattle.sim_2_links.specs.Stages.{Conn}
+use Rattle.sim_2_links.specs.Views.{Table, with_at, alter, Session, Row, Own, View, session_on, carried_by, sends}
 use Rattle.sim_2_links.specs.PutMoves.{is_online}
 use Rattle.sim_2_links.specs.Links.{ConnKept, GoesUp, IsPlaced, RowKept, OwnKept, LinkKept}
 use Rattle.sim_2_links.specs.Covers.{NoneAsks, IsToCome, IsCoveredBy, IsCovered}
@@ -34,13 +34,12 @@ as_covered asks c o s t put got g = record {
 -- a connection changes, on which the client is not online now, or which doesn't flow
 pub elsewhere_covered : {A : Type 0} (asks : A → Bool) (v : View A) (k : ℕ) (new : Conn A) (row : Option (Row A)) (epoch : ℕ) (sessions : Table (Session A)) → IsUnseen v sessions →
     (v.here ≡ Some k → is_online new.client ≡ true → is_flowing new.wires ≡ true → ⊥) → IsCovered asks v → IsCovered asks (record v { conns = with_at k new v.conns; row = row; epoch = epoch; sessions = sessions })
-elsewhere_covered {A = A} asks v k new row epoch sessions unseen dead covered n c o t here found own online flows is = by (entry k new v.conns n c found)
-  where
-    by : Entry k new v.conns n c → IsCoveredBy asks c o t
-    by (New same this) = absurd (dead (here ∙ ap Some (sym same)) (ap (λ (x : Conn A). is_online x.client) this ∙ ap is_online online) (ap (λ (x : Conn A). is_flowing x.wires) this ∙ flows))
-    by (Old ne there) =
-        let u = unseen o t own is in
-        as_covered asks c o u.0 t u.2 u.3 (covered n c o u.0 here there own online flows u.1)
+elsewhere_covered {A = A} asks v k new row epoch sessions unseen dead covered n c o t here found own online flows is = elim (entry k new v.conns n c found) [
+  | New same this ↦ absurd (dead (here ∙ ap Some (sym same)) (ap (λ (x : Conn A). is_online x.client) this ∙ ap is_online online) (ap (λ (x : Conn A). is_flowing x.wires) this ∙ flows))
+  | Old ne there ↦
+      let u = unseen o t own is in
+      as_covered asks c o u.0 t u.2 u.3 (covered n c o u.0 here there own online flows u.1)
+]
 
 -- nothing changes on the connections
 pub silent_covered : {A : Type 0} (asks : A → Bool) (v : View A) (row : Option (Row A)) (sessions : Table (Session A)) → IsUnseen v sessions → IsCovered asks v → IsCovered asks (record v { row = row; sessions = sessions })
@@ -55,28 +54,30 @@ pub server_covered : {A : Type 0} (asks : A → Bool) (v : View A) (k : ℕ) (ol
     ((o : Own A) (t : Session A) → v.here ≡ Some k → v.own ≡ Some o → old.client ≡ InOnline o.number → is_flowing old.wires ≡ true → sessions o.number ≡ Some t →
     (s : Session A) × (v.sessions o.number ≡ Some s) × (IsCoveredBy asks old o s → IsCoveredBy asks new o t)) →
     IsCovered asks v → IsCovered asks (record v { conns = with_at k new v.conns; row = row; sessions = sessions })
-server_covered {A = A} asks v k old new row sessions is_old client flow other this covered n c o t here found own online flows is = by (entry k new v.conns n c found)
-  where
-    by : Entry k new v.conns n c → IsCoveredBy asks c o t
-    by (New same one) =
-        let here_k : v.here ≡ Some k = here ∙ ap Some (sym same) in
-        let online_old : old.client ≡ InOnline o.number = sym client ∙ ap (λ (x : Conn A). x.client) one ∙ online in
-        let flows_old : is_flowing old.wires ≡ true = sym flow ∙ ap (λ (x : Conn A). is_flowing x.wires) one ∙ flows in
-        let u = this o t here_k own online_old flows_old is in
-        subst (λ x. IsCoveredBy asks x o t) one (u.2 (covered k old o u.0 here_k is_old own online_old flows_old u.1))
-    by (Old ne there) =
-        let u = other n c o t here ne there own online flows is in
-        as_covered asks c o u.0 t u.2 u.3 (covered n c o u.0 here there own online flows u.1)
+server_covered {A = A} asks v k old new row sessions is_old client flow other this covered n c o t here found own online flows is = elim (entry k new v.conns n c found) [
+  | New same one ↦
+      let here_k : v.here ≡ Some k = here ∙ ap Some (sym same) in
+      let online_old : old.client ≡ InOnline o.number = sym client ∙ ap (λ (x : Conn A). x.client) one ∙ online in
+      let flows_old : is_flowing old.wires ≡ true = sym flow ∙ ap (λ (x : Conn A). is_flowing x.wires) one ∙ flows in
+      let u = this o t here_k own online_old flows_old is in
+      subst (λ x. IsCoveredBy asks x o t) one (u.2 (covered k old o u.0 here_k is_old own online_old flows_old u.1))
+  | Old ne there ↦
+      let u = other n c o t here ne there own online flows is in
+      as_covered asks c o u.0 t u.2 u.3 (covered n c o u.0 here there own online flows u.1)
+]
 
 -- the client's connection changes
 pub client_covered : {A : Type 0} (asks : A → Bool) (v : View A) (k : ℕ) (new : Conn A) (mine : Option (Own A)) (sessions : Table (Session A)) → v.here ≡ Some k →
     ((o : Own A) (t : Session A) → mine ≡ Some o → new.client ≡ InOnline o.number → is_flowing new.wires ≡ true → sessions o.number ≡ Some t → IsCoveredBy asks new o t) →
     IsCovered asks (record v { conns = with_at k new v.conns; own = mine; sessions = sessions })
-client_covered {A = A} asks v k new mine sessions here_k this n c o t here found own online flows is = by (entry k new v.conns n c found)
-  where
-    by : Entry k new v.conns n c → IsCoveredBy asks c o t
-    by (New same one) = subst (λ x. IsCoveredBy asks x o t) one (this o t own (ap (λ (x : Conn A). x.client) one ∙ online) (ap (λ (x : Conn A). is_flowing x.wires) one ∙ flows) is)
-    by (Old ne there) = absurd (ne (some_same k n (sym here_k ∙ here)))
+client_covered {A = A} asks v k new mine sessions here_k this n c o t here found own online flows is = elim (entry k new v.conns n c found) [
+  | New same one ↦ subst (λ x. IsCoveredBy asks x o t) one (this o t own (ap (λ (x : Conn A). x.client) one ∙ online) (ap (λ (x : Conn A). is_flowing x.wires) one ∙ flows) is)
+  | Old ne there ↦ absurd (ne (some_same k n (sym here_k ∙ here)))
+]
+
+-- the client's own session is covered on its connection as it is now, where f changed the sessions
+abbrev pub CoversAfter : {A : Type 0} → (A → Bool) → Conn A → View A → (ℕ → Session A → Session A) → Own A → Type 0
+CoversAfter {A = A} asks this v f own = (t : Session A) → is_flowing this.wires ≡ true → alter f v.sessions own.number ≡ Some t → IsCoveredBy asks this own t
 
 -- where the client is online and all flows, the server has its session on that connection, and what goes up is all
 -- that it has not handled
@@ -110,11 +111,8 @@ together {A = A} v k c o kept here is own online flows = (
     old : ConnKept v k c
     old = kept.conns k c is
 
-    f : (has v.here k ≡ true) × (c.ending ≡ Stands) × (c.gone ≡ false)
-    f = old.piped.flowing flows
-
     a : (r : Row A) × (v.row ≡ Some r) × (r.number ≡ o.number) × (r.on ≡ Some k)
-    a = old.attached o.number (carried_holds old.stage c o.number old.at (ap (λ x. carried_by x (down_whole c.wires)) online) f.1 f.2)
+    a = old.attached o.number (carried_holds old.stage c o.number old.at (ap (λ x. carried_by x (down_whole c.wires)) online) (old.piped.flowing flows).1 (old.piped.flowing flows).2)
 
     row : RowKept v.conns v.sessions a.0
     row = kept.row a.0 a.1

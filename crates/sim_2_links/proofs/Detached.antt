@@ -1,9 +1,9 @@
 -- The server takes a session from its connection, and rows end.
-use Rattle.std.proofs.Common.{◌≡◌, ◌≢◌, ℕ, Bool, true, false, ◌&&◌, if◌then◌else◌, List, [], ◌∷◌, ◌++◌, length, refl, sym, ap, ◌∙◌, subst, arith, append_assoc, ◌⊎◌, inl, inr, Option, None, Some}
+use Rattle.std.proofs.Common.{◌≡◌, ℕ, Bool, true, false, ◌&&◌, if◌then◌else◌, List, [], ◌∷◌, ◌++◌, length, refl, sym, ap, ◌∙◌, subst, arith, append_assoc, ◌⊎◌, inl, inr, Option, None, Some}
 use Rattle.std.proofs.lemmas.Bool.{cases_eq}
 use Rattle.std.specs.List.{Contains}
 use Rattle.sm_acks.specs.Delivery.{Reached, Cut}
-use Rattle.sim_2_links.proofs.Entries.{same_number, at_same, at_other, Entry, New, Old, entry, was, altered, has_is, is_has}
+use Rattle.sim_2_links.proofs.Entries.{same_number, at_same, at_other, Entry, New, Old, entry, was, altered, is_has}
 use Rattle.sim_2_links.proofs.DeliveryRuns.{reached_more}
 use Rattle.sim_2_links.proofs.Cuts.{reached_cut_if}
 use Rattle.sim_2_links.proofs.Tables.{send_down_whole, send_down_whole_up, halt_whole_up, halt_whole_down}
@@ -11,6 +11,8 @@ use Rattle.std.proofs.lemmas.List.{append-nil, take_all}
 use Rattle.sim_2_links.proofs.CutLinks.{not_true, some_one, here_or_not, there_cut, quiet_cut, off_row}
 use Rattle.sim_2_links.proofs.Counting.{down_counts_with, down_stanzas_with}
 use Rattle.sim_2_links.proofs.Hands.{no_entry, stopped_away}
+use Rattle.sim_2_links.proofs.Heard.{same_session}
+use Rattle.sim_2_links.proofs.StepParts.{on_no_other, on_nowhere, RowAfter, GoesDownAfter}
 use Rattle.sim_2_links.specs.Words.{UpWord, Foot, Conflict, Constraint, TooHigh, down_stanzas, DownWord, Err, End, Cause, Phase, Start, Sasl, Challenge, Restart, Ready, AtSession}
 use Rattle.sim_2_links.specs.Wires.{Wires, Flow, Stop, is_flowing, up_words, down_words, up_whole, down_whole, send_down, halt}
 use Rattle.sim_2_links.specs.Stages.{Stage, Greets, Greeted, Offered, Proves, Challenged, Answers, Succeeded, Regreets, Regreeted, Reoffered, AsksResume, Refused, Resumes, AsksBind, Binds, AsksEnable, Enables, Runs, client_of, up_of, down_of, Ending, Stands, Errs, Closes, tail_of, foot_of, Conn, IsAt}
@@ -198,7 +200,7 @@ detached_keeps {A = A} k ending v next m kept = subst LinkKept (sym m.gives) (re
     acked = before.acked;
     queue = before.queue;
   };
-  sessions = λ q t found. let w = was f v.sessions q t found in subst SessionKept w.2 (lost_kept (has (Some m.row.number) q) (has v.here k && has (carries m.conn) q) w.0 (λ e. subst (λ (x : Session A). x.counted ≡ true) (mine q w.0 e w.1) counted) (kept.sessions q w.0 w.1));
+  sessions = λ q t found. let w = was f v.sessions q t found in subst SessionKept w.2 (lost_kept (has (Some m.row.number) q) (has v.here k && has (carries m.conn) q) w.0 (λ e. subst (λ (x : Session A). x.counted ≡ true) (same_session v m.row.number q row.session w.0 row.is e w.1) counted) (kept.sessions q w.0 w.1));
   goes_down = λ n d q here found carried. down n d q here carried (entry k this v.conns n d found);
   idle_up = λ q t found yes_counted.
       let w = was f v.sessions q t found in
@@ -211,7 +213,7 @@ detached_keeps {A = A} k ending v next m kept = subst LinkKept (sym m.gives) (re
       let w = was f v.sessions q t found in
       let before : w.0.counted ≡ true = ap (λ (x : Session A). x.counted) w.2 ∙ yes_counted in
       elim (kept.idle_down q w.0 w.1 before) [ inl still ↦ inl (subst (λ (x : Session A). IsIdle x.down) w.2 (quiet_lost (has (Some m.row.number) q) (w.0.counted && (has v.here k && has (carries m.conn) q)) w.0 still)) | inr x ↦ inr (carried_on q x) ];
-  late = λ n d q found away on carried. absurd (nowhere n d q on (entry k this v.conns n d found));
+  late = λ n d q found away on carried. absurd (on_nowhere k this v off (on_no_other v k m.row kept m.is_row m.on) n d q on (entry k this v.conns n d found));
 })
   where
     this : Conn A
@@ -243,9 +245,6 @@ detached_keeps {A = A} k ending v next m kept = subst LinkKept (sym m.gives) (re
     stands : m.conn.ending ≡ Stands
     stands = on_stands m.conn.phase m.conn.ending m.conn.gone m.row.number held
 
-    mine : (q : ℕ) (t : Session A) → has (Some m.row.number) q ≡ true → v.sessions q ≡ Some t → row.session ≡ t
-    mine q t e found = let same : Some m.row.number ≡ Some q = has_is (Some m.row.number) q e in let n : m.row.number ≡ q = cc in some_one (v.sessions q) row.session t (subst (λ x. v.sessions x ≡ Some row.session) n row.is) found
-
     at : IsAt old.stage (shut ending m.conn)
     at = record {
       client = old.at.client;
@@ -259,22 +258,10 @@ detached_keeps {A = A} k ending v next m kept = subst LinkKept (sym m.gives) (re
     same_carried : carries (shut ending m.conn) ≡ carries m.conn
     same_carried = carries_at old.stage (shut ending m.conn) at ∙ sym (carries_at old.stage m.conn old.at)
 
-    no_other : (n : ℕ) (d : Conn A) (q : ℕ) → k ≢ n → v.conns n ≡ Some d → session_on d ≡ Some q → ⊥
-    no_other n d q ne there on =
-        let a : (x : Row A) × (v.row ≡ Some x) × (x.number ≡ q) × (x.on ≡ Some n) = (kept.conns n d there).attached q on in
-        let same : a.0 ≡ m.row = some_one v.row a.0 m.row a.1 m.is_row in
-        let both : m.row.on ≡ Some n = subst (λ (x : Row A). x.on ≡ Some n) same a.3 in
-        let on_k = m.on in
-        ne (let out : k ≡ n = cc in out)
-
     off : (q : ℕ) → session_on (shut ending m.conn) ≡ Some q → ⊥
     off q e = no_entry q (sym (end_off m.conn.phase ending m.conn.gone (reason_ends ending (up_words m.conn.wires) m.reason)) ∙ e)
 
-    nowhere : (n : ℕ) (d : Conn A) (q : ℕ) → session_on d ≡ Some q → Entry k this v.conns n d → ⊥
-    nowhere n d q on (New same is) = off q (subst (λ x. session_on x ≡ Some q) (sym is) on)
-    nowhere n d q on (Old ne there) = no_other n d q ne there on
-
-    row_kept : RowKept (with_at k this v.conns) (alter f v.sessions) new
+    row_kept : RowAfter k this v f new
     row_kept = record {
       session = f m.row.number row.session;
       is = altered f v.sessions m.row.number row.session row.is;
@@ -313,12 +300,12 @@ detached_keeps {A = A} k ending v next m kept = subst LinkKept (sym m.gives) (re
           at = before.at;
           asked = still_asked f v.sessions before.stage still before.asked;
           fits = λ e. still_fits v.own v.epoch f v.sessions before.stage still (before.fits e);
-          attached = λ q e. absurd (no_other n d q ne there e);
+          attached = λ q e. absurd (on_no_other v k m.row kept m.is_row m.on n d q ne there e);
           uncounted = λ r f on e. off_row n new r f refl on;
           counting = λ r f on p e. off_row n new r f refl on;
         }
 
-    down : (n : ℕ) (d : Conn A) (q : ℕ) → v.here ≡ Some n → carries d ≡ Some q → Entry k this v.conns n d → (t : Session A) × (alter f v.sessions q ≡ Some t) × GoesDown d t
+    down : GoesDownAfter k this v f
     down n d q here carried (New same is) =
         let here_k : v.here ≡ Some k = here ∙ ap Some (sym same) in
         let carried_k : carries m.conn ≡ Some q = sym same_carried ∙ subst (λ x. carries x ≡ Some q) (sym is) carried in

@@ -12,6 +12,8 @@ use Rattle.sim_2_links.proofs.ReadResumed.{phase_session, bare_stanzas}
 use Rattle.sim_2_links.proofs.Resumption.{down_none}
 use Rattle.sim_2_links.proofs.Late.{bare_left, bare_counts}
 use Rattle.sim_2_links.proofs.Detached.{carries_at}
+use Rattle.sim_2_links.proofs.Heard.{same_session}
+use Rattle.sim_2_links.proofs.StepParts.{RowAfter, GoesDownAfter, attached_after}
 use Rattle.sim_2_links.specs.Words.{up_stanzas, down_stanzas, UpWord, Enable, Enabled, InEnable}
 use Rattle.sim_2_links.specs.Wires.{Wires, Flow, Stop, is_flowing, up_words, down_words, up_whole, down_whole, send_down, left_up}
 use Rattle.sim_2_links.specs.Stages.{Stage, Greets, Greeted, Offered, Proves, Challenged, Answers, Succeeded, Regreets, Regreeted, Reoffered, AsksResume, Refused, Resumes, AsksBind, Binds, AsksEnable, Enables, Runs, client_of, phase_of, up_of, down_of, Stands, tail_of, foot_of, Conn, IsAt}
@@ -140,7 +142,7 @@ enabled_keeps {A = A} k v next m kept = subst LinkKept (sym m.gives) (record {
     acked = before.acked;
     queue = before.queue;
   };
-  sessions = λ q s found. let w = was f v.sessions q s found in subst SessionKept w.2 (enabled_kept (has (Some m.row.number) q) (is_flowing m.conn.wires) w.0 (λ e. subst (λ (x : Session A). (x.counted ≡ false) × ((e : ℕ) × (x.epoch ≡ Some e))) (mine q w.0 e w.1) (uncounted, named)) (kept.sessions q w.0 w.1));
+  sessions = λ q s found. let w = was f v.sessions q s found in subst SessionKept w.2 (enabled_kept (has (Some m.row.number) q) (is_flowing m.conn.wires) w.0 (λ e. subst (λ (x : Session A). (x.counted ≡ false) × ((e : ℕ) × (x.epoch ≡ Some e))) (same_session v m.row.number q row.session w.0 row.is e w.1) (uncounted, named)) (kept.sessions q w.0 w.1));
   goes_down = λ n d q here found carried. down n d q here carried (entry k this v.conns n d found);
   idle_up = λ q t found yes_counted. idle_up q t (was f v.sessions q t found) yes_counted (cases_eq m.row.number q);
   idle_down = λ q t found yes_counted. idle_down q t (was f v.sessions q t found) yes_counted (cases_eq m.row.number q);
@@ -206,9 +208,6 @@ enabled_keeps {A = A} k v next m kept = subst LinkKept (sym m.gives) (record {
     bare : IsBare m.rest
     bare = bare_left m.conn.footed m.rest m.conn.wires (sym a.left)
 
-    mine : (q : ℕ) (t : Session A) → has (Some m.row.number) q ≡ true → v.sessions q ≡ Some t → row.session ≡ t
-    mine q t e found = let same : Some m.row.number ≡ Some q = has_is (Some m.row.number) q e in let n : m.row.number ≡ q = cc in some_one (v.sessions q) row.session t (subst (λ x. v.sessions x ≡ Some row.session) n row.is) found
-
     at : IsAt (Enables m.row.number []) this
     at = record {
       client = client;
@@ -251,7 +250,7 @@ enabled_keeps {A = A} k v next m kept = subst LinkKept (sym m.gives) (record {
       counts = enabled_counts row.session.up.acked m.row.number row.session.up.stated m.rest m.conn.wires empty_down;
     }
 
-    row_kept : RowKept (with_at k this v.conns) (alter f v.sessions) new
+    row_kept : RowAfter k this v f new
     row_kept = record {
       session = f m.row.number row.session;
       is = altered f v.sessions m.row.number row.session row.is;
@@ -261,12 +260,6 @@ enabled_keeps {A = A} k v next m kept = subst LinkKept (sym m.gives) (record {
       queue = row.queue;
       placed = subst (λ o. IsPlaced (with_at k this v.conns) new (f m.row.number row.session) o) (sym m.on) (this, at_same k this v.conns, held, λ e. goes_up);
     }
-
-    attached : (n : ℕ) (d : Conn A) → ((q : ℕ) → session_on d ≡ Some q → (x : Row A) × (v.row ≡ Some x) × (x.number ≡ q) × (x.on ≡ Some n)) → (q : ℕ) → session_on d ≡ Some q → (x : Row A) × (Some new ≡ Some x) × (x.number ≡ q) × (x.on ≡ Some n)
-    attached n d before q e =
-        let b = before q e in
-        let same : b.0 ≡ m.row = some_one v.row b.0 m.row b.1 m.is_row in
-        (new, refl, subst (λ x. x.number ≡ q) same b.2, subst (λ x. x.on ≡ Some n) same b.3)
 
     fits : FitsOwn v.own v.epoch v.sessions (AsksEnable m.row.number) → FitsOwn v.own v.epoch (alter f v.sessions) (Enables m.row.number [])
     fits (none, b) =
@@ -285,7 +278,7 @@ enabled_keeps {A = A} k v next m kept = subst LinkKept (sym m.gives) (record {
           at = at;
           asked = tt;
           fits = λ e. fits (subst (λ s. FitsOwn v.own v.epoch v.sessions s) is_asks (old.fits e));
-          attached = attached k m.conn old.attached;
+          attached = attached_after v m.row new m.is_row refl refl k m.conn old.attached;
           uncounted = λ r g on e. absurd (not_true refl e);
           counting = λ r g on p e. subst (λ (x : Row A). x.counted ≡ true) (some_same new r g) refl;
         } in
@@ -299,12 +292,12 @@ enabled_keeps {A = A} k v next m kept = subst LinkKept (sym m.gives) (record {
           asked = enabled_asked m.row.number (is_flowing m.conn.wires) v.sessions before.stage before.asked;
           fits = λ e. enabled_fits v.own v.epoch m.row.number (is_flowing m.conn.wires) v.sessions before.stage
               (λ t is none. no_entry named.0 (sym none ∙ subst (λ (x : Session A). x.epoch ≡ Some named.0) (some_one (v.sessions m.row.number) row.session t row.is is) named.1)) (before.fits e);
-          attached = attached n d before.attached;
+          attached = attached_after v m.row new m.is_row refl refl n d before.attached;
           uncounted = λ r g on e. on_other k n new r g m.on ne on;
           counting = λ r g on p e. on_other k n new r g m.on ne on;
         }
 
-    down : (n : ℕ) (d : Conn A) (q : ℕ) → v.here ≡ Some n → carries d ≡ Some q → Entry k this v.conns n d → (t : Session A) × (alter f v.sessions q ≡ Some t) × GoesDown d t
+    down : GoesDownAfter k this v f
     down n d q here carried (New same is) =
         let e : Some m.row.number ≡ Some q = sym carries_this ∙ subst (λ x. carries x ≡ Some q) (sym is) carried in
         let after : (t : Session A) × (alter f v.sessions m.row.number ≡ Some t) × GoesDown d t = (f m.row.number row.session, altered f v.sessions m.row.number row.session row.is, subst (λ x. GoesDown x (f m.row.number row.session)) is goes_down) in

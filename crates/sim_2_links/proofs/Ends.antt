@@ -1,5 +1,5 @@
 -- How streams, connections and rows end.
-use Rattle.std.proofs.Common.{◌≡◌, ◌≢◌, ℕ, Bool, true, false, List, ◌∷◌, ◌++◌, sym, ap, ◌∙◌, subst, ◌⊎◌, inl, inr, None, Some}
+use Rattle.std.proofs.Common.{◌≡◌, ℕ, Bool, true, false, List, ◌∷◌, ◌++◌, sym, ap, ◌∙◌, subst, ◌⊎◌, inl, inr, None, Some}
 use Rattle.std.proofs.lemmas.Bool.{cases_Bool, cases_eq}
 use Rattle.std.proofs.lemmas.List.{append-nil}
 use Rattle.sim_2_links.proofs.Entries.{at_same, at_other, Entry, New, Old, entry, is_has}
@@ -7,14 +7,15 @@ use Rattle.sim_2_links.proofs.Tables.{send_down_whole, send_down_whole_up, halt_
 use Rattle.sim_2_links.proofs.CutLinks.{not_true, some_one, there_cut}
 use Rattle.sim_2_links.proofs.Hands.{no_entry, row_other, stopped_away, taken_stands}
 use Rattle.sim_2_links.proofs.Detached.{end_off, no_foot_here, IsEnd, halted, halted_up, halted_down}
-use Rattle.sim_2_links.proofs.Parked.{gone_off}
+use Rattle.sim_2_links.proofs.Parked.{told_gone_off}
+use Rattle.sim_2_links.proofs.StepParts.{carried_before, apart_from, GoesDownStill, StaysBare}
 use Rattle.sim_2_links.specs.Words.{UpWord, Foot}
 use Rattle.sim_2_links.specs.Wires.{up_words, down_whole, send_down}
 use Rattle.sim_2_links.specs.Stages.{Stage, down_of, Ending, Stands, Closes, tail_of, Conn, IsAt}
-use Rattle.sim_2_links.specs.Views.{with_at, has, Session, Row, View, session_on, carries}
+use Rattle.sim_2_links.specs.Views.{with_at, has, Row, View, session_on, carries}
 use Rattle.sim_2_links.specs.SessionMoves.{shut}
 use Rattle.sim_2_links.specs.EndMoves.{IsFootTaken, IsGone}
-use Rattle.sim_2_links.specs.Links.{carried_of, IsFair, ArePiped, IsAsked, ConnKept, is_yet, GoesDown, IsCarried, IsBare, LinkKept}
+use Rattle.sim_2_links.specs.Links.{carried_of, IsFair, ArePiped, IsAsked, ConnKept, is_yet, GoesDown, IsCarried, LinkKept}
 
 -- a connection changes that the client left, and on which no session is
 
@@ -28,13 +29,10 @@ left_keeps {A = A} v k old new s away is off off' at yet counts piped asked kept
   sessions = kept.sessions;
   goes_down = λ n c p here found carried. down n c p here carried (entry k new v.conns n c found);
   idle_up = kept.idle_up;
-  idle_down = λ p t found counted. elim (kept.idle_down p t found counted) [ inl q ↦ inl q | inr c ↦ inr (c.0, c.1, c.2, at_other k new v.conns c.0 (apart c.0 c.2) ∙ c.3, c.4) ];
+  idle_down = λ p t found counted. elim (kept.idle_down p t found counted) [ inl q ↦ inl q | inr c ↦ inr (c.0, c.1, c.2, at_other k new v.conns c.0 (apart_from v.here k c.0 away c.2) ∙ c.3, c.4) ];
   late = λ n c p found gone on carried. late n c p gone on (back p carried) (entry k new v.conns n c found);
 }
   where
-    apart : (n : ℕ) → v.here ≡ Some n → k ≢ n
-    apart n here same = not_true away (is_has v.here k (here ∙ ap Some (sym same)))
-
     conn : (n : ℕ) (c : Conn A) → Entry k new v.conns n c → ConnKept (record v { conns = with_at k new v.conns }) n c
     conn n c (New same this) =
         let here : ConnKept (record v { conns = with_at k new v.conns }) k new = record {
@@ -52,18 +50,14 @@ left_keeps {A = A} v k old new s away is off off' at yet counts piped asked kept
         let before = kept.conns n c there in
         record { piped = before.piped; stage = before.stage; at = before.at; asked = before.asked; fits = before.fits; attached = before.attached; uncounted = before.uncounted; counting = before.counting }
 
-    down : (n : ℕ) (c : Conn A) (p : ℕ) → v.here ≡ Some n → carries c ≡ Some p → Entry k new v.conns n c → (t : Session A) × (v.sessions p ≡ Some t) × GoesDown c t
-    down n c p here carried (New same this) = absurd (apart n here same)
+    down : GoesDownStill k new v
+    down n c p here carried (New same this) = absurd (apart_from v.here k n away here same)
     down n c p here carried (Old ne there) = kept.goes_down n c p here there carried
 
     back : (p : ℕ) → IsCarried (record v { conns = with_at k new v.conns }) p → IsCarried v p
-    back p (n, c, here, found, carried) = by (entry k new v.conns n c found)
-      where
-        by : Entry k new v.conns n c → IsCarried v p
-        by (New same this) = absurd (apart n here same)
-        by (Old ne there) = (n, c, here, there, carried)
+    back p (n, c, here, found, carried) = carried_before k new v p (λ e at. absurd (not_true away (is_has v.here k e))) n c here carried (entry k new v.conns n c found)
 
-    late : (n : ℕ) (c : Conn A) (p : ℕ) → has v.here n ≡ false → session_on c ≡ Some p → IsCarried v p → Entry k new v.conns n c → IsBare (up_words c.wires)
+    late : StaysBare k new v
     late n c p gone on carried (New same this) = no_entry p (sym off' ∙ subst (λ x. session_on x ≡ Some p) (sym this) on)
     late n c p gone on carried (Old ne there) = kept.late n c p there gone on carried
 
@@ -132,9 +126,6 @@ gone_keeps {A = A} k v next m kept = subst LinkKept (sym m.gives) (record {
     old : ConnKept v k m.conn
     old = kept.conns k m.conn m.is
 
-    off : (q : ℕ) → session_on this ≡ Some q → ⊥
-    off q e = no_entry q (sym (gone_off m.conn.phase m.conn.ending) ∙ e)
-
     conn : (n : ℕ) (d : Conn A) → Entry k this v.conns n d → ConnKept (record v { conns = with_at k this v.conns }) n d
     conn n d (New same is) =
         let here : ConnKept (record v { conns = with_at k this v.conns }) k this = record {
@@ -150,7 +141,7 @@ gone_keeps {A = A} k v next m kept = subst LinkKept (sym m.gives) (record {
           at = record { client = old.at.client; phase = old.at.phase; up = old.at.up; down = old.at.down };
           asked = old.asked;
           fits = old.fits;
-          attached = λ q e. absurd (off q e);
+          attached = λ q e. told_gone_off m.conn q e;
           uncounted = old.uncounted;
           counting = old.counting;
         } in
@@ -159,7 +150,7 @@ gone_keeps {A = A} k v next m kept = subst LinkKept (sym m.gives) (record {
         let before = kept.conns n d there in
         record { piped = before.piped; stage = before.stage; at = before.at; asked = before.asked; fits = before.fits; attached = before.attached; uncounted = before.uncounted; counting = before.counting }
 
-    down : (n : ℕ) (d : Conn A) (q : ℕ) → v.here ≡ Some n → carries d ≡ Some q → Entry k this v.conns n d → (t : Session A) × (v.sessions q ≡ Some t) × GoesDown d t
+    down : GoesDownStill k this v
     down n d q here carried (New same is) =
         let before = kept.goes_down k m.conn q (here ∙ ap Some (sym same)) m.is (subst (λ x. carries x ≡ Some q) (sym is) carried) in
         let after : GoesDown this before.0 = record { counted = before.2.counted; way = before.2.way; is_open = before.2.is_open; counts = before.2.counts } in
@@ -177,12 +168,8 @@ gone_keeps {A = A} k v next m kept = subst LinkKept (sym m.gives) (record {
         by (inr ne) = (n, d, here, at_other k this v.conns n ne ∙ found, carried)
 
     back : (q : ℕ) → IsCarried (record v { conns = with_at k this v.conns }) q → IsCarried v q
-    back q (n, d, here, found, carried) = by (entry k this v.conns n d found)
-      where
-        by : Entry k this v.conns n d → IsCarried v q
-        by (New same is) = (k, m.conn, here ∙ ap Some (sym same), m.is, subst (λ x. carries x ≡ Some q) (sym is) carried)
-        by (Old ne there) = (n, d, here, there, carried)
+    back q (n, d, here, found, carried) = carried_before k this v q (λ e at. (k, m.conn, e, m.is, at)) n d here carried (entry k this v.conns n d found)
 
-    late : (n : ℕ) (d : Conn A) (q : ℕ) → has v.here n ≡ false → session_on d ≡ Some q → IsCarried v q → Entry k this v.conns n d → IsBare (up_words d.wires)
-    late n d q away on carried (New same is) = absurd (off q (subst (λ x. session_on x ≡ Some q) (sym is) on))
+    late : StaysBare k this v
+    late n d q away on carried (New same is) = told_gone_off m.conn q (subst (λ x. session_on x ≡ Some q) (sym is) on)
     late n d q away on carried (Old ne there) = kept.late n d q there away on carried

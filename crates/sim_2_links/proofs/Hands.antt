@@ -2,16 +2,17 @@
 use Rattle.std.proofs.Common.{◌≡◌, ℕ, Bool, true, false, List, [], ◌∷◌, ◌++◌, refl, sym, ap, ◌∙◌, subst, ◌⊎◌, inl, inr, Option, None, Some}
 use Rattle.std.proofs.lemmas.Bool.{cases_Bool, cases_eq}
 use Rattle.sim_2_links.proofs.Entries.{same_number, other_number, at_same, at_other, Entry, New, Old, entry, has_is, is_has}
-use Rattle.sim_2_links.proofs.Tables.{send_up_whole, send_up_whole_down, send_down_whole, send_down_whole_up, left_up_whole, left_up_whole_down, left_down_whole, left_down_whole_up, NextDown, LeadsDown, client_leads, early_plain, NextUp, LeadsUp, server_leads}
+use Rattle.sim_2_links.proofs.Tables.{send_up_whole, send_up_whole_down, send_down_whole, send_down_whole_up, left_up_whole, left_up_whole_down, left_down_whole, left_down_whole_up, NextDown, LeadsDown, client_leads, early_plain, LeadsUp, server_leads, UpRow, DownRow}
 use Rattle.std.proofs.lemmas.List.{append-nil}
 use Rattle.sim_2_links.proofs.CutLinks.{not_true, some_one, there_cut}
+use Rattle.sim_2_links.proofs.StepParts.{carried_before, GoesDownStill, StaysBare}
 use Rattle.sim_2_links.specs.Words.{down_stanzas, UpWord, DownWord, Client, Phase}
 use Rattle.sim_2_links.specs.Wires.{Wires, Flow, Stop, is_flowing, up_words, down_words, up_whole, down_whole, send_up, send_down, left_up, left_down}
 use Rattle.sim_2_links.specs.Stages.{Stage, Greets, AsksResume, Refused, Resumes, AsksBind, Binds, AsksEnable, Enables, Runs, client_of, phase_of, up_of, down_of, Goes, server_hand, client_hand, Ending, Stands, tail_of, foot_of, Conn, IsAt, IsPlain, IsEarly}
 use Rattle.sim_2_links.specs.Views.{Table, with_at, has, Session, Row, Own, View, on_phase, session_on, carried_by, carries}
 use Rattle.sim_2_links.specs.LinkMoves.{IsLetGo, dialled, IsDialled, IsUpHand, IsDownHand}
 use Rattle.sim_2_links.specs.Machine.{nothing_yet}
-use Rattle.sim_2_links.specs.Links.{carried_of, ArePiped, IsAsked, FitsOwn, is_yet, ConnKept, GoesDown, IsIdle, IsPlaced, RowKept, IsCarried, IsBare, LinkKept}
+use Rattle.sim_2_links.specs.Links.{carried_of, ArePiped, IsAsked, FitsOwn, is_yet, ConnKept, GoesDown, IsIdle, IsPlaced, RowKept, IsCarried, LinkKept}
 
 pub no_entry : {B C : Type 0} (b : B) → None ≡ Some b → C
 no_entry b e = absurd (let no_way : ⊥ = cc in no_way)
@@ -46,12 +47,9 @@ let_go_keeps {A = A} k v next m kept = subst LinkKept (sym m.gives) (record {
   where
     stopped : (n : ℕ) (c : Conn A) → v.conns n ≡ Some c → ArePiped (has v.here n) c → is_flowing c.wires ≡ true → ⊥
     stopped n c at p flows =
-        let same : k ≡ n = let h : v.here ≡ Some n = has_is v.here n (p.flowing flows).0 in some_here n h in
+        let same : k ≡ n = let h : v.here ≡ Some n = has_is v.here n (p.flowing flows).0 in some_one v.here k n m.here h in
         let one : c ≡ m.conn = some_one (v.conns n) c m.conn at (subst (λ x. v.conns x ≡ Some m.conn) same m.is) in
         not_true m.ended (subst (λ x. is_flowing x.wires ≡ true) one flows)
-      where
-        some_here : (n : ℕ) → v.here ≡ Some n → k ≡ n
-        some_here n h = let e = m.here in cc
 
     emptied : (n : ℕ) (c : Conn A) → v.conns n ≡ Some c → ArePiped (has v.here n) c → down_words c.wires ≡ []
     emptied n c at p = elim (cases_Bool (has v.here n)) [
@@ -275,16 +273,12 @@ plain_keeps {A = A} v k old new s s' is at plain at' plain' piped kept = record 
         let was_kept = kept.conns n c there in
         record { piped = was_kept.piped; stage = was_kept.stage; at = was_kept.at; asked = was_kept.asked; fits = was_kept.fits; attached = was_kept.attached; uncounted = was_kept.uncounted; counting = was_kept.counting }
 
-    down : (n : ℕ) (c : Conn A) (p : ℕ) → v.here ≡ Some n → carries c ≡ Some p → Entry k new v.conns n c → (t : Session A) × (v.sessions p ≡ Some t) × GoesDown c t
+    down : GoesDownStill k new v
     down n c p here carried (New same this) = absurd (silent p (subst (λ x. carries x ≡ Some p) (sym this) carried))
     down n c p here carried (Old ne there) = kept.goes_down n c p here there carried
 
     carried_back : (p : ℕ) → IsCarried (record v { conns = with_at k new v.conns }) p → IsCarried v p
-    carried_back p (n, c, here, found, carried) = by (entry k new v.conns n c found)
-      where
-        by : Entry k new v.conns n c → IsCarried v p
-        by (New same this) = absurd (silent p (subst (λ x. carries x ≡ Some p) (sym this) carried))
-        by (Old ne there) = (n, c, here, there, carried)
+    carried_back p (n, c, here, found, carried) = carried_before k new v p (λ e at. absurd (silent p at)) n c here carried (entry k new v.conns n c found)
 
     carried_on : (p : ℕ) → IsCarried v p → IsCarried (record v { conns = with_at k new v.conns }) p
     carried_on p (n, c, here, found, carried) = by (cases_eq k n)
@@ -295,7 +289,7 @@ plain_keeps {A = A} v k old new s s' is at plain at' plain' piped kept = record 
             no_entry p (sym (plain_carries s old at plain) ∙ subst (λ x. carries x ≡ Some p) one carried)
         by (inr ne) = (n, c, here, at_other k new v.conns n ne ∙ found, carried)
 
-    late : (n : ℕ) (c : Conn A) (p : ℕ) → has v.here n ≡ false → session_on c ≡ Some p → IsCarried v p → Entry k new v.conns n c → IsBare (up_words c.wires)
+    late : StaysBare k new v
     late n c p away on carried (New same this) = no_entry p (sym (plain_on s' new at' plain') ∙ subst (λ x. session_on x ≡ Some p) (sym this) on)
     late n c p away on carried (Old ne there) = kept.late n c p there away on carried
 
@@ -339,6 +333,12 @@ piped_up works c w rest phase puts first p = record {
   gone = λ e. absurd (let none = p.gone e in let no_way : ⊥ = cc in no_way);
 }
 
+pub up_row : {A : Type 0} (s : Stage A) (c : Conn A) (w : UpWord A) (rest : List (UpWord A)) (phase : Phase) (puts : List (DownWord A)) → IsAt s c → up_words c.wires ≡ w ∷ rest → server_hand c.phase w ≡ Goes phase puts → UpRow s c phase puts rest
+up_row s c w rest phase puts at first goes =
+    let split : up_of s ++ foot_of c.footed ≡ w ∷ up_whole (left_up rest c.wires) = sym at.up ∙ left_up_whole w rest c.wires first in
+    let hand : server_hand (phase_of s) w ≡ Goes phase puts = ap (λ x. server_hand x w) (sym at.phase) ∙ goes in
+    subst (λ h. LeadsUp s (foot_of c.footed) h (up_whole (left_up rest c.wires))) hand (server_leads s c.footed w (up_whole (left_up rest c.wires)) split)
+
 pub up_hand_keeps : {A : Type 0} (k : ℕ) (v next : View A) → IsUpHand k v next → LinkKept v → LinkKept next
 up_hand_keeps {A = A} k v next m kept = subst LinkKept (sym m.gives) (plain_keeps v k m.conn new old.stage n.row m.is old.at n.before at n.plain (piped_up (has v.here k) m.conn m.word m.rest m.phase m.puts m.first old.piped) kept)
   where
@@ -348,11 +348,8 @@ up_hand_keeps {A = A} k v next m kept = subst LinkKept (sym m.gives) (plain_keep
     new : Conn A
     new = record m.conn { phase = m.phase; wires = send_down m.puts (left_up m.rest m.conn.wires) }
 
-    n : NextUp old.stage (foot_of m.conn.footed) m.phase m.puts (up_whole (left_up m.rest m.conn.wires))
-    n =
-        let split : up_of old.stage ++ foot_of m.conn.footed ≡ m.word ∷ up_whole (left_up m.rest m.conn.wires) = sym old.at.up ∙ left_up_whole m.word m.rest m.conn.wires m.first in
-        let hand : server_hand (phase_of old.stage) m.word ≡ Goes m.phase m.puts = ap (λ x. server_hand x m.word) (sym old.at.phase) ∙ m.hand in
-        subst (λ h. LeadsUp old.stage (foot_of m.conn.footed) h (up_whole (left_up m.rest m.conn.wires))) hand (server_leads old.stage m.conn.footed m.word (up_whole (left_up m.rest m.conn.wires)) split)
+    n : UpRow old.stage m.conn m.phase m.puts m.rest
+    n = up_row old.stage m.conn m.word m.rest m.phase m.puts old.at m.first m.hand
 
     stands : m.conn.ending ≡ Stands
     stands = taken_stands (has v.here k) m.conn m.word m.rest old.piped m.first
@@ -394,6 +391,12 @@ at_down s c w rest client puts at unfooted first n = record {
   down = send_up_whole_down puts (left_down rest c.wires) ∙ sym n.down;
 }
 
+pub down_row : {A : Type 0} (s : Stage A) (c : Conn A) (w : DownWord A) (rest : List (DownWord A)) (client : Client) (puts : List (UpWord A)) → IsAt s c → down_words c.wires ≡ w ∷ rest → client_hand None c.client w ≡ Goes client puts → DownRow s c client puts rest
+down_row s c w rest client puts at first goes =
+    let split : down_of s ++ tail_of c.ending ≡ w ∷ down_whole (left_down rest c.wires) = sym at.down ∙ left_down_whole w rest c.wires first in
+    let hand : client_hand None (client_of s) w ≡ Goes client puts = ap (λ x. client_hand None x w) (sym at.client) ∙ goes in
+    subst (λ h. LeadsDown s (tail_of c.ending) h (down_whole (left_down rest c.wires))) hand (client_leads None s c.ending w (down_whole (left_down rest c.wires)) split)
+
 pub down_hand_keeps : {A : Type 0} (k : ℕ) (v next : View A) → IsDownHand k v next → LinkKept v → LinkKept next
 down_hand_keeps {A = A} k v next m kept = subst LinkKept (sym m.gives) (plain_keeps v k m.conn (record m.conn { client = m.client; wires = send_up m.puts (left_down m.rest m.conn.wires) }) old.stage n.row m.is old.at plain at (n.plain early) piped kept)
   where
@@ -409,11 +412,8 @@ down_hand_keeps {A = A} k v next m kept = subst LinkKept (sym m.gives) (plain_ke
     plain : IsPlain old.stage
     plain = early_plain old.stage early
 
-    n : NextDown old.stage (tail_of m.conn.ending) m.client m.puts (down_whole (left_down m.rest m.conn.wires))
-    n =
-        let split : down_of old.stage ++ tail_of m.conn.ending ≡ m.word ∷ down_whole (left_down m.rest m.conn.wires) = sym old.at.down ∙ left_down_whole m.word m.rest m.conn.wires m.first in
-        let hand : client_hand None (client_of old.stage) m.word ≡ Goes m.client m.puts = ap (λ x. client_hand None x m.word) (sym old.at.client) ∙ m.hand in
-        subst (λ h. LeadsDown old.stage (tail_of m.conn.ending) h (down_whole (left_down m.rest m.conn.wires))) hand (client_leads None old.stage m.conn.ending m.word (down_whole (left_down m.rest m.conn.wires)) split)
+    n : DownRow old.stage m.conn m.client m.puts m.rest
+    n = down_row old.stage m.conn m.word m.rest m.client m.puts old.at m.first m.hand
 
     at : IsAt n.row (record m.conn { client = m.client; wires = send_up m.puts (left_down m.rest m.conn.wires) })
     at = at_down old.stage m.conn m.word m.rest m.client m.puts old.at (old.piped.unfooted works) m.first n

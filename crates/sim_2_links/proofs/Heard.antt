@@ -242,7 +242,14 @@ pub record IsIn {A : Type 0} (v : View A) (c : Conn A) (o : Own A) (s : Session 
   pub queue : o.queue ≡ queue_of s.up
   pub goes : GoesDown c s
 
-pub in_own : {A : Type 0} (v : View A) (k : ℕ) (c : Conn A) (o : Own A) → v.conns k ≡ Some c → v.here ≡ Some k → v.own ≡ Some o → c.client ≡ InOnline o.number → LinkKept v → (s : Session A) × IsIn v c o s
+abbrev pub OwnIn : {A : Type 0} → View A → Conn A → Own A → Type 0
+OwnIn {A = A} v c o = (s : Session A) × IsIn v c o s
+
+-- a count of what the client put, and those behind it
+abbrev pub DownCounted : {A : Type 0} → ℕ → Session A → List (DownWord A) → Type 0
+DownCounted h s rest = (s.up.acked ≤ h) × Contains s.up.stated h × DownCounts h s.up.stated rest
+
+pub in_own : {A : Type 0} (v : View A) (k : ℕ) (c : Conn A) (o : Own A) → v.conns k ≡ Some c → v.here ≡ Some k → v.own ≡ Some o → c.client ≡ InOnline o.number → LinkKept v → OwnIn v c o
 in_own v k c o is here is_own client kept =
     let old = kept.own o is_own in
     let goes = kept.goes_down k c o.number here is (ap (λ x. carried_by x (down_whole c.wires)) client) in
@@ -342,7 +349,7 @@ down_stanza_keeps {A = A} k z v next m kept = subst LinkKept (sym m.gives) (hear
     f : ℕ → Session A → Session A
     f = λ q s. read_if (has (Some m.own.number) q) z (down_stanzas m.rest) s
 
-    on : (s : Session A) × IsIn v m.conn m.own s
+    on : OwnIn v m.conn m.own
     on = in_own v k m.conn m.own m.is m.here m.is_own m.client kept
 
     split : on.0.down.way ≡ z ∷ down_stanzas m.rest
@@ -436,7 +443,7 @@ down_request_keeps {A = A} k v next m kept = subst LinkKept (sym m.gives) (subst
     f : ℕ → Session A → Session A
     f = λ q s. told_if (has (Some m.own.number) q) s
 
-    on : (s : Session A) × IsIn v m.conn m.own s
+    on : OwnIn v m.conn m.own
     on = in_own v k m.conn m.own m.is m.here m.is_own m.client kept
 
 -- a count
@@ -508,10 +515,10 @@ down_count_keeps {A = A} k h v next m kept = subst LinkKept (sym m.gives) (heard
     f : ℕ → Session A → Session A
     f = λ q s. heard_if (has (Some m.own.number) q) h s
 
-    on : (s : Session A) × IsIn v m.conn m.own s
+    on : OwnIn v m.conn m.own
     on = in_own v k m.conn m.own m.is m.here m.is_own m.client kept
 
-    counts : (on.0.up.acked ≤ h) × Contains on.0.up.stated h × DownCounts h on.0.up.stated m.rest
+    counts : DownCounted h on.0 m.rest
     counts = subst (λ ws. DownCounts on.0.up.acked on.0.up.stated ws) m.first on.1.goes.counts
 
     queue : drop (h - m.own.acked) m.own.queue ≡ drop h on.0.up.put

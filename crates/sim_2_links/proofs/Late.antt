@@ -1,23 +1,25 @@
 -- The server takes an old word, on a connection that the client left, and resumes the session there.
-use Rattle.std.proofs.Common.{◌≡◌, ◌≢◌, ℕ, ◌+◌, ◌-◌, ◌≤◌, Bool, true, false, ◌&&◌, if◌then◌else◌, List, [], ◌∷◌, ◌++◌, length, drop, map, refl, sym, ap, ◌∙◌, subst, arith, inl, inr, None, Some}
+use Rattle.std.proofs.Common.{◌≡◌, ℕ, ◌+◌, ◌-◌, ◌≤◌, Bool, true, false, ◌&&◌, if◌then◌else◌, List, [], ◌∷◌, ◌++◌, length, drop, map, refl, sym, ap, ◌∙◌, subst, arith, inl, inr, None, Some}
 use Rattle.std.proofs.lemmas.Bool.{cases_Bool}
 use Rattle.std.specs.List.{Contains}
 use Rattle.sm_acks.specs.Delivery.{State, Acknowledge}
-use Rattle.sim_2_links.proofs.Entries.{same_number, at_same, at_other, Entry, New, Old, entry, was, altered, has_is, is_has}
+use Rattle.sim_2_links.proofs.Entries.{same_number, at_same, at_other, Entry, New, Old, entry, was, altered}
 use Rattle.sim_2_links.proofs.DeliveryRuns.{reached_more}
-use Rattle.sim_2_links.proofs.Tables.{send_down_whole, send_down_whole_up, left_up_whole, left_up_whole_down}
+use Rattle.sim_2_links.proofs.Tables.{send_down_whole, send_down_whole_up, left_up_whole_down}
 use Rattle.std.proofs.lemmas.List.{drop-drop, append-nil}
 use Rattle.std.proofs.lemmas.List.Elements.{Contains-append_left}
 use Rattle.sim_2_links.proofs.CutLinks.{not_true, some_one, there_cut, on_other, some_same}
 use Rattle.sim_2_links.proofs.Counting.{down_counts_more}
-use Rattle.sim_2_links.proofs.Hands.{no_entry, piped_up, taken_stands, up_words_down, flow_down, stopped_away}
+use Rattle.sim_2_links.proofs.Hands.{piped_up, taken_stands, up_words_down, flow_down, stopped_away}
 use Rattle.sim_2_links.proofs.Detached.{IsStill, still_asked, still_fits}
-use Rattle.sim_2_links.proofs.Resumption.{Asks, asks}
+use Rattle.sim_2_links.proofs.Resumption.{AsksFirst, asks_first}
 use Rattle.sim_2_links.proofs.ReadResumed.{phase_session, bare_stanzas}
+use Rattle.sim_2_links.proofs.Heard.{same_session}
+use Rattle.sim_2_links.proofs.StepParts.{on_none, apart_from, RowAfter, GoesDownAfter}
 use Rattle.sim_2_links.specs.Words.{St, UpWord, ResumeAt, Foot, DownWord, Resumed, Down, AtSession}
 use Rattle.sim_2_links.specs.Wires.{Wires, Flow, Stop, is_flowing, up_words, down_words, up_whole, down_whole, send_down, left_up}
 use Rattle.sim_2_links.specs.Stages.{AsksResume, Resumes, client_of, down_of, Stands, tail_of, foot_of, Conn}
-use Rattle.sim_2_links.specs.Views.{with_at, alter, has, Session, Row, View, on_phase, session_on, carries, sends}
+use Rattle.sim_2_links.specs.Views.{with_at, alter, has, Session, Row, View, on_phase, session_on, sends}
 use Rattle.sim_2_links.specs.SessionMoves.{IsResumedLate}
 use Rattle.sim_2_links.specs.Links.{UpCounts, IsAsked, ConnKept, GoesUp, GoesDown, IsIdle, IsPlaced, RowKept, SessionKept, IsBare, LinkKept}
 
@@ -75,7 +77,7 @@ resumed_late_keeps {A = A} k v next m kept = subst LinkKept (sym m.gives) (recor
     acked = before.acked;
     queue = before.queue;
   };
-  sessions = λ q t found. let w = was f v.sessions q t found in subst SessionKept w.2 (late_kept (has (Some m.row.number) q) m.h w.0 (λ e. subst (λ (x : Session A). (x.counted ≡ true) × Contains x.down.stated m.h × (x.down.acked ≤ m.h)) (mine q w.0 e w.1) (counted, stated, low)) (kept.sessions q w.0 w.1));
+  sessions = λ q t found. let w = was f v.sessions q t found in subst SessionKept w.2 (late_kept (has (Some m.row.number) q) m.h w.0 (λ e. subst (λ (x : Session A). (x.counted ≡ true) × Contains x.down.stated m.h × (x.down.acked ≤ m.h)) (same_session v m.row.number q row.session w.0 row.is e w.1) (counted, stated, low)) (kept.sessions q w.0 w.1));
   goes_down = λ n d q here found carried. down n d q here carried (entry k this v.conns n d found);
   idle_up = λ q t found yes_counted.
       let w = was f v.sessions q t found in
@@ -89,7 +91,7 @@ resumed_late_keeps {A = A} k v next m kept = subst LinkKept (sym m.gives) (recor
       let before : w.0.counted ≡ true = ap (λ (x : Session A). x.counted) w.2 ∙ yes_counted in
       elim (kept.idle_down q w.0 w.1 before) [
         | inl quiet ↦ inl (subst (λ (x : Session A). IsIdle x.down) w.2 (record { way = quiet.way; is_open = quiet.is_open }))
-        | inr x ↦ inr (x.0, x.1, x.2, at_other k this v.conns x.0 (elsewhere x.0 x.2) ∙ x.3, x.4)
+        | inr x ↦ inr (x.0, x.1, x.2, at_other k this v.conns x.0 (apart_from v.here k x.0 m.left x.2) ∙ x.3, x.4)
       ];
   late = λ n d q found away on carried. late n d q on (entry k this v.conns n d found);
 })
@@ -112,8 +114,8 @@ resumed_late_keeps {A = A} k v next m kept = subst LinkKept (sym m.gives) (recor
     old : ConnKept v k m.conn
     old = kept.conns k m.conn m.is
 
-    asking : Asks old.stage m.row.number m.h (foot_of m.conn.footed) (up_whole (left_up m.rest m.conn.wires))
-    asking = asks old.stage m.conn.footed m.row.number m.h (up_whole (left_up m.rest m.conn.wires)) (sym old.at.up ∙ left_up_whole (ResumeAt m.row.number m.h) m.rest m.conn.wires m.first)
+    asking : AsksFirst old.stage m.conn m.row.number m.h m.rest
+    asking = asks_first old.stage m.conn m.row.number m.h m.rest old.at m.first
 
     stands : m.conn.ending ≡ Stands
     stands = taken_stands (has v.here k) m.conn (ResumeAt m.row.number m.h) m.rest old.piped m.first
@@ -158,12 +160,6 @@ resumed_late_keeps {A = A} k v next m kept = subst LinkKept (sym m.gives) (recor
         let sum : row.session.down.acked + (m.h - m.row.acked) ≡ m.h = omega arith in
         ap (drop (m.h - m.row.acked)) row.queue ∙ drop-drop (m.h - m.row.acked) row.session.down.acked row.session.down.put ∙ ap (λ (n : ℕ). drop n row.session.down.put) sum
 
-    mine : (q : ℕ) (t : Session A) → has (Some m.row.number) q ≡ true → v.sessions q ≡ Some t → row.session ≡ t
-    mine q t e found = let same : Some m.row.number ≡ Some q = has_is (Some m.row.number) q e in let n : m.row.number ≡ q = cc in some_one (v.sessions q) row.session t (subst (λ x. v.sessions x ≡ Some row.session) n row.is) found
-
-    elsewhere : (n : ℕ) → v.here ≡ Some n → k ≢ n
-    elsewhere n here same = not_true m.left (is_has v.here k (here ∙ ap Some (sym same)))
-
     goes_up : GoesUp this (f m.row.number row.session)
     goes_up = record {
       way = quiet.way ∙ sym (bare_stanzas (up_words (send_down puts (left_up m.rest m.conn.wires))) bare_this);
@@ -171,7 +167,7 @@ resumed_late_keeps {A = A} k v next m kept = subst LinkKept (sym m.gives) (recor
       counts = bare_counts (f m.row.number row.session).down.acked row.session.down.stated (up_words (send_down puts (left_up m.rest m.conn.wires))) bare_this;
     }
 
-    row_kept : RowKept (with_at k this v.conns) (alter f v.sessions) new
+    row_kept : RowAfter k this v f new
     row_kept = record {
       session = f m.row.number row.session;
       is = altered f v.sessions m.row.number row.session row.is;
@@ -181,12 +177,6 @@ resumed_late_keeps {A = A} k v next m kept = subst LinkKept (sym m.gives) (recor
       queue = rw same_number all;
       placed = (this, at_same k this v.conns, ap (λ x. on_phase (AtSession m.row.number) x m.conn.gone) stands ∙ ap (λ x. on_phase (AtSession m.row.number) Stands x) told, λ e. goes_up);
     }
-
-    no_other : (n : ℕ) (d : Conn A) (q : ℕ) → v.conns n ≡ Some d → session_on d ≡ Some q → ⊥
-    no_other n d q there on =
-        let a : (x : Row A) × (v.row ≡ Some x) × (x.number ≡ q) × (x.on ≡ Some n) = (kept.conns n d there).attached q on in
-        let same : a.0 ≡ m.row = some_one v.row a.0 m.row a.1 m.is_row in
-        no_entry n (sym m.off ∙ subst (λ (x : Row A). x.on ≡ Some n) same a.3)
 
     conn : (n : ℕ) (d : Conn A) → Entry k this v.conns n d → ConnKept (record v { conns = with_at k this v.conns; row = Some new; sessions = alter f v.sessions }) n d
     conn n d (New same is) =
@@ -214,17 +204,17 @@ resumed_late_keeps {A = A} k v next m kept = subst LinkKept (sym m.gives) (recor
           at = before.at;
           asked = still_asked f v.sessions before.stage gentle before.asked;
           fits = λ e. still_fits v.own v.epoch f v.sessions before.stage gentle (before.fits e);
-          attached = λ q e. absurd (no_other n d q there e);
+          attached = λ q e. absurd (on_none v m.row kept m.is_row m.off n d q there e);
           uncounted = λ r f on e. on_other k n new r f refl ne on;
           counting = λ r f on p e. on_other k n new r f refl ne on;
         }
 
-    down : (n : ℕ) (d : Conn A) (q : ℕ) → v.here ≡ Some n → carries d ≡ Some q → Entry k this v.conns n d → (t : Session A) × (alter f v.sessions q ≡ Some t) × GoesDown d t
-    down n d q here carried (New same is) = absurd (elsewhere n here same)
+    down : GoesDownAfter k this v f
+    down n d q here carried (New same is) = absurd (apart_from v.here k n m.left here same)
     down n d q here carried (Old ne there) =
         let before = kept.goes_down n d q here there carried in
         (f q before.0, altered f v.sessions q before.0 before.1, late_goes (has (Some m.row.number) q) m.h d before.0 before.2)
 
     late : (n : ℕ) (d : Conn A) (q : ℕ) → session_on d ≡ Some q → Entry k this v.conns n d → IsBare (up_words d.wires)
     late n d q on (New same is) = subst (λ x. IsBare (up_words x.wires)) is bare_this
-    late n d q on (Old ne there) = absurd (no_other n d q there on)
+    late n d q on (Old ne there) = absurd (on_none v m.row kept m.is_row m.off n d q there on)

@@ -4,6 +4,7 @@ pub mod Tables
 pub mod Entries
 pub mod Cuts
 pub mod CutLinks
+pub mod StepParts
 pub mod Hands
 pub mod Counting
 pub mod Served

@@ -1,11 +1,11 @@
 -- Each move keeps that a resumption on the connection dialled last states what the client has handled.
 use Rattle.std.proofs.Common.{◌≡◌, ℕ, ◌+◌, ◌-◌, true, false, ◌&&◌, List, [], ◌∷◌, ◌++◌, length, drop, refl, sym, ap, ◌∙◌, subst, Option, None, Some}
 use Rattle.sim_2_links.proofs.Entries.{at_same, Entry, New, Old, entry, was, is_has}
-use Rattle.sim_2_links.proofs.Tables.{cut_whole_up, send_down_whole_up, left_up_whole, NextUp, LeadsUp, server_leads, NextDown, LeadsDown, client_leads, left_down_whole}
+use Rattle.sim_2_links.proofs.Tables.{cut_whole_up, send_down_whole_up, UpRow, DownRow}
 use Rattle.sim_2_links.proofs.CutLinks.{some_one, some_same, cut_conn}
-use Rattle.sim_2_links.proofs.Hands.{no_entry}
+use Rattle.sim_2_links.proofs.Hands.{no_entry, up_row, down_row}
 use Rattle.sim_2_links.proofs.Asking.{at_features, steps, steps_at, off_ready}
-use Rattle.sim_2_links.proofs.Resumption.{Asks, asks}
+use Rattle.sim_2_links.proofs.Resumption.{AsksFirst, asks_first}
 use Rattle.sim_2_links.proofs.Enabling.{enabled_if}
 use Rattle.sim_2_links.proofs.ReadBound.{named_if}
 use Rattle.sim_2_links.proofs.ReadResumed.{resent_if}
@@ -16,8 +16,8 @@ use Rattle.sim_2_links.proofs.Putting.{serving}
 use Rattle.sim_2_links.proofs.Serving.{sent_down}
 use Rattle.sim_2_links.proofs.Newest.{IsNewest, asking_client, asking_phase, at_asking, plain_asks, IsOther, client_newest, IsHeardSame, heard_by, heard_same, server_newest, same_words, shut_words, no_word_after, footed_words}
 use Rattle.sim_2_links.specs.Words.{St, Req, Ack, up_stanzas, down_stanzas, UpWord, Hdr, ResumeAt, Bind, Enable, Up, Feat, Failed, Bound, Enabled, Down, InResume, InBind, InEnable, InOnline, Ready, AtSession, TooHigh}
-use Rattle.sim_2_links.specs.Wires.{is_flowing, up_whole, down_whole, send_up, send_down, left_up, left_down, cut, halt}
-use Rattle.sim_2_links.specs.Stages.{Reoffered, AsksResume, client_of, phase_of, up_of, down_of, Goes, server_hand, client_hand, Ending, Errs, Closes, tail_of, foot_of, Conn, IsAt, IsEarly}
+use Rattle.sim_2_links.specs.Wires.{is_flowing, up_whole, send_up, send_down, left_up, left_down, cut, halt}
+use Rattle.sim_2_links.specs.Stages.{Reoffered, AsksResume, Ending, Errs, Closes, tail_of, foot_of, Conn, IsAt, IsEarly}
 use Rattle.sim_2_links.specs.Views.{Table, with_at, alter, has, Session, Row, View, session_on, carries}
 use Rattle.sim_2_links.specs.LinkMoves.{ways_cut, IsCut, IsLetGo, dialled, IsDialled, IsUpHand, IsDownHand, handled_if, IsUpStanza, stated_if, IsUpRequest, acked_if, IsUpCount, read_if, IsDownStanza, told_if, IsDownRequest, heard_if, IsDownCount}
 use Rattle.sim_2_links.specs.SessionMoves.{IsAskResume, IsAskBind, IsRefused, shut, lost_if, IsDetached, IsRowEnded, unread, IsBound, IsReadBound, IsEnabled, IsReadEnabled, IsClientPut, resumed_if, resumed_words, IsResumedHere, IsResumedLate, again, IsReadResumed, IsParked}
@@ -68,11 +68,8 @@ down_hand_newest {A = A} n k v next m kept after a = subst (IsNewest n) (sym m.g
     old : ConnKept v k m.conn
     old = kept.conns k m.conn m.is
 
-    to : NextDown old.stage (tail_of m.conn.ending) m.client m.puts (down_whole (left_down m.rest m.conn.wires))
-    to =
-        let split : down_of old.stage ++ tail_of m.conn.ending ≡ m.word ∷ down_whole (left_down m.rest m.conn.wires) = sym old.at.down ∙ left_down_whole m.word m.rest m.conn.wires m.first in
-        let hand : client_hand None (client_of old.stage) m.word ≡ Goes m.client m.puts = ap (λ x. client_hand None x m.word) (sym old.at.client) ∙ m.hand in
-        subst (λ h. LeadsDown old.stage (tail_of m.conn.ending) h (down_whole (left_down m.rest m.conn.wires))) hand (client_leads None old.stage m.conn.ending m.word (down_whole (left_down m.rest m.conn.wires)) split)
+    to : DownRow old.stage m.conn m.client m.puts m.rest
+    to = down_row old.stage m.conn m.word m.rest m.client m.puts old.at m.first m.hand
 
     other : IsOther m.client
     other = by m.client refl
@@ -156,11 +153,8 @@ up_hand_newest {A = A} n k v next m kept after a = subst (IsNewest n) (sym m.giv
     old : ConnKept v k m.conn
     old = kept.conns k m.conn m.is
 
-    to : NextUp old.stage (foot_of m.conn.footed) m.phase m.puts (up_whole (left_up m.rest m.conn.wires))
-    to =
-        let split : up_of old.stage ++ foot_of m.conn.footed ≡ m.word ∷ up_whole (left_up m.rest m.conn.wires) = sym old.at.up ∙ left_up_whole m.word m.rest m.conn.wires m.first in
-        let hand : server_hand (phase_of old.stage) m.word ≡ Goes m.phase m.puts = ap (λ x. server_hand x m.word) (sym old.at.phase) ∙ m.hand in
-        subst (λ h. LeadsUp old.stage (foot_of m.conn.footed) h (up_whole (left_up m.rest m.conn.wires))) hand (server_leads old.stage m.conn.footed m.word (up_whole (left_up m.rest m.conn.wires)) split)
+    to : UpRow old.stage m.conn m.phase m.puts m.rest
+    to = up_row old.stage m.conn m.word m.rest m.phase m.puts old.at m.first m.hand
 
 pub failed_newest : {A : Type 0} (n : Option ℕ) (k : ℕ) (v next : View A) → IsFailed k v next → LinkKept v → IsNewest n v → IsNewest n next
 failed_newest {A = A} n k v next m kept a = subst (IsNewest n) (sym m.gives) (server_newest n v k m.conn (record m.conn { wires = send_down (Failed ∷ []) (left_up m.rest m.conn.wires) }) v.row v.sessions v.free m.is (heard_same v.sessions)
@@ -169,8 +163,8 @@ failed_newest {A = A} n k v next m kept a = subst (IsNewest n) (sym m.gives) (se
     old : ConnKept v k m.conn
     old = kept.conns k m.conn m.is
 
-    asking : Asks old.stage m.p m.h (foot_of m.conn.footed) (up_whole (left_up m.rest m.conn.wires))
-    asking = asks old.stage m.conn.footed m.p m.h (up_whole (left_up m.rest m.conn.wires)) (sym old.at.up ∙ left_up_whole (ResumeAt m.p m.h) m.rest m.conn.wires m.first)
+    asking : AsksFirst old.stage m.conn m.p m.h m.rest
+    asking = asks_first old.stage m.conn m.p m.h m.rest old.at m.first
 
 -- words in sessions come and go on connections in another phase
 

@@ -2,9 +2,9 @@
 use Rattle.std.proofs.Common.{◌≡◌, ℕ, ◌+◌, ◌≤◌, false, ◌&&◌, List, [], ◌∷◌, ◌++◌, refl, sym, ap, ◌∙◌, subst, arith, ◌⊎◌, inl, inr, None, Some}
 use Rattle.std.proofs.lemmas.Bool.{cases_eq}
 use Rattle.sim_2_links.proofs.Entries.{other_number, at_same, Entry, New, Old, entry, was, is_has}
-use Rattle.sim_2_links.proofs.Tables.{left_up_whole, left_down_whole, NextDown, LeadsDown, client_leads, NextUp, LeadsUp, server_leads}
+use Rattle.sim_2_links.proofs.Tables.{left_down_whole, UpRow, DownRow}
 use Rattle.sim_2_links.proofs.CutLinks.{some_same}
-use Rattle.sim_2_links.proofs.Hands.{no_entry, beginning_keeps}
+use Rattle.sim_2_links.proofs.Hands.{no_entry, beginning_keeps, up_row, down_row}
 use Rattle.sim_2_links.proofs.Detached.{first_whole}
 use Rattle.sim_2_links.proofs.Resumption.{asks}
 use Rattle.sim_2_links.proofs.Late.{late_if}
@@ -18,8 +18,8 @@ use Rattle.sim_2_links.proofs.ReadResumed.{resent_if}
 use Rattle.sim_2_links.proofs.Asking.{at_features, at_refused}
 use Rattle.sim_2_links.proofs.Reached.{move_keeps}
 use Rattle.sim_2_links.specs.Words.{UpWord, ResumeAt, DownWord, Failed, Bound, Enable, InFeatures2, InBind, InEnable, InResume, Ready, AtSession, up_stanzas, down_stanzas}
-use Rattle.sim_2_links.specs.Wires.{is_flowing, up_words, down_words, up_whole, down_whole, send_up, send_down, left_up, left_down}
-use Rattle.sim_2_links.specs.Stages.{Stage, AsksResume, Refused, Resumes, AsksBind, Binds, AsksEnable, Enables, Runs, client_of, phase_of, up_of, down_of, Goes, server_hand, client_hand, Ending, Stands, Errs, Closes, tail_of, foot_of, Conn, IsAt, IsPlain, IsEarly}
+use Rattle.sim_2_links.specs.Wires.{is_flowing, up_words, down_words, down_whole, send_up, send_down, left_up, left_down}
+use Rattle.sim_2_links.specs.Stages.{Stage, AsksResume, Refused, Resumes, AsksBind, Binds, AsksEnable, Enables, Runs, client_of, phase_of, down_of, Ending, Stands, Errs, Closes, tail_of, Conn, IsAt, IsPlain, IsEarly}
 use Rattle.sim_2_links.specs.Views.{with_at, alter, has, Session, Row, View, carries}
 use Rattle.sim_2_links.specs.LinkMoves.{ways_cut, handled_if, stated_if, acked_if, read_if, told_if, heard_if, dialled, IsUpHand, IsDownHand}
 use Rattle.sim_2_links.specs.SessionMoves.{lost_if, unread, resumed_if, IsBound, IsReadBound}
@@ -169,11 +169,8 @@ taken_hand_rises {A = A} k v next m kept rising = rises_by v next (rows_same v n
     old : ConnKept v k m.conn
     old = kept.conns k m.conn m.is
 
-    row : NextUp old.stage (foot_of m.conn.footed) m.phase m.puts (up_whole (left_up m.rest m.conn.wires))
-    row =
-        let split : up_of old.stage ++ foot_of m.conn.footed ≡ m.word ∷ up_whole (left_up m.rest m.conn.wires) = sym old.at.up ∙ left_up_whole m.word m.rest m.conn.wires m.first in
-        let hand : server_hand (phase_of old.stage) m.word ≡ Goes m.phase m.puts = ap (λ x. server_hand x m.word) (sym old.at.phase) ∙ m.hand in
-        subst (λ h. LeadsUp old.stage (foot_of m.conn.footed) h (up_whole (left_up m.rest m.conn.wires))) hand (server_leads old.stage m.conn.footed m.word (up_whole (left_up m.rest m.conn.wires)) split)
+    row : UpRow old.stage m.conn m.phase m.puts m.rest
+    row = up_row old.stage m.conn m.word m.rest m.phase m.puts old.at m.first m.hand
 
 read_hand_rises : {A : Type 0} (k : ℕ) (v next : View A) → IsDownHand k v next → LinkKept v → IsRising v → IsRising next
 read_hand_rises {A = A} k v next m kept rising = rises_by v next (rows_same v next (ap (λ (x : View _). x.row) m.gives)) (epochs_same v next (λ q. ap (λ (x : View _). x.sessions q) m.gives)) (brought_at v next k this (ap (λ (x : View _). x.here) m.gives) (λ n. ap (λ (x : View _). x.conns n) m.gives) (λ n e. absurd (plain_brings row.row (down_whole this.wires) n (row.plain early) (ap (λ x. brought_by x (down_whole this.wires)) row.state ∙ e)))) (ap (λ (x : View _). x.epoch) m.gives) (ap (λ (x : View _). x.free) m.gives) rising
@@ -187,11 +184,8 @@ read_hand_rises {A = A} k v next m kept rising = rises_by v next (rows_same v ne
     early : IsEarly (client_of old.stage)
     early = subst IsEarly old.at.client m.early
 
-    row : NextDown old.stage (tail_of m.conn.ending) m.client m.puts (down_whole (left_down m.rest m.conn.wires))
-    row =
-        let split : down_of old.stage ++ tail_of m.conn.ending ≡ m.word ∷ down_whole (left_down m.rest m.conn.wires) = sym old.at.down ∙ left_down_whole m.word m.rest m.conn.wires m.first in
-        let hand : client_hand None (client_of old.stage) m.word ≡ Goes m.client m.puts = ap (λ x. client_hand None x m.word) (sym old.at.client) ∙ m.hand in
-        subst (λ h. LeadsDown old.stage (tail_of m.conn.ending) h (down_whole (left_down m.rest m.conn.wires))) hand (client_leads None old.stage m.conn.ending m.word (down_whole (left_down m.rest m.conn.wires)) split)
+    row : DownRow old.stage m.conn m.client m.puts m.rest
+    row = down_row old.stage m.conn m.word m.rest m.client m.puts old.at m.first m.hand
 
 -- a session is bound
 
@@ -261,9 +255,6 @@ read_bound_rises {A = A} k number v next m kept rising = subst IsRising (sym m.g
     binds : old.stage ≡ Binds number
     binds = at_bound old.stage m.conn.ending number (down_whole (left_down m.rest m.conn.wires)) (sym old.at.client ∙ m.client) (sym old.at.down ∙ left_down_whole (Bound number) m.rest m.conn.wires m.first)
 
-    fits : FitsOwn v.own v.epoch v.sessions (Binds number)
-    fits = subst (λ x. FitsOwn v.own v.epoch v.sessions x) binds (old.fits (is_has v.here k m.here))
-
     silent : (j n : ℕ) (c : Conn A) → v.here ≡ Some j → brings c ≡ Some n → Entry k this v.conns j c → ⊥
     silent j n c here e (New same one) = no_entry n (ap brings one ∙ e)
     silent j n c here e (Old ne there) = ne (some_same k j (sym m.here ∙ here))
@@ -277,6 +268,7 @@ read_bound_rises {A = A} k number v next m kept rising = subst IsRising (sym m.g
         let stays : w.0.epoch ≡ Some epoch = sym unchanged ∙ ap (λ (x : Session A). x.epoch) w.2 ∙ named in
         let brought : brings m.conn ≡ Some number = binds_brings old.stage m.conn number old.at binds in
         let low = rising.above k number m.conn m.here m.is brought r.number epoch w.0 w.1 stays in
+        let fits : FitsOwn v.own v.epoch v.sessions (Binds number) = subst (λ x. FitsOwn v.own v.epoch v.sessions x) binds (old.fits (is_has v.here k m.here)) in
         let high = rising.newest r is number fits.1.0 fits.1.1 in
         absurd (let no_way : ⊥ = omega arith in no_way)
       where

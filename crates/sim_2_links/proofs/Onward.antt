@@ -6,16 +6,16 @@ use Rattle.std.specs.List.{Contains}
 use Rattle.sm_acks.specs.Delivery.{Acknowledge, beginning, Cut, Direction, Handle, Move, Moves, Put, Reaches, Resume, State}
 use Rattle.sim_2_links.proofs.CutLinks.{some_one}
 use Rattle.sim_2_links.proofs.Entries.{altered, at_other, is_has}
-use Rattle.sim_2_links.proofs.Heard.{IsIn, in_own, same_session}
+use Rattle.sim_2_links.proofs.Heard.{in_own, same_session, OwnIn, DownCounted}
 use Rattle.sim_2_links.proofs.Late.{late_if}
 use Rattle.sim_2_links.proofs.Reached.{link_kept, move_keeps}
 use Rattle.sim_2_links.proofs.ReadBound.{at_bound}
-use Rattle.sim_2_links.proofs.Resumption.{Asks, asks}
-use Rattle.sim_2_links.proofs.Served.{IsOn, on_row}
-use Rattle.sim_2_links.proofs.Tables.{left_down_whole, left_up_whole}
-use Rattle.sim_2_links.specs.Words.{Bound, ResumeAt, up_stanzas, down_stanzas}
-use Rattle.sim_2_links.specs.Wires.{down_whole, is_flowing, left_down, left_up, up_whole}
-use Rattle.sim_2_links.specs.Stages.{AsksResume, Binds, Ending, foot_of}
+use Rattle.sim_2_links.proofs.Resumption.{AsksFirst, asks_first}
+use Rattle.sim_2_links.proofs.Served.{on_row, RowOn, UpCounted}
+use Rattle.sim_2_links.proofs.Tables.{left_down_whole}
+use Rattle.sim_2_links.specs.Words.{Bound, up_stanzas, down_stanzas}
+use Rattle.sim_2_links.specs.Wires.{down_whole, is_flowing, left_down}
+use Rattle.sim_2_links.specs.Stages.{AsksResume, Binds, Ending}
 use Rattle.sim_2_links.specs.Views.{Session, Table, View, alter, carries, cut_if, has}
 use Rattle.sim_2_links.specs.LinkMoves.{IsCut, IsDownCount, IsDownRequest, IsDownStanza, IsUpCount, IsUpRequest, IsUpStanza, acked_if, handled_if, heard_if, read_if, stated_if, told_if, ways_cut}
 use Rattle.sim_2_links.specs.SessionMoves.{IsAskResume, IsBound, IsClientPut, IsDetached, IsEnabled, IsReadBound, IsReadEnabled, IsReadResumed, IsResumedHere, IsResumedLate, lost_if, put_if, resumed_if, unread}
@@ -186,13 +186,10 @@ read_bound_goes {A = A} k n v next m kept =
 enabled_goes : {A : Type 0} (k : ℕ) (v next : View A) → IsEnabled k v next → LinkKept v → AreOnward v.sessions next.sessions
 enabled_goes {A = A} k v next m kept =
     changed_by v next (λ q s. enabled_if (has (Some m.row.number) q) (is_flowing m.conn.wires) s) (λ p. ap (λ (w : View A). w.sessions p) m.gives)
-    (λ p s is. enabled_on (has (Some m.row.number) p) (is_flowing m.conn.wires) s (λ e. subst (λ (x : Session A). (x.up ≡ beginning) × (x.down ≡ beginning)) (same_session v m.row.number p row.session s row.is e is) begun))
+    (λ p s is. enabled_on (has (Some m.row.number) p) (is_flowing m.conn.wires) s (λ e. subst (λ (x : Session A). (x.up ≡ beginning) × (x.down ≡ beginning)) (same_session v m.row.number p row.session s row.is e is) ((kept.sessions m.row.number row.session row.is).begun (sym row.counted ∙ m.uncounted))))
   where
     row : RowKept v.conns v.sessions m.row
     row = kept.row m.row m.is_row
-
-    begun : (row.session.up ≡ beginning) × (row.session.down ≡ beginning)
-    begun = (kept.sessions m.row.number row.session row.is).begun (sym row.counted ∙ m.uncounted)
 
 read_enabled_goes : {A : Type 0} (k n : ℕ) (v next : View A) → IsReadEnabled k n v next → AreOnward v.sessions next.sessions
 read_enabled_goes {A = A} k n v next m = changed_by v next (λ q s. record s { read = if has (Some n) q then true else s.read }) (λ p. ap (λ (w : View A). w.sessions p) m.gives)
@@ -219,7 +216,7 @@ up_stanza_goes {A = A} k z v next m kept =
     changed_by v next (λ q s. handled_if (has (Some m.row.number) q) z (up_stanzas m.rest) s) (λ p. ap (λ (w : View A). w.sessions p) m.gives)
     (λ p s is. handled_on (has (Some m.row.number) p) z (up_stanzas m.rest) s (λ e. subst (λ (x : Session A). x.up.way ≡ z ∷ up_stanzas m.rest) (same_session v m.row.number p on.0 s on.1.is e is) (on.1.goes.way ∙ ap up_stanzas m.first)))
   where
-    on : (s : Session A) × IsOn v k m.conn m.row s
+    on : RowOn v k m.conn m.row
     on = on_row v k m.conn m.row m.is m.is_row m.on m.counted kept
 
 up_request_goes : {A : Type 0} (k : ℕ) (v next : View A) → IsUpRequest k v next → AreOnward v.sessions next.sessions
@@ -230,10 +227,10 @@ up_count_goes {A = A} k h v next m kept =
     changed_by v next (λ q s. acked_if (has (Some m.row.number) q) h s) (λ p. ap (λ (w : View A). w.sessions p) m.gives)
     (λ p s is. acked_on (has (Some m.row.number) p) h s (λ e. subst (λ (x : Session A). Contains x.down.stated h × (x.down.acked ≤ h)) (same_session v m.row.number p on.0 s on.1.is e is) (counts.1, counts.0)))
   where
-    on : (s : Session A) × IsOn v k m.conn m.row s
+    on : RowOn v k m.conn m.row
     on = on_row v k m.conn m.row m.is m.is_row m.on m.counted kept
 
-    counts : (on.0.down.acked ≤ h) × Contains on.0.down.stated h × UpCounts h on.0.down.stated m.rest
+    counts : UpCounted h on.0 m.rest
     counts = subst (λ ws. UpCounts on.0.down.acked on.0.down.stated ws) m.first on.1.goes.counts
 
 down_stanza_goes : {A : Type 0} (k : ℕ) (z : A) (v next : View A) → IsDownStanza k z v next → LinkKept v → AreOnward v.sessions next.sessions
@@ -241,7 +238,7 @@ down_stanza_goes {A = A} k z v next m kept =
     changed_by v next (λ q s. read_if (has (Some m.own.number) q) z (down_stanzas m.rest) s) (λ p. ap (λ (w : View A). w.sessions p) m.gives)
     (λ p s is. read_on (has (Some m.own.number) p) z (down_stanzas m.rest) s (λ e. subst (λ (x : Session A). x.down.way ≡ z ∷ down_stanzas m.rest) (same_session v m.own.number p on.0 s on.1.is e is) (on.1.goes.way ∙ ap down_stanzas m.first)))
   where
-    on : (s : Session A) × IsIn v m.conn m.own s
+    on : OwnIn v m.conn m.own
     on = in_own v k m.conn m.own m.is m.here m.is_own m.client kept
 
 down_request_goes : {A : Type 0} (k : ℕ) (v next : View A) → IsDownRequest k v next → AreOnward v.sessions next.sessions
@@ -252,10 +249,10 @@ down_count_goes {A = A} k h v next m kept =
     changed_by v next (λ q s. heard_if (has (Some m.own.number) q) h s) (λ p. ap (λ (w : View A). w.sessions p) m.gives)
     (λ p s is. heard_on (has (Some m.own.number) p) h s (λ e. subst (λ (x : Session A). Contains x.up.stated h × (x.up.acked ≤ h)) (same_session v m.own.number p on.0 s on.1.is e is) (counts.1, counts.0)))
   where
-    on : (s : Session A) × IsIn v m.conn m.own s
+    on : OwnIn v m.conn m.own
     on = in_own v k m.conn m.own m.is m.here m.is_own m.client kept
 
-    counts : (on.0.up.acked ≤ h) × Contains on.0.up.stated h × DownCounts h on.0.up.stated m.rest
+    counts : DownCounted h on.0 m.rest
     counts = subst (λ ws. DownCounts on.0.up.acked on.0.up.stated ws) m.first on.1.goes.counts
 
 resumed_here_goes : {A : Type 0} (k : ℕ) (v next : View A) → IsResumedHere k v next → AreOnward v.sessions next.sessions
@@ -272,8 +269,8 @@ resumed_late_goes {A = A} k v next m kept =
     row : RowKept v.conns v.sessions m.row
     row = kept.row m.row m.is_row
 
-    asking : Asks old.stage m.row.number m.h (foot_of m.conn.footed) (up_whole (left_up m.rest m.conn.wires))
-    asking = asks old.stage m.conn.footed m.row.number m.h (up_whole (left_up m.rest m.conn.wires)) (sym old.at.up ∙ left_up_whole (ResumeAt m.row.number m.h) m.rest m.conn.wires m.first)
+    asking : AsksFirst old.stage m.conn m.row.number m.h m.rest
+    asking = asks_first old.stage m.conn m.row.number m.h m.rest old.at m.first
 
     asked : IsAsked v.sessions (AsksResume m.row.number m.h)
     asked = subst (λ s. IsAsked v.sessions s) asking.is old.asked

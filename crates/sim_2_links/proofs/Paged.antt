@@ -1,13 +1,14 @@
 -- What the moves keep of pages: of each session, of the client's connection and of its queue.
-use Rattle.std.proofs.Common.{◌≡◌, ◌≢◌, ℕ, ◌+◌, ◌≤◌, true, false, List, length, sym, ap, ◌∙◌, subst, Option, None, Some}
+use Rattle.std.proofs.Common.{◌≡◌, ◌≢◌, ℕ, ◌+◌, ◌≤◌, true, false, List, length, sym, ap, ◌∙◌, subst, Option, None, Some, []}
 use Rattle.sim_2_links.proofs.Entries.{Entry, New, Old, entry, was, is_has}
 use Rattle.sim_2_links.proofs.CutLinks.{some_one, some_same}
 use Rattle.sim_2_links.proofs.UncountedEnds.{carried_holds}
-use Rattle.sim_2_links.specs.Wires.{is_flowing}
+use Rattle.sim_2_links.specs.Wires.{is_flowing, send_down, send_up, left_up, left_down}
 use Rattle.sim_2_links.specs.Stages.{Stands, Conn}
 use Rattle.sim_2_links.specs.Views.{Table, with_at, alter, has, Session, Row, Own, View, carries}
 use Rattle.sim_2_links.specs.Links.{ConnKept, LinkKept}
 use Rattle.sim_2_links.specs.Paging.{Paging, many, Course, course_of, asked_now, IsInTime}
+use Rattle.sim_2_links.specs.Words.{UpWord, DownWord}
 
 -- the server ends no page that was not asked for; the client asks for one page after the other; and at most one request
 -- that is not acknowledged is of a page that ended
@@ -31,6 +32,21 @@ pub record PagingKept {A : Type 0} (p : Paging A) (v : View A) : Type 0 where
   pub room : RoomKept p v.own
 
 -- sessions that change each by itself
+
+-- ---- statements: the connection `new` stands at k now, and f changed the sessions
+
+abbrev pub PagesAfter : {A : Type 0} → Paging A → View A → (ℕ → Session A → Session A) → Type 0
+PagesAfter {A = A} p v f = (q : ℕ) (s : Session A) → v.sessions q ≡ Some s → IsPaged p s.down.put (course_of s) → IsPaged p (f q s).down.put (course_of (f q s))
+
+abbrev pub InTimeAfter : {A : Type 0} → Paging A → ℕ → Conn A → View A → (ℕ → Session A → Session A) → Type 0
+InTimeAfter {A = A} p k new v f = (q : ℕ) (t : Session A) → v.here ≡ Some k → carries new ≡ Some q → alter f v.sessions q ≡ Some t → IsInTime p new.wires (course_of t)
+
+-- the server took a word and says nothing, or the client
+abbrev pub InTimeAsTaken : {A : Type 0} → Paging A → ℕ → Conn A → List (UpWord A) → View A → (ℕ → Session A → Session A) → Type 0
+InTimeAsTaken p k c rest v f = InTimeAfter p k (record c { wires = send_down [] (left_up rest c.wires) }) v f
+
+abbrev pub InTimeAsRead : {A : Type 0} → Paging A → ℕ → Conn A → List (DownWord A) → View A → (ℕ → Session A → Session A) → Type 0
+InTimeAsRead p k c rest v f = InTimeAfter p k (record c { wires = send_up [] (left_down rest c.wires) }) v f
 
 pub pages_by : {A : Type 0} (p : Paging A) (f : ℕ → Session A → Session A) (sessions : Table (Session A)) →
     ((q : ℕ) (s : Session A) → sessions q ≡ Some s → IsPaged p s.down.put (course_of s) → IsPaged p (f q s).down.put (course_of (f q s))) → PagesKept p sessions → PagesKept p (alter f sessions)

@@ -2,9 +2,9 @@
 use Rattle.std.proofs.Common.{◌≡◌, ℕ, ◌+◌, ◌-◌, true, false, ◌&&◌, [], ◌∷◌, ◌++◌, drop, map, refl, sym, ap, ◌∙◌, subst, arith, inl, inr, Option, None, Some}
 use Rattle.std.proofs.lemmas.Bool.{cases_Bool}
 use Rattle.sim_2_links.proofs.Entries.{Entry, New, Old, entry, was, is_has}
-use Rattle.sim_2_links.proofs.Tables.{cut_whole_down, left_up_whole, left_down_whole, left_up_whole_down, send_down_whole, NextDown, LeadsDown, client_leads, NextUp, LeadsUp, server_leads}
+use Rattle.sim_2_links.proofs.Tables.{cut_whole_down, left_up_whole, left_down_whole, left_up_whole_down, send_down_whole, UpRow, DownRow}
 use Rattle.sim_2_links.proofs.CutLinks.{some_one, some_same, cut_conn}
-use Rattle.sim_2_links.proofs.Hands.{no_entry, plain_carried}
+use Rattle.sim_2_links.proofs.Hands.{no_entry, plain_carried, up_row, down_row}
 use Rattle.sim_2_links.proofs.Asking.{at_features, steps, steps_at}
 use Rattle.sim_2_links.proofs.ReadBound.{at_bound, named_if}
 use Rattle.sim_2_links.proofs.Resumption.{asks}
@@ -17,7 +17,7 @@ use Rattle.sim_2_links.proofs.Paged.{IsPaged, PagingKept, pages_by, others_by, o
 use Rattle.sim_2_links.proofs.PagedWires.{cut_in_time, shut_in_time}
 use Rattle.sim_2_links.specs.Words.{St, ResumeAt, Bind, Enable, Feat, Failed, Resumed, Bound, Down, InResume, InBind, InEnable, AtSession, TooHigh}
 use Rattle.sim_2_links.specs.Wires.{up_whole, down_whole, send_up, send_down, left_up, left_down, cut, halt}
-use Rattle.sim_2_links.specs.Stages.{Reoffered, AsksResume, Binds, AsksEnable, client_of, phase_of, up_of, down_of, Goes, server_hand, client_hand, Ending, Stands, Errs, Closes, tail_of, foot_of, Conn, IsAt, IsEarly}
+use Rattle.sim_2_links.specs.Stages.{Reoffered, AsksResume, Binds, AsksEnable, client_of, Ending, Stands, Errs, Closes, tail_of, Conn, IsAt, IsEarly}
 use Rattle.sim_2_links.specs.Views.{with_at, alter, has, Session, Row, View, session_on, carried_by, carries}
 use Rattle.sim_2_links.specs.LinkMoves.{ways_cut, IsCut, IsLetGo, dialled, IsDialled, IsUpHand, IsDownHand, told_if}
 use Rattle.sim_2_links.specs.SessionMoves.{IsAskResume, IsAskBind, IsRefused, shut, lost_if, IsDetached, IsRowEnded, unread, IsBound, IsReadBound, IsResumedLate, IsParked}
@@ -84,11 +84,8 @@ up_hand_paged {A = A} p k v next m kept paged = subst (PagingKept p) (sym m.give
     old : ConnKept v k m.conn
     old = kept.conns k m.conn m.is
 
-    n : NextUp old.stage (foot_of m.conn.footed) m.phase m.puts (up_whole (left_up m.rest m.conn.wires))
-    n =
-        let split : up_of old.stage ++ foot_of m.conn.footed ≡ m.word ∷ up_whole (left_up m.rest m.conn.wires) = sym old.at.up ∙ left_up_whole m.word m.rest m.conn.wires m.first in
-        let hand : server_hand (phase_of old.stage) m.word ≡ Goes m.phase m.puts = ap (λ x. server_hand x m.word) (sym old.at.phase) ∙ m.hand in
-        subst (λ h. LeadsUp old.stage (foot_of m.conn.footed) h (up_whole (left_up m.rest m.conn.wires))) hand (server_leads old.stage m.conn.footed m.word (up_whole (left_up m.rest m.conn.wires)) split)
+    n : UpRow old.stage m.conn m.phase m.puts m.rest
+    n = up_row old.stage m.conn m.word m.rest m.phase m.puts old.at m.first m.hand
 
 pub down_hand_paged : {A : Type 0} (p : Paging A) (k : ℕ) (v next : View A) → IsDownHand k v next → LinkKept v → PagingKept p v → PagingKept p next
 down_hand_paged {A = A} p k v next m kept paged = subst (PagingKept p) (sym m.gives) (on_conn p v k new v.row (bare_this p v v.sessions k new
@@ -103,11 +100,8 @@ down_hand_paged {A = A} p k v next m kept paged = subst (PagingKept p) (sym m.gi
     early : IsEarly (client_of old.stage)
     early = subst IsEarly old.at.client m.early
 
-    n : NextDown old.stage (tail_of m.conn.ending) m.client m.puts (down_whole (left_down m.rest m.conn.wires))
-    n =
-        let split : down_of old.stage ++ tail_of m.conn.ending ≡ m.word ∷ down_whole (left_down m.rest m.conn.wires) = sym old.at.down ∙ left_down_whole m.word m.rest m.conn.wires m.first in
-        let hand : client_hand None (client_of old.stage) m.word ≡ Goes m.client m.puts = ap (λ x. client_hand None x m.word) (sym old.at.client) ∙ m.hand in
-        subst (λ h. LeadsDown old.stage (tail_of m.conn.ending) h (down_whole (left_down m.rest m.conn.wires))) hand (client_leads None old.stage m.conn.ending m.word (down_whole (left_down m.rest m.conn.wires)) split)
+    n : DownRow old.stage m.conn m.client m.puts m.rest
+    n = down_row old.stage m.conn m.word m.rest m.client m.puts old.at m.first m.hand
 
 pub ask_resume_paged : {A : Type 0} (p : Paging A) (k : ℕ) (v next : View A) → IsAskResume k v next → LinkKept v → PagingKept p v → PagingKept p next
 ask_resume_paged {A = A} p k v next m kept paged = subst (PagingKept p) (sym m.gives) (record {

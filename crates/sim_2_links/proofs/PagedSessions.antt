@@ -7,14 +7,14 @@ use Rattle.sim_2_links.proofs.Entries.{same_number, was, is_has}
 use Rattle.sim_2_links.proofs.Tables.{left_up_whole, left_up_whole_down, left_down_whole, send_down_whole}
 use Rattle.sim_2_links.proofs.CutLinks.{some_one, some_same}
 use Rattle.sim_2_links.proofs.Hands.{taken_stands, up_words_down, flow_down, flow_up}
-use Rattle.sim_2_links.proofs.Resumption.{Asks, asks, down_none}
+use Rattle.sim_2_links.proofs.Resumption.{asks, down_none, AsksFirst, asks_first}
 use Rattle.sim_2_links.proofs.ReadResumed.{Reads, reads, up_none, resent_if}
 use Rattle.sim_2_links.proofs.ReadEnabled.{known_if}
 use Rattle.sim_2_links.proofs.Enabling.{AsksEnabled, asks_enabled, enabled_if}
 use Rattle.sim_2_links.proofs.Heard.{down_words_up}
 use Rattle.sim_2_links.proofs.Prompt.{flowing_up_left, flowing_down_left}
 use Rattle.sim_2_links.proofs.Many.{many_split, many_rises, dropped, ends_sent, covered_sent, again_taken, again_last}
-use Rattle.sim_2_links.proofs.Paged.{IsPaged, PagingKept, pages_by, others_by, no_others, time_with}
+use Rattle.sim_2_links.proofs.Paged.{PagingKept, pages_by, others_by, no_others, time_with, PagesAfter, InTimeAfter}
 use Rattle.sim_2_links.proofs.PagedWires.{IsRead, none_quiet, word_read}
 use Rattle.sim_2_links.proofs.PagedTraffic.{front_asked}
 use Rattle.sim_2_links.specs.Words.{St, UpWord, ResumeAt, Enable, Resumed, Enabled, Down, InResume, InEnable, InOnline, AtSession}
@@ -167,8 +167,8 @@ resumed_here_paged {A = A} p k v next m kept paged = subst (PagingKept p) (sym m
     works : has v.here k ≡ true
     works = is_has v.here k m.here
 
-    asking : Asks old.stage m.row.number m.h (foot_of m.conn.footed) (up_whole (left_up m.rest m.conn.wires))
-    asking = asks old.stage m.conn.footed m.row.number m.h (up_whole (left_up m.rest m.conn.wires)) (sym old.at.up ∙ left_up_whole (ResumeAt m.row.number m.h) m.rest m.conn.wires m.first)
+    asking : AsksFirst old.stage m.conn m.row.number m.h m.rest
+    asking = asks_first old.stage m.conn m.row.number m.h m.rest old.at m.first
 
     stands : m.conn.ending ≡ Stands
     stands = taken_stands (has v.here k) m.conn (ResumeAt m.row.number m.h) m.rest old.piped m.first
@@ -223,7 +223,7 @@ resumed_here_paged {A = A} p k v next m kept paged = subst (PagingKept p) (sym m
         covers e = resumed_covers p row.session.up.put (asked_now p (course_of row.session)) m.row.number m.row.handled (drop (m.h - m.row.acked) m.row.queue) m.rest m.conn.wires no_down
             (sym (flow_down (Resumed m.row.number m.row.handled ∷ map Down (map St queue)) m.rest m.conn.wires) ∙ e)
 
-    this : (q : ℕ) (t : Session A) → v.here ≡ Some k → carries new ≡ Some q → alter f v.sessions q ≡ Some t → IsInTime p new.wires (course_of t)
+    this : InTimeAfter p k new v f
     this q t here carried is =
         let w = was f v.sessions q t is in
         let number : m.row.number ≡ q = carried_is q carried in
@@ -276,7 +276,7 @@ read_resumed_paged {A = A} p k v next m kept paged = subst (PagingKept p) (sym m
     carried : carries m.conn ≡ Some m.own.number
     carried = ap (λ x. carried_by x (down_whole m.conn.wires)) m.client ∙ ap (carried_by (InResume m.own.number)) (left_down_whole (Resumed m.own.number m.h) m.rest m.conn.wires m.first)
 
-    page : (q : ℕ) (s : Session A) → v.sessions q ≡ Some s → IsPaged p s.down.put (course_of s) → IsPaged p (f q s).down.put (course_of (f q s))
+    page : PagesAfter p v f
     page q s is a = record { served = a.served; asked = a.asked; over = by (has (Some m.own.number) q) }
       where
         by : (b : Bool) → many p.ends s.down.got ≤ many p.asks (take (if b then length s.up.got else s.up.acked) s.up.put) + 1
@@ -347,7 +347,7 @@ read_resumed_paged {A = A} p k v next m kept paged = subst (PagingKept p) (sym m
             let asked = a.asked in
             omega arith
 
-    this : (q : ℕ) (t : Session A) → v.here ≡ Some k → carries new ≡ Some q → alter f v.sessions q ≡ Some t → IsInTime p new.wires (course_of t)
+    this : InTimeAfter p k new v f
     this q t here carried is =
         let w = was f v.sessions q t is in
         let number : m.own.number ≡ q = some_same m.own.number q carried in

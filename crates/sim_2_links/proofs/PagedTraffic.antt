@@ -13,7 +13,7 @@ use Rattle.sim_2_links.proofs.Puts.{putting}
 use Rattle.sim_2_links.proofs.Putting.{serving}
 use Rattle.sim_2_links.proofs.Promised.{down_count_within}
 use Rattle.sim_2_links.proofs.Many.{many_push, many_rises, many_later, many_front, dropped, ended_stanzas, all_ended, none_where, one_where}
-use Rattle.sim_2_links.proofs.Paged.{IsPaged, PagesKept, PagingKept, pages_by, others_by, others_same, no_others, time_with, flowing_row, not_flowing}
+use Rattle.sim_2_links.proofs.Paged.{IsPaged, PagesKept, PagingKept, pages_by, others_by, others_same, no_others, time_with, flowing_row, not_flowing, PagesAfter, InTimeAsTaken, InTimeAsRead}
 use Rattle.sim_2_links.proofs.PagedWires.{IsRead, none_quiet, count_quiet, word_read, word_taken, word_put, queued_in_time, put_near, put_in_time, asked_in_time}
 use Rattle.sim_2_links.specs.Words.{Traffic, St, Req, Ack, up_stanzas, down_stanzas, UpWord, Up, DownWord, Head, Feat, Chal, Succ, Failed, Resumed, Bound, Enabled, Down, Err, End, Client, InHeader1, InFeatures1, InAuth, InResponse, InHeader2, InFeatures2, InResume, InBind, InEnable, InOnline}
 use Rattle.sim_2_links.specs.Wires.{is_flowing, down_words, down_whole, send_up, send_down, left_up, left_down}
@@ -108,7 +108,7 @@ up_stanza_paged {A = A} p k z v next m kept paged = subst (PagingKept p) (sym m.
     grown : (q : ℕ) (s : Session A) → IsPaged p s.down.put (course_of s) → IsPaged p (f q s).down.put (course_of (f q s))
     grown q s a = record { served = (let b = a.served in let c = more (has (Some m.row.number) q) s.up.got in omega arith); asked = a.asked; over = a.over }
 
-    this : (q : ℕ) (t : Session A) → v.here ≡ Some k → carries (record m.conn { wires = send_down [] (left_up m.rest m.conn.wires) }) ≡ Some q → alter f v.sessions q ≡ Some t → IsInTime p (send_down [] (left_up m.rest m.conn.wires)) (course_of t)
+    this : InTimeAsTaken p k m.conn m.rest v f
     this q t here carried is =
         let w = was f v.sessions q t is in
         let before : carries m.conn ≡ Some q = taken_carries m.conn (St z) m.rest q carried in
@@ -160,7 +160,7 @@ up_count_paged {A = A} p k h v next m paged = subst (PagingKept p) (sym m.gives)
     f : ℕ → Session A → Session A
     f = λ q s. acked_if (has (Some m.row.number) q) h s
 
-    this : (q : ℕ) (t : Session A) → v.here ≡ Some k → carries (record m.conn { wires = send_down [] (left_up m.rest m.conn.wires) }) ≡ Some q → alter f v.sessions q ≡ Some t → IsInTime p (send_down [] (left_up m.rest m.conn.wires)) (course_of t)
+    this : InTimeAsTaken p k m.conn m.rest v f
     this q t here carried is =
         let w = was f v.sessions q t is in
         let old : IsInTime p m.conn.wires (course_of w.0) = paged.time k q m.conn w.0 here m.is (taken_carries m.conn (Ack h) m.rest q carried) w.1 in
@@ -381,7 +381,7 @@ down_stanza_paged {A = A} p k z v next m paged = subst (PagingKept p) (sym m.giv
     new : Conn A
     new = record m.conn { wires = send_up [] (left_down m.rest m.conn.wires) }
 
-    page : (q : ℕ) (s : Session A) → v.sessions q ≡ Some s → IsPaged p s.down.put (course_of s) → IsPaged p (f q s).down.put (course_of (f q s))
+    page : PagesAfter p v f
     page q s is a = by (has (Some m.own.number) q) refl
       where
         by : (b : Bool) → has (Some m.own.number) q ≡ b → IsPaged p s.down.put (course_of (read_if b z (down_stanzas m.rest) s))
@@ -403,7 +403,7 @@ down_stanza_paged {A = A} p k z v next m paged = subst (PagingKept p) (sym m.giv
     heard : (s : Session A) → course_of (f m.own.number s) ≡ record (course_of s) { heard = s.down.got ++ z ∷ [] }
     heard s = rw same_number refl
 
-    this : (q : ℕ) (t : Session A) → v.here ≡ Some k → carries (record m.conn { wires = send_up [] (left_down m.rest m.conn.wires) }) ≡ Some q → alter f v.sessions q ≡ Some t → IsInTime p (send_up [] (left_down m.rest m.conn.wires)) (course_of t)
+    this : InTimeAsRead p k m.conn m.rest v f
     this q t here carried is =
         let w = was f v.sessions q t is in
         let number : m.own.number ≡ q = heard_carries m.conn m.own.number q [] m.rest m.client carried in
@@ -441,7 +441,7 @@ down_count_paged {A = A} p k h v next m kept paged = subst (PagingKept p) (sym m
     f : ℕ → Session A → Session A
     f = λ q s. heard_if (has (Some m.own.number) q) h s
 
-    page : (q : ℕ) (s : Session A) → v.sessions q ≡ Some s → IsPaged p s.down.put (course_of s) → IsPaged p (f q s).down.put (course_of (f q s))
+    page : PagesAfter p v f
     page q s is a = record { served = a.served; asked = a.asked; over = by (has (Some m.own.number) q) refl }
       where
         by : (b : Bool) → has (Some m.own.number) q ≡ b → many p.ends s.down.got ≤ many p.asks (take (heard_if b h s).up.acked s.up.put) + 1
@@ -460,7 +460,7 @@ down_count_paged {A = A} p k h v next m kept paged = subst (PagingKept p) (sym m
     heard : (s : Session A) → course_of (f m.own.number s) ≡ record (course_of s) { acked = h }
     heard s = rw same_number refl
 
-    this : (q : ℕ) (t : Session A) → v.here ≡ Some k → carries (record m.conn { wires = send_up [] (left_down m.rest m.conn.wires) }) ≡ Some q → alter f v.sessions q ≡ Some t → IsInTime p (send_up [] (left_down m.rest m.conn.wires)) (course_of t)
+    this : InTimeAsRead p k m.conn m.rest v f
     this q t here carried is =
         let w = was f v.sessions q t is in
         let number : m.own.number ≡ q = heard_carries m.conn m.own.number q [] m.rest m.client carried in

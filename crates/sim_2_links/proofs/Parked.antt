@@ -1,12 +1,13 @@
 -- The server hears of the end of a connection.
-use Rattle.std.proofs.Common.{◌≡◌, ◌≢◌, ℕ, true, ◌&&◌, refl, sym, ap, ◌∙◌, subst, ◌⊎◌, inl, inr, None, Some}
+use Rattle.std.proofs.Common.{◌≡◌, ℕ, true, ◌&&◌, refl, sym, ap, ◌∙◌, subst, ◌⊎◌, inl, inr, None, Some}
 use Rattle.std.proofs.lemmas.Bool.{cases_eq}
 use Rattle.sim_2_links.proofs.Entries.{at_same, at_other, Entry, New, Old, entry}
 use Rattle.sim_2_links.proofs.CutLinks.{not_true, some_one, there_cut, off_row}
 use Rattle.sim_2_links.proofs.Hands.{no_entry}
+use Rattle.sim_2_links.proofs.StepParts.{on_no_other, on_nowhere, GoesDownStill}
 use Rattle.sim_2_links.specs.Words.{up_stanzas, Phase, Start, Sasl, Challenge, Restart, Ready, AtSession}
 use Rattle.sim_2_links.specs.Stages.{Ending, Stands, Errs, Closes, Conn}
-use Rattle.sim_2_links.specs.Views.{with_at, Session, Row, View, on_phase, session_on, carries, sends}
+use Rattle.sim_2_links.specs.Views.{with_at, Row, View, on_phase, session_on, carries, sends}
 use Rattle.sim_2_links.specs.SessionMoves.{IsParked}
 use Rattle.sim_2_links.specs.Links.{ConnKept, GoesUp, GoesDown, IsPlaced, RowKept, IsCarried, LinkKept}
 
@@ -19,6 +20,9 @@ gone_off Ready end = refl
 gone_off (AtSession p) Stands = refl
 gone_off (AtSession p) (Errs x) = refl
 gone_off (AtSession p) Closes = refl
+
+pub told_gone_off : {A C : Type 0} (c : Conn A) (q : ℕ) → session_on (record c { gone = true }) ≡ Some q → C
+told_gone_off c q e = no_entry q (sym (gone_off c.phase c.ending) ∙ e)
 
 pub parked_keeps : {A : Type 0} (k : ℕ) (v next : View A) → IsParked k v next → LinkKept v → LinkKept next
 parked_keeps {A = A} k v next m kept = subst LinkKept (sym m.gives) (record {
@@ -33,7 +37,7 @@ parked_keeps {A = A} k v next m kept = subst LinkKept (sym m.gives) (record {
     | inr x ↦ inr (new, refl, ap (λ (r : Row A). r.number) (some_one v.row m.row x.0 m.is_row x.1) ∙ x.2)
   ];
   idle_down = λ q t found counted. elim (kept.idle_down q t found counted) [ inl quiet ↦ inl quiet | inr x ↦ inr (carried_on q x) ];
-  late = λ n d q found away on carried. absurd (nowhere n d q on (entry k this v.conns n d found));
+  late = λ n d q found away on carried. absurd (on_nowhere k this v (told_gone_off m.conn) (on_no_other v k m.row kept m.is_row m.on) n d q on (entry k this v.conns n d found));
 })
   where
     this : Conn A
@@ -64,21 +68,6 @@ parked_keeps {A = A} k v next m kept = subst LinkKept (sym m.gives) (record {
       placed = (m.counted, record { way = goes.way ∙ ap up_stanzas m.empty; is_open = goes.is_open ∙ ap (λ x. x && sends m.conn.client) m.ended });
     }
 
-    off : (q : ℕ) → session_on this ≡ Some q → ⊥
-    off q e = no_entry q (sym (gone_off m.conn.phase m.conn.ending) ∙ e)
-
-    no_other : (n : ℕ) (d : Conn A) (q : ℕ) → k ≢ n → v.conns n ≡ Some d → session_on d ≡ Some q → ⊥
-    no_other n d q ne there on =
-        let a : (x : Row A) × (v.row ≡ Some x) × (x.number ≡ q) × (x.on ≡ Some n) = (kept.conns n d there).attached q on in
-        let same : a.0 ≡ m.row = some_one v.row a.0 m.row a.1 m.is_row in
-        let both : m.row.on ≡ Some n = subst (λ (x : Row A). x.on ≡ Some n) same a.3 in
-        let on_k = m.on in
-        ne (let out : k ≡ n = cc in out)
-
-    nowhere : (n : ℕ) (d : Conn A) (q : ℕ) → session_on d ≡ Some q → Entry k this v.conns n d → ⊥
-    nowhere n d q on (New same is) = off q (subst (λ x. session_on x ≡ Some q) (sym is) on)
-    nowhere n d q on (Old ne there) = no_other n d q ne there on
-
     conn : (n : ℕ) (d : Conn A) → Entry k this v.conns n d → ConnKept (record v { conns = with_at k this v.conns; row = Some new }) n d
     conn n d (New same is) =
         let here : ConnKept (record v { conns = with_at k this v.conns; row = Some new }) k this = record {
@@ -94,16 +83,16 @@ parked_keeps {A = A} k v next m kept = subst LinkKept (sym m.gives) (record {
           at = record { client = old.at.client; phase = old.at.phase; up = old.at.up; down = old.at.down };
           asked = old.asked;
           fits = old.fits;
-          attached = λ q e. absurd (off q e);
+          attached = λ q e. told_gone_off m.conn q e;
           uncounted = λ r f on e. off_row k new r f refl on;
           counting = λ r f on p e. off_row k new r f refl on;
         } in
         subst (λ x. ConnKept (record v { conns = with_at k this v.conns; row = Some new }) x d) same (subst (λ x. ConnKept (record v { conns = with_at k this v.conns; row = Some new }) k x) is here)
     conn n d (Old ne there) =
         let before = kept.conns n d there in
-        record { piped = before.piped; stage = before.stage; at = before.at; asked = before.asked; fits = before.fits; attached = λ q e. absurd (no_other n d q ne there e); uncounted = λ r f on e. off_row n new r f refl on; counting = λ r f on p e. off_row n new r f refl on }
+        record { piped = before.piped; stage = before.stage; at = before.at; asked = before.asked; fits = before.fits; attached = λ q e. absurd (on_no_other v k m.row kept m.is_row m.on n d q ne there e); uncounted = λ r f on e. off_row n new r f refl on; counting = λ r f on p e. off_row n new r f refl on }
 
-    down : (n : ℕ) (d : Conn A) (q : ℕ) → v.here ≡ Some n → carries d ≡ Some q → Entry k this v.conns n d → (t : Session A) × (v.sessions q ≡ Some t) × GoesDown d t
+    down : GoesDownStill k this v
     down n d q here carried (New same is) =
         let before = kept.goes_down k m.conn q (here ∙ ap Some (sym same)) m.is (subst (λ x. carries x ≡ Some q) (sym is) carried) in
         let after : GoesDown this before.0 = record { counted = before.2.counted; way = before.2.way; is_open = before.2.is_open; counts = before.2.counts } in

@@ -1,9 +1,9 @@
 -- Each prompt move keeps that the count is still to come.
 use Rattle.std.proofs.Common.{◌≡◌, ℕ, ◌+◌, ◌-◌, Bool, true, false, ◌&&◌, List, [], ◌∷◌, ◌++◌, length, drop, map, refl, sym, ap, ◌∙◌, subst, ◌⊎◌, inl, inr, None, Some}
 use Rattle.sim_2_links.proofs.Entries.{Entry, New, Old, entry, is_has}
-use Rattle.sim_2_links.proofs.Tables.{cut_stops, left_up_whole, left_down_whole, NextDown, LeadsDown, client_leads, NextUp, LeadsUp, server_leads}
+use Rattle.sim_2_links.proofs.Tables.{cut_stops, left_up_whole, UpRow, DownRow}
 use Rattle.sim_2_links.proofs.CutLinks.{not_true, some_same, cut_conn}
-use Rattle.sim_2_links.proofs.Hands.{no_entry}
+use Rattle.sim_2_links.proofs.Hands.{no_entry, up_row, down_row}
 use Rattle.sim_2_links.proofs.Putting.{serving}
 use Rattle.sim_2_links.proofs.Resumption.{asks}
 use Rattle.sim_2_links.proofs.Late.{late_if}
@@ -14,8 +14,8 @@ use Rattle.sim_2_links.proofs.ReadBound.{named_if}
 use Rattle.sim_2_links.proofs.Asking.{steps}
 use Rattle.sim_2_links.proofs.Covering.{unseen_by, unseen_same, elsewhere_covered, silent_covered}
 use Rattle.sim_2_links.specs.Words.{St, UpWord, ResumeAt, Bind, Enable, DownWord, Failed, Bound, Resumed, Enabled, Down, InHeader1, InResume, InBind, InEnable, InOnline, AtSession, TooHigh}
-use Rattle.sim_2_links.specs.Wires.{Wires, Flow, Stop, is_flowing, up_words, down_words, up_whole, down_whole, send_up, send_down, left_up, left_down}
-use Rattle.sim_2_links.specs.Stages.{Stage, AsksResume, Refused, Resumes, AsksBind, Binds, AsksEnable, Enables, Runs, client_of, phase_of, up_of, down_of, Goes, server_hand, client_hand, Ending, Errs, Closes, tail_of, foot_of, Conn, IsPlain, IsEarly}
+use Rattle.sim_2_links.specs.Wires.{Wires, Flow, Stop, is_flowing, up_words, down_words, up_whole, send_up, send_down, left_up, left_down}
+use Rattle.sim_2_links.specs.Stages.{Stage, AsksResume, Refused, Resumes, AsksBind, Binds, AsksEnable, Enables, Runs, client_of, Ending, Errs, Closes, tail_of, Conn, IsPlain, IsEarly}
 use Rattle.sim_2_links.specs.Views.{with_at, alter, has, Session, Own, View, carries}
 use Rattle.sim_2_links.specs.LinkMoves.{ways_cut, IsCut, IsLetGo, dialled, IsDialled, IsUpHand, IsDownHand, told_if}
 use Rattle.sim_2_links.specs.SessionMoves.{IsAskResume, IsAskBind, IsRefused, shut, lost_if, IsDetached, IsRowEnded, unread, IsBound, IsReadBound, IsEnabled, resumed_if, IsResumedHere, IsResumedLate, IsParked}
@@ -106,11 +106,8 @@ up_hand_covered {A = A} test k v next m kept covered = subst (IsCovered test) (s
     old : ConnKept v k m.conn
     old = kept.conns k m.conn m.is
 
-    n : NextUp old.stage (foot_of m.conn.footed) m.phase m.puts (up_whole (left_up m.rest m.conn.wires))
-    n =
-        let split : up_of old.stage ++ foot_of m.conn.footed ≡ m.word ∷ up_whole (left_up m.rest m.conn.wires) = sym old.at.up ∙ left_up_whole m.word m.rest m.conn.wires m.first in
-        let hand : server_hand (phase_of old.stage) m.word ≡ Goes m.phase m.puts = ap (λ x. server_hand x m.word) (sym old.at.phase) ∙ m.hand in
-        subst (λ h. LeadsUp old.stage (foot_of m.conn.footed) h (up_whole (left_up m.rest m.conn.wires))) hand (server_leads old.stage m.conn.footed m.word (up_whole (left_up m.rest m.conn.wires)) split)
+    n : UpRow old.stage m.conn m.phase m.puts m.rest
+    n = up_row old.stage m.conn m.word m.rest m.phase m.puts old.at m.first m.hand
 
 pub down_hand_covered : {A : Type 0} (test : A → Bool) (k : ℕ) (v next : View A) → IsDownHand k v next → LinkKept v → IsCovered test v → IsCovered test next
 down_hand_covered {A = A} test k v next m kept covered = subst (IsCovered test) (sym m.gives) (elsewhere_covered test v k (record m.conn { client = m.client; wires = send_up m.puts (left_down m.rest m.conn.wires) }) v.row v.epoch v.sessions (unseen_same v)
@@ -122,11 +119,8 @@ down_hand_covered {A = A} test k v next m kept covered = subst (IsCovered test) 
     early : IsEarly (client_of old.stage)
     early = subst IsEarly old.at.client m.early
 
-    n : NextDown old.stage (tail_of m.conn.ending) m.client m.puts (down_whole (left_down m.rest m.conn.wires))
-    n =
-        let split : down_of old.stage ++ tail_of m.conn.ending ≡ m.word ∷ down_whole (left_down m.rest m.conn.wires) = sym old.at.down ∙ left_down_whole m.word m.rest m.conn.wires m.first in
-        let hand : client_hand None (client_of old.stage) m.word ≡ Goes m.client m.puts = ap (λ x. client_hand None x m.word) (sym old.at.client) ∙ m.hand in
-        subst (λ h. LeadsDown old.stage (tail_of m.conn.ending) h (down_whole (left_down m.rest m.conn.wires))) hand (client_leads None old.stage m.conn.ending m.word (down_whole (left_down m.rest m.conn.wires)) split)
+    n : DownRow old.stage m.conn m.client m.puts m.rest
+    n = down_row old.stage m.conn m.word m.rest m.client m.puts old.at m.first m.hand
 
 pub ask_resume_covered : {A : Type 0} (test : A → Bool) (k : ℕ) (v next : View A) → IsAskResume k v next → IsCovered test v → IsCovered test next
 ask_resume_covered test k v next m covered = subst (IsCovered test) (sym m.gives) (elsewhere_covered test v k (steps m.conn (InResume m.own.number) (ResumeAt m.own.number m.own.handled ∷ []) m.rest) v.row v.epoch (alter (λ q s. told_if (has (Some m.own.number) q) s) v.sessions)

@@ -112,12 +112,10 @@ read_enabled_covered {A = A} test k number v next m kept = subst (IsCovered test
     r : EnabledFirst old.stage number (tail_of m.conn.ending) (down_whole (left_down m.rest m.conn.wires))
     r = reads_enabled old.stage m.conn.ending number (down_whole (left_down m.rest m.conn.wires)) (sym old.at.client ∙ m.client) (sym old.at.down ∙ left_down_whole (Enabled number) m.rest m.conn.wires m.first)
 
-    fits : FitsOwn v.own v.epoch v.sessions (Enables number r.downs)
-    fits = subst (λ x. FitsOwn v.own v.epoch v.sessions x) r.is (old.fits (is_has v.here k m.here))
-
     mine : (t : Session A) → alter f v.sessions number ≡ Some t → IsCoveredBy test this new t
     mine t is =
         let w = was f v.sessions number t is in
+        let fits : FitsOwn v.own v.epoch v.sessions (Enables number r.downs) = subst (λ x. FitsOwn v.own v.epoch v.sessions x) r.is (old.fits (is_has v.here k m.here)) in
         let same : fits.1.0 ≡ w.0 = some_one (v.sessions number) fits.1.0 w.0 fits.1.1 w.1 in
         let put : t.up.put ≡ [] = ap (λ (x : Session A). x.up.put) (sym w.2) ∙ ap (λ (x : Session A). x.up.put) (sym same) ∙ (kept.sessions number fits.1.0 fits.1.1).unread fits.1.4 in
         record { count = 0; comes = inl refl; none = subst (λ (l : List A). NoneAsks test l) (sym put) tt }

@@ -10,7 +10,7 @@ use Rattle.sim_2_links.proofs.Putting.{serving}
 use Rattle.sim_2_links.proofs.Serving.{sent_down}
 use Rattle.sim_2_links.proofs.Promised.{down_count_within}
 use Rattle.sim_2_links.proofs.ToCome.{drop_whole, none_behind, none_push, on_way_more, on_way_last, to_come_more, to_come_last}
-use Rattle.sim_2_links.proofs.Covering.{unseen_by, unseen_same, server_covered, client_covered, together}
+use Rattle.sim_2_links.proofs.Covering.{unseen_by, unseen_same, server_covered, client_covered, together, CoversAfter}
 use Rattle.sim_2_links.proofs.Prompt.{flowing_up, flowing_up_left, flowing_down, flowing_down_left, same_down, same_up, same_flow_up, same_flow_down, carry_over}
 use Rattle.sim_2_links.specs.Words.{St, Req, Ack, up_stanzas, down_stanzas, UpWord, Up, Down}
 use Rattle.sim_2_links.specs.Wires.{is_flowing, up_words, down_words, send_up, send_down, left_up, left_down}
@@ -207,7 +207,7 @@ down_stanza_covered {A = A} test k z v next m covered = subst (IsCovered test) (
     f : ℕ → Session A → Session A
     f = λ q s. read_if (has (Some m.own.number) q) z (down_stanzas m.rest) s
 
-    mine : (t : Session A) → is_flowing (send_up [] (left_down m.rest m.conn.wires)) ≡ true → alter f v.sessions m.own.number ≡ Some t → IsCoveredBy test this new t
+    mine : CoversAfter test this v f new
     mine t flows is =
         let w = was f v.sessions m.own.number t is in
         let flows_old : is_flowing m.conn.wires ≡ true = sym (flow_up [] m.rest m.conn.wires) ∙ flows in
@@ -250,7 +250,7 @@ down_count_covered {A = A} test k h v next m kept covered = subst (IsCovered tes
     f : ℕ → Session A → Session A
     f = λ q s. heard_if (has (Some m.own.number) q) h s
 
-    mine : (t : Session A) → is_flowing (send_up [] (left_down m.rest m.conn.wires)) ≡ true → alter f v.sessions m.own.number ≡ Some t → IsCoveredBy test this new t
+    mine : CoversAfter test this v f new
     mine t flows is =
         let w = was f v.sessions m.own.number t is in
         let flows_old : is_flowing m.conn.wires ≡ true = sym (flow_up [] m.rest m.conn.wires) ∙ flows in

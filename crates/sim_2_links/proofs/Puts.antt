@@ -7,7 +7,7 @@ use Rattle.std.proofs.lemmas.List.{drop-append-le, length-append}
 use Rattle.sm_acks.proofs.Directions.{kept_reached}
 use Rattle.sim_2_links.proofs.CutLinks.{not_true}
 use Rattle.sim_2_links.proofs.Counting.{up_counts_with, up_stanzas_with}
-use Rattle.sim_2_links.proofs.Heard.{IsRelayable, heard_keeps, IsIn, in_own, same_session}
+use Rattle.sim_2_links.proofs.Heard.{IsRelayable, heard_keeps, in_own, same_session, OwnIn}
 use Rattle.sim_2_links.specs.Words.{St, up_stanzas, down_stanzas, Up, InOnline}
 use Rattle.sim_2_links.specs.Wires.{Wires, Flow, Stop, is_flowing, up_words, down_words, down_whole, send_up, left_down}
 use Rattle.sim_2_links.specs.Stages.{Conn}
@@ -125,7 +125,7 @@ client_put_keeps {A = A} k z v next m kept = subst LinkKept (sym m.gives) (subst
     f : ℕ → Session A → Session A
     f = λ q s. putting (has (Some m.own.number) q) z s
 
-    on : (s : Session A) × IsIn v m.conn m.own s
+    on : OwnIn v m.conn m.own
     on = in_own v k m.conn m.own m.is m.here m.is_own m.client kept
 
     within : on.0.up.acked ≤ length on.0.up.put

@@ -14,10 +14,11 @@ use Rattle.sim_2_links.proofs.Puts.{put_quiet}
 use Rattle.sim_2_links.proofs.Detached.{IsStill, still_asked, still_fits}
 use Rattle.sim_2_links.proofs.UncountedEnds.{carried_holds}
 use Rattle.sim_2_links.proofs.Serving.{sent_down, sent_keeps}
+use Rattle.sim_2_links.proofs.StepParts.{on_none}
 use Rattle.sim_2_links.specs.Words.{St, Req, down_stanzas, Down}
 use Rattle.sim_2_links.specs.Wires.{Wires, Flow, Stop, is_flowing, down_words, send_down}
 use Rattle.sim_2_links.specs.Stages.{Conn}
-use Rattle.sim_2_links.specs.Views.{Table, with_at, alter, changed, has, Session, Row, Own, View, session_on, carries}
+use Rattle.sim_2_links.specs.Views.{Table, with_at, alter, changed, has, Session, Row, Own, View, carries}
 use Rattle.sim_2_links.specs.SessionMoves.{put_if}
 use Rattle.sim_2_links.specs.PutMoves.{IsServerPut, IsServerQueued, IsServerRequest}
 use Rattle.sim_2_links.specs.Links.{DownCounts, GoesDown, IsIdle, IsPlaced, RowKept, OwnKept, SessionKept, LinkKept}
@@ -181,7 +182,7 @@ server_queued_keeps {A = A} z v next m kept = subst LinkKept (sym m.gives) (reco
     at = before.at;
     asked = still_asked f v.sessions before.stage (serving_still m.row.number z) before.asked;
     fits = λ e. still_fits v.own v.epoch f v.sessions before.stage (serving_still m.row.number z) (before.fits e);
-    attached = λ q e. absurd (nowhere n d q found e);
+    attached = λ q e. absurd (on_none v m.row kept m.is_row m.off n d q found e);
     uncounted = λ x g on e. let one : x ≡ new = cc in no_entry n (sym m.off ∙ subst (λ (y : Row A). y.on ≡ Some n) one on);
     counting = λ x g on p e. let one : x ≡ new = cc in no_entry n (sym m.off ∙ subst (λ (y : Row A). y.on ≡ Some n) one on);
   };
@@ -214,17 +215,12 @@ server_queued_keeps {A = A} z v next m kept = subst LinkKept (sym m.gives) (reco
     row : RowKept v.conns v.sessions m.row
     row = kept.row m.row m.is_row
 
-    nowhere : (n : ℕ) (d : Conn A) (q : ℕ) → v.conns n ≡ Some d → session_on d ≡ Some q → ⊥
-    nowhere n d q found e =
-        let a = (kept.conns n d found).attached q e in
-        no_entry n (sym m.off ∙ subst (λ (y : Row A). y.on ≡ Some n) (some_one v.row a.0 m.row a.1 m.is_row) a.3)
-
     dead : (n : ℕ) (d : Conn A) (q : ℕ) → v.conns n ≡ Some d → carries d ≡ Some q → (is_flowing d.wires ≡ true) ⊎ (is_flowing d.wires ≡ false) → is_flowing d.wires ≡ false
     dead n d q found carried (inr e) = e
     dead n d q found carried (inl e) =
         let before = kept.conns n d found in
         let flows = before.piped.flowing e in
-        absurd (nowhere n d q found (carried_holds before.stage d q before.at carried flows.1 flows.2))
+        absurd (on_none v m.row kept m.is_row m.off n d q found (carried_holds before.stage d q before.at carried flows.1 flows.2))
 
     row_kept : RowKept v.conns (alter f v.sessions) new
     row_kept =

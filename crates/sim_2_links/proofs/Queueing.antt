@@ -10,12 +10,13 @@ use Rattle.sim_2_links.proofs.Heard.{answered, heard_keeps, same_session}
 use Rattle.sim_2_links.proofs.Puts.{putting, put_kept, put_quiet, same_wires}
 use Rattle.sim_2_links.proofs.Putting.{unchanged, within}
 use Rattle.sim_2_links.proofs.Detached.{IsStill, still_asked, still_fits}
+use Rattle.sim_2_links.proofs.StepParts.{StaysPlaced, OwnAfter}
 use Rattle.sim_2_links.specs.Words.{Req, up_stanzas, down_stanzas, Up}
 use Rattle.sim_2_links.specs.Wires.{Wires, Flow, Stop, is_flowing, up_words, down_words, down_whole, send_up, left_down}
 use Rattle.sim_2_links.specs.Stages.{Stage, Greets, Greeted, Offered, Proves, Challenged, Answers, Succeeded, Regreets, Regreeted, Reoffered, AsksResume, Refused, Resumes, AsksBind, Binds, AsksEnable, Enables, Runs, client_of, Conn}
 use Rattle.sim_2_links.specs.Views.{Table, with_at, alter, has, Session, Row, Own, View, sends}
 use Rattle.sim_2_links.specs.PutMoves.{is_online, IsClientQueued, IsClientRequest}
-use Rattle.sim_2_links.specs.Links.{UpCounts, DownCounts, FitsOwn, GoesUp, IsIdle, IsPlaced, RowKept, OwnKept, SessionKept, LinkKept}
+use Rattle.sim_2_links.specs.Links.{UpCounts, DownCounts, FitsOwn, GoesUp, IsIdle, RowKept, OwnKept, SessionKept, LinkKept}
 
 -- a client with a session that is not online sends nothing
 sends_nothing : {A : Type 0} (own : Option (Own A)) (epoch : ℕ) (sessions : Table (Session A)) (o : Own A) (s : Stage A) → own ≡ Some o → FitsOwn own epoch sessions s → is_online (client_of s) ≡ false → sends (client_of s) ≡ false
@@ -119,7 +120,7 @@ client_queued_keeps {A = A} z v next m kept = subst LinkKept (sym m.gives) (reco
     goes_up : (n : ℕ) (d : Conn A) → v.conns n ≡ Some d → (q : ℕ) (s : Session A) → GoesUp d s → GoesUp d (f q s)
     goes_up n d found q s g = record { way = put_quiet (has (Some m.own.number) q) z s.up (closed n d found s g) ∙ g.way; is_open = g.is_open; counts = g.counts }
 
-    placed : (r : Row A) (s : Session A) (o : Option ℕ) → IsPlaced v.conns r s o → IsPlaced v.conns r (f r.number s) o
+    placed : StaysPlaced v f
     placed r s None (counted, quiet) = (counted, quiet_put (has (Some m.own.number) r.number) s quiet)
     placed r s (Some n) (d, found, held, goes) = (d, found, held, λ e. goes_up n d found r.number s (goes e))
 
@@ -134,7 +135,7 @@ client_queued_keeps {A = A} z v next m kept = subst LinkKept (sym m.gives) (reco
       placed = placed r before.session r.on before.placed;
     }
 
-    own_kept : OwnKept v.epoch (alter f v.sessions) new
+    own_kept : OwnAfter v f new
     own_kept = record {
       session = f m.own.number own.session;
       is = altered f v.sessions m.own.number own.session own.is;

@@ -8,12 +8,13 @@ use Rattle.sim_2_links.proofs.Hands.{no_entry, piped_down}
 use Rattle.sim_2_links.proofs.Asking.{steps, steps_at}
 use Rattle.sim_2_links.proofs.ReadResumed.{phase_session}
 use Rattle.sim_2_links.proofs.Detached.{carries_at}
+use Rattle.sim_2_links.proofs.StepParts.{none_carried, RowsAfter}
 use Rattle.sim_2_links.specs.Words.{Enable, DownWord, Bound, InBind, InEnable}
 use Rattle.sim_2_links.specs.Wires.{down_whole, left_down}
 use Rattle.sim_2_links.specs.Stages.{Stage, AsksResume, Resumes, AsksBind, Binds, AsksEnable, Runs, client_of, down_of, Ending, Stands, Errs, Closes, tail_of, Conn, IsAt}
 use Rattle.sim_2_links.specs.Views.{Table, with_at, alter, has, Session, Row, View, on_phase, session_on, carries}
 use Rattle.sim_2_links.specs.SessionMoves.{IsReadBound}
-use Rattle.sim_2_links.specs.Links.{ArePiped, IsAsked, FitsOwn, is_yet, ConnKept, IsIdle, IsPlaced, RowKept, SessionKept, IsCarried, LinkKept}
+use Rattle.sim_2_links.specs.Links.{ArePiped, IsAsked, FitsOwn, is_yet, ConnKept, IsIdle, IsPlaced, SessionKept, LinkKept}
 
 no_tail : {A C : Type 0} (end : Ending) (m : ℕ) (rest : List (DownWord A)) → tail_of end ≡ Bound m ∷ rest → C
 no_tail Stands m rest e = absurd (let no_way : ⊥ = cc in no_way)
@@ -69,7 +70,7 @@ read_bound_keeps {A = A} k number v next m kept = subst LinkKept (sym m.gives) (
   idle_down = λ q s found counted.
       let w = was f v.sessions q s found in
       let before : w.0.counted ≡ true = ap (λ (x : Session A). x.counted) w.2 ∙ counted in
-      elim (kept.idle_down q w.0 w.1 before) [ inl quiet ↦ inl (subst (λ (x : Session A). IsIdle x.down) w.2 quiet) | inr x ↦ absurd (none_before q x) ];
+      elim (kept.idle_down q w.0 w.1 before) [ inl quiet ↦ inl (subst (λ (x : Session A). IsIdle x.down) w.2 quiet) | inr x ↦ absurd (none_carried v k m.conn m.here m.is (λ p e. no_entry p (sym (carries_at (Binds number) m.conn before_at) ∙ e)) q x) ];
   late = λ n d q found away on carried. absurd (silent carried.0 carried.1 q carried.2 carried.4 (entry k this v.conns carried.0 carried.1 carried.3));
 })
   where
@@ -100,17 +101,9 @@ read_bound_keeps {A = A} k number v next m kept = subst LinkKept (sym m.gives) (
     session : Session A
     session = fits.1.0
 
-    same_here : (n : ℕ) → v.here ≡ Some n → k ≡ n
-    same_here n e = let h = m.here in cc
-
     silent : (n : ℕ) (d : Conn A) (q : ℕ) → v.here ≡ Some n → carries d ≡ Some q → Entry k this v.conns n d → ⊥
     silent n d q here carried (New same is) = no_entry q (sym (carries_at (AsksEnable number) this at) ∙ subst (λ x. carries x ≡ Some q) (sym is) carried)
-    silent n d q here carried (Old ne there) = ne (same_here n here)
-
-    none_before : (q : ℕ) → IsCarried v q → ⊥
-    none_before q (n, d, here, found, carried) =
-        let one : d ≡ m.conn = some_one (v.conns k) d m.conn (subst (λ x. v.conns x ≡ Some d) (sym (same_here n here)) found) m.is in
-        no_entry q (sym (carries_at (Binds number) m.conn before_at) ∙ subst (λ x. carries x ≡ Some q) one carried)
+    silent n d q here carried (Old ne there) = ne (some_one v.here k n m.here here)
 
     conn : (n : ℕ) (d : Conn A) → Entry k this v.conns n d → ConnKept (record v { conns = with_at k this v.conns; epoch = v.epoch + 1; sessions = alter f v.sessions }) n d
     conn n d (New same is) =
@@ -132,7 +125,7 @@ read_bound_keeps {A = A} k number v next m kept = subst LinkKept (sym m.gives) (
           stage = before.stage;
           at = before.at;
           asked = named_asked number (v.epoch + 1) v.sessions before.stage before.asked;
-          fits = λ e. absurd (ne (same_here n (has_is v.here n e)));
+          fits = λ e. absurd (ne (some_one v.here k n m.here (has_is v.here n e)));
           attached = before.attached;
           uncounted = before.uncounted;
           counting = before.counting;
@@ -151,7 +144,7 @@ read_bound_keeps {A = A} k number v next m kept = subst LinkKept (sym m.gives) (
             (this, subst (λ x. with_at k this v.conns x ≡ Some this) same (at_same k this v.conns), held_this, λ e. absurd (not_true (sym (ap (λ (x : Session A). x.counted) same_session) ∙ fits.1.3) e))
         by (inr ne) = (d, at_other k this v.conns n ne ∙ found, held, λ e. let g = goes e in record { way = g.way; is_open = g.is_open; counts = g.counts })
 
-    row : (r : Row A) → RowKept v.conns v.sessions r → RowKept (with_at k this v.conns) (alter f v.sessions) r
+    row : RowsAfter k this v f
     row r before = record {
       session = f r.number before.session;
       is = altered f v.sessions r.number before.session before.is;

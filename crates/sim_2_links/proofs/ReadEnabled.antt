@@ -10,12 +10,13 @@ use Rattle.sim_2_links.proofs.CutLinks.{not_true, some_one, some_same, there_cut
 use Rattle.sim_2_links.proofs.Hands.{piped_down, flow_up}
 use Rattle.sim_2_links.proofs.Heard.{same_up, down_words_up}
 use Rattle.sim_2_links.proofs.Detached.{carries_at}
+use Rattle.sim_2_links.proofs.StepParts.{carried_before, RowsAfter, OwnAfter, GoesUpAs, GoesDownAfter, StaysBare}
 use Rattle.sim_2_links.specs.Words.{Traffic, up_stanzas, down_stanzas, DownWord, Enabled, Down, InEnable, InOnline}
-use Rattle.sim_2_links.specs.Wires.{is_flowing, up_words, up_whole, down_whole, send_up, left_down}
+use Rattle.sim_2_links.specs.Wires.{is_flowing, up_whole, down_whole, send_up, left_down}
 use Rattle.sim_2_links.specs.Stages.{Stage, AsksResume, Resumes, AsksEnable, Enables, Runs, client_of, phase_of, up_of, down_of, Ending, Stands, Errs, Closes, tail_of, foot_of, Conn, IsAt}
 use Rattle.sim_2_links.specs.Views.{Table, with_at, alter, has, Session, Row, Own, View, session_on, carries, sends}
 use Rattle.sim_2_links.specs.SessionMoves.{IsReadEnabled}
-use Rattle.sim_2_links.specs.Links.{carried_of, UpCounts, DownCounts, ArePiped, IsAsked, FitsOwn, ConnKept, GoesUp, GoesDown, IsIdle, IsPlaced, RowKept, OwnKept, SessionKept, IsCarried, IsBare, LinkKept}
+use Rattle.sim_2_links.specs.Links.{carried_of, UpCounts, DownCounts, ArePiped, IsAsked, FitsOwn, ConnKept, GoesUp, GoesDown, IsIdle, IsPlaced, OwnKept, SessionKept, IsCarried, LinkKept}
 
 pub record EnabledFirst {A : Type 0} (s : Stage A) (m : ℕ) (tail rest : List (DownWord A)) : Type 0 where
   pub downs : List (Traffic A)
@@ -145,10 +146,7 @@ read_enabled_keeps {A = A} k number v next m kept = subst LinkKept (sym m.gives)
     carries_old : carries m.conn ≡ Some number
     carries_old = carries_at old.stage m.conn old.at ∙ ap carried_of r.is
 
-    same_here : (n : ℕ) → v.here ≡ Some n → k ≡ n
-    same_here n e = let h = m.here in cc
-
-    own_kept : OwnKept v.epoch (alter f v.sessions) new
+    own_kept : OwnAfter v f new
     own_kept = record {
       session = f number session;
       is = altered f v.sessions number session fits.1.1;
@@ -179,13 +177,13 @@ read_enabled_keeps {A = A} k number v next m kept = subst LinkKept (sym m.gives)
           stage = before.stage;
           at = before.at;
           asked = known_asked number v.sessions before.stage before.asked;
-          fits = λ e. absurd (ne (same_here n (has_is v.here n e)));
+          fits = λ e. absurd (ne (some_one v.here k n m.here (has_is v.here n e)));
           attached = before.attached;
           uncounted = before.uncounted;
           counting = before.counting;
         }
 
-    goes_up : (s : Session A) → GoesUp m.conn s → GoesUp this s
+    goes_up : GoesUpAs m.conn this
     goes_up s g = record {
       way = g.way ∙ ap up_stanzas (sym (same_up m.rest m.conn.wires));
       is_open = g.is_open ∙ ap (λ x. is_flowing m.conn.wires && sends x) m.client ∙ ap (λ b. b && true) (sym (flow_up [] m.rest m.conn.wires));
@@ -206,7 +204,7 @@ read_enabled_keeps {A = A} k number v next m kept = subst LinkKept (sym m.gives)
             )
         by (inr ne) = (d, at_other k this v.conns n ne ∙ found, held, λ e. let g = goes e in record { way = g.way; is_open = g.is_open; counts = g.counts })
 
-    row : (x : Row A) → RowKept v.conns v.sessions x → RowKept (with_at k this v.conns) (alter f v.sessions) x
+    row : RowsAfter k this v f
     row x before = record {
       session = f x.number before.session;
       is = altered f v.sessions x.number before.session before.is;
@@ -225,26 +223,22 @@ read_enabled_keeps {A = A} k number v next m kept = subst LinkKept (sym m.gives)
       counts = subst (λ ws. DownCounts s.up.acked s.up.stated ws) (sym (down_words_up [] m.rest m.conn.wires)) (subst (λ ws. DownCounts s.up.acked s.up.stated ws) m.first g.counts);
     }
 
-    down : (n : ℕ) (d : Conn A) (q : ℕ) → v.here ≡ Some n → carries d ≡ Some q → Entry k this v.conns n d → (t : Session A) × (alter f v.sessions q ≡ Some t) × GoesDown d t
+    down : GoesDownAfter k this v f
     down n d q here carried (New same is) =
         let one : number ≡ q = some_same number q (subst (λ x. carries x ≡ Some q) (sym is) carried) in
         let before = kept.goes_down k m.conn number m.here m.is carries_old in
         let after : (t : Session A) × (alter f v.sessions number ≡ Some t) × GoesDown d t = (f number before.0, altered f v.sessions number before.0 before.1, subst (λ x. GoesDown x (f number before.0)) is (goes_down before.0 before.2)) in
         subst (λ x. (t : Session A) × (alter f v.sessions x ≡ Some t) × GoesDown d t) one after
-    down n d q here carried (Old ne there) = absurd (ne (same_here n here))
+    down n d q here carried (Old ne there) = absurd (ne (some_one v.here k n m.here here))
 
     carried_on : (q : ℕ) → IsCarried v q → IsCarried (record v { conns = with_at k this v.conns; own = Some new; sessions = alter f v.sessions }) q
     carried_on q (n, d, here, found, carried) =
-        let one : d ≡ m.conn = some_one (v.conns k) d m.conn (subst (λ x. v.conns x ≡ Some d) (sym (same_here n here)) found) m.is in
+        let one : d ≡ m.conn = some_one (v.conns k) d m.conn (subst (λ x. v.conns x ≡ Some d) (sym (some_one v.here k n m.here here)) found) m.is in
         (k, this, m.here, at_same k this v.conns, sym carries_old ∙ subst (λ x. carries x ≡ Some q) one carried)
 
     back : (q : ℕ) → IsCarried (record v { conns = with_at k this v.conns; own = Some new; sessions = alter f v.sessions }) q → IsCarried v q
-    back q (n, d, here, found, carried) = by (entry k this v.conns n d found)
-      where
-        by : Entry k this v.conns n d → IsCarried v q
-        by (New same is) = (k, m.conn, m.here, m.is, carries_old ∙ subst (λ x. carries x ≡ Some q) (sym is) carried)
-        by (Old ne there) = (n, d, here, there, carried)
+    back q (n, d, here, found, carried) = carried_before k this v q (λ e at. (k, m.conn, m.here, m.is, carries_old ∙ at)) n d here carried (entry k this v.conns n d found)
 
-    late : (n : ℕ) (d : Conn A) (q : ℕ) → has v.here n ≡ false → session_on d ≡ Some q → IsCarried v q → Entry k this v.conns n d → IsBare (up_words d.wires)
+    late : StaysBare k this v
     late n d q away on carried (New same is) = absurd (not_true away (subst (λ x. has v.here x ≡ true) same works))
     late n d q away on carried (Old ne there) = kept.late n d q there away on carried

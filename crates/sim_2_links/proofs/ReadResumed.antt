@@ -9,6 +9,7 @@ use Rattle.sim_2_links.proofs.Tables.{send_up_whole, send_up_whole_down, left_do
 use Rattle.std.proofs.lemmas.List.{drop-drop, append-nil, map-append}
 use Rattle.sim_2_links.proofs.CutLinks.{not_true, some_one, here_or_not, there_cut}
 use Rattle.sim_2_links.proofs.Hands.{no_entry, piped_down, flow_up, stopped_away}
+use Rattle.sim_2_links.proofs.StepParts.{carried_before, OwnAfter, GoesDownAfter, StaysBare}
 use Rattle.sim_2_links.specs.Words.{Traffic, St, Req, up_stanzas, down_stanzas, UpWord, Up, DownWord, Resumed, Down, InResume, InOnline, AtSession}
 use Rattle.sim_2_links.specs.Wires.{Wires, Flow, Stop, is_flowing, up_words, down_words, up_whole, down_whole, send_up, left_down}
 use Rattle.sim_2_links.specs.Stages.{Stage, Greets, Greeted, Offered, Proves, Challenged, Answers, Succeeded, Regreets, Regreeted, Reoffered, AsksResume, Refused, Resumes, AsksBind, Binds, AsksEnable, Enables, Runs, phase_of, up_of, down_of, Ending, Stands, Errs, Closes, tail_of, foot_of, Conn}
@@ -217,7 +218,7 @@ read_resumed_keeps {A = A} k v next m kept = subst LinkKept (sym m.gives) (recor
     mine : (q : ℕ) (t : Session A) → has (Some m.own.number) q ≡ true → v.sessions q ≡ Some t → g.0 ≡ t
     mine q t e found = let same : Some m.own.number ≡ Some q = has_is (Some m.own.number) q e in let n : m.own.number ≡ q = cc in some_one (v.sessions q) g.0 t (subst (λ x. v.sessions x ≡ Some g.0) n g.1) found
 
-    own_kept : OwnKept v.epoch (alter f v.sessions) new
+    own_kept : OwnAfter v f new
     own_kept = record {
       session = f m.own.number g.0;
       is = altered f v.sessions m.own.number g.0 g.1;
@@ -371,7 +372,7 @@ read_resumed_keeps {A = A} k v next m kept = subst LinkKept (sym m.gives) (recor
       counts = rw (same_number, ← present) (subst (λ ws. DownCounts m.h g.0.up.stated ws) (sym (down_words_up (again queue) m.rest m.conn.wires)) counts.2);
     }
 
-    down : (n : ℕ) (d : Conn A) (q : ℕ) → v.here ≡ Some n → carries d ≡ Some q → Entry k this v.conns n d → (t : Session A) × (alter f v.sessions q ≡ Some t) × GoesDown d t
+    down : GoesDownAfter k this v f
     down n d q here carried (New same is) =
         let e : Some m.own.number ≡ Some q = subst (λ x. carries x ≡ Some q) (sym is) carried in
         let one : m.own.number ≡ q = cc in
@@ -392,11 +393,7 @@ read_resumed_keeps {A = A} k v next m kept = subst LinkKept (sym m.gives) (recor
         elim (kept.idle_up q w.0 w.1 before) [ inl still ↦ inl (subst (λ (x : Session A). IsIdle x.up) stays still) | inr x ↦ inr x ]
 
     back : (q : ℕ) → IsCarried (record v { conns = with_at k this v.conns; own = Some new; sessions = alter f v.sessions }) q → IsCarried v q
-    back q (n, d, here, found, carried) = by (entry k this v.conns n d found)
-      where
-        by : Entry k this v.conns n d → IsCarried v q
-        by (New same is) = let e : Some m.own.number ≡ Some q = subst (λ x. carries x ≡ Some q) (sym is) carried in (k, m.conn, m.here, m.is, carries_old ∙ e)
-        by (Old ne there) = (n, d, here, there, carried)
+    back q (n, d, here, found, carried) = carried_before k this v q (λ e at. (k, m.conn, m.here, m.is, carries_old ∙ at)) n d here carried (entry k this v.conns n d found)
 
     idle_down : (q : ℕ) (t : Session A) → (a : Session A) × (v.sessions q ≡ Some a) × (f q a ≡ t) → t.counted ≡ true → (m.own.number ≡ q) ⊎ (m.own.number ≡ q → ⊥) →
         IsIdle t.down ⊎ IsCarried (record v { conns = with_at k this v.conns; own = Some new; sessions = alter f v.sessions }) q
@@ -414,6 +411,6 @@ read_resumed_keeps {A = A} k v next m kept = subst LinkKept (sym m.gives) (recor
             let e : Some m.own.number ≡ Some q = sym carries_old ∙ subst (λ x. carries x ≡ Some q) one carried in
             cc
 
-    late : (n : ℕ) (d : Conn A) (q : ℕ) → has v.here n ≡ false → session_on d ≡ Some q → IsCarried v q → Entry k this v.conns n d → IsBare (up_words d.wires)
+    late : StaysBare k this v
     late n d q away on carried (New same is) = absurd (not_true away (subst (λ x. has v.here x ≡ true) same works))
     late n d q away on carried (Old ne there) = kept.late n d q there away on carried

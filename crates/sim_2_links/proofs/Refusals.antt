@@ -1,5 +1,5 @@
 -- The server refuses a resumption; a client's footer; a client that gives its session up.
-use Rattle.std.proofs.Common.{◌≡◌, ◌≢◌, ℕ, ◌-◌, true, false, ◌&&◌, [], ◌∷◌, ◌++◌, length, refl, sym, ap, ◌∙◌, subst, arith, ◌⊎◌, inl, inr, Option, None, Some}
+use Rattle.std.proofs.Common.{◌≡◌, ℕ, ◌-◌, true, false, ◌&&◌, [], ◌∷◌, ◌++◌, length, refl, sym, ap, ◌∙◌, subst, arith, ◌⊎◌, inl, inr, Option, None, Some}
 use Rattle.std.proofs.lemmas.Bool.{cases_Bool, cases_eq}
 use Rattle.std.proofs.lemmas.List.{append-nil, length-append, length-drop}
 use Rattle.sm_acks.proofs.Directions.{kept_reached}
@@ -10,16 +10,17 @@ use Rattle.sim_2_links.proofs.Counting.{up_counts_with, up_stanzas_with}
 use Rattle.sim_2_links.proofs.Hands.{no_entry, piped_up, taken_stands}
 use Rattle.sim_2_links.proofs.Asking.{unheld_keeps, off_ready}
 use Rattle.sim_2_links.proofs.Detached.{carries_at, up_foot}
-use Rattle.sim_2_links.proofs.Resumption.{Asks, asks}
+use Rattle.sim_2_links.proofs.Resumption.{asks, AsksFirst, asks_first}
 use Rattle.sim_2_links.proofs.Ends.{left_keeps, shut_at, shut_piped, shut_off}
 use Rattle.sim_2_links.proofs.Detached.{row_ended_keeps}
+use Rattle.sim_2_links.proofs.StepParts.{carried_before, apart_from, GoesUpAs, GoesDownStill, StaysBare}
 use Rattle.sim_2_links.specs.Words.{ResumeAt, Foot, Failed, TooHigh, Ready, up_stanzas}
 use Rattle.sim_2_links.specs.Wires.{Wires, Flow, Stop, is_flowing, up_words, down_words, up_whole, down_whole, send_down, left_up}
 use Rattle.sim_2_links.specs.Stages.{AsksResume, Refused, phase_of, up_of, Stands, Errs, tail_of, foot_of, Conn, IsAt}
-use Rattle.sim_2_links.specs.Views.{with_at, has, Session, Row, View, session_on, carries, sends}
+use Rattle.sim_2_links.specs.Views.{with_at, has, Session, Row, View, session_on, sends}
 use Rattle.sim_2_links.specs.SessionMoves.{shut}
 use Rattle.sim_2_links.specs.EndMoves.{IsFailed, IsHigh, IsTooHigh, with_foot, up_lost, IsFooted, IsForgotten}
-use Rattle.sim_2_links.specs.Links.{UpCounts, ArePiped, FitsOwn, ConnKept, GoesUp, GoesDown, IsPlaced, RowKept, IsCarried, IsBare, LinkKept}
+use Rattle.sim_2_links.specs.Links.{UpCounts, ArePiped, FitsOwn, ConnKept, GoesUp, IsPlaced, RowKept, IsCarried, IsBare, LinkKept}
 
 -- the server says that it doesn't have the session
 
@@ -32,8 +33,8 @@ failed_keeps {A = A} k v next m kept = subst LinkKept (sym m.gives) (by (cases_B
     old : ConnKept v k m.conn
     old = kept.conns k m.conn m.is
 
-    asking : Asks old.stage m.p m.h (foot_of m.conn.footed) (up_whole (left_up m.rest m.conn.wires))
-    asking = asks old.stage m.conn.footed m.p m.h (up_whole (left_up m.rest m.conn.wires)) (sym old.at.up ∙ left_up_whole (ResumeAt m.p m.h) m.rest m.conn.wires m.first)
+    asking : AsksFirst old.stage m.conn m.p m.h m.rest
+    asking = asks_first old.stage m.conn m.p m.h m.rest old.at m.first
 
     before : IsAt (AsksResume m.p m.h) m.conn
     before = subst (λ s. IsAt s m.conn) asking.is old.at
@@ -74,8 +75,8 @@ too_high_left {A = A} k v next m kept = elim (cases_Bool (has v.here k)) [ inr e
     row : RowKept v.conns v.sessions m.row
     row = kept.row m.row m.is_row
 
-    asking : Asks old.stage m.row.number m.h (foot_of m.conn.footed) (up_whole (left_up m.rest m.conn.wires))
-    asking = asks old.stage m.conn.footed m.row.number m.h (up_whole (left_up m.rest m.conn.wires)) (sym old.at.up ∙ left_up_whole (ResumeAt m.row.number m.h) m.rest m.conn.wires m.first)
+    asking : AsksFirst old.stage m.conn m.row.number m.h m.rest
+    asking = asks_first old.stage m.conn m.row.number m.h m.rest old.at m.first
 
     within : has v.here k ≡ true → IsHigh m.row.acked m.row.queue m.h → ⊥
     within works high =
@@ -169,7 +170,7 @@ footed_keeps {A = A} k v next m kept = subst LinkKept (sym m.gives) (record {
   sessions = kept.sessions;
   goes_down = λ n d q here found carried. down n d q here carried (entry k this v.conns n d found);
   idle_up = kept.idle_up;
-  idle_down = λ q t found counted. elim (kept.idle_down q t found counted) [ inl quiet ↦ inl quiet | inr x ↦ inr (x.0, x.1, x.2, at_other k this v.conns x.0 (apart x.0 x.2) ∙ x.3, x.4) ];
+  idle_down = λ q t found counted. elim (kept.idle_down q t found counted) [ inl quiet ↦ inl quiet | inr x ↦ inr (x.0, x.1, x.2, at_other k this v.conns x.0 (apart_from v.here k x.0 m.left x.2) ∙ x.3, x.4) ];
   late = λ n d q found away on carried. late n d q away on (back q carried) (entry k this v.conns n d found);
 })
   where
@@ -178,9 +179,6 @@ footed_keeps {A = A} k v next m kept = subst LinkKept (sym m.gives) (record {
 
     old : ConnKept v k m.conn
     old = kept.conns k m.conn m.is
-
-    apart : (n : ℕ) → v.here ≡ Some n → k ≢ n
-    apart n here same = not_true m.left (is_has v.here k (here ∙ ap Some (sym same)))
 
     bare_up : up_whole m.conn.wires ≡ up_of old.stage
     bare_up = old.at.up ∙ ap (λ x. up_of old.stage ++ foot_of x) m.unfooted ∙ append-nil (up_of old.stage)
@@ -214,7 +212,7 @@ footed_keeps {A = A} k v next m kept = subst LinkKept (sym m.gives) (record {
         let before = kept.conns n d there in
         record { piped = before.piped; stage = before.stage; at = before.at; asked = before.asked; fits = before.fits; attached = before.attached; uncounted = before.uncounted; counting = before.counting }
 
-    goes_up : (s : Session A) → GoesUp m.conn s → GoesUp this s
+    goes_up : GoesUpAs m.conn this
     goes_up s g = record {
       way = g.way ∙ sym (ap up_stanzas (foot_words m.conn.wires) ∙ up_stanzas_with (up_words m.conn.wires) (Foot ∷ []) ∙ append-nil (up_stanzas (up_words m.conn.wires)));
       is_open = g.is_open ∙ ap (λ x. x && sends m.conn.client) (sym (foot_flow m.conn.wires));
@@ -242,22 +240,18 @@ footed_keeps {A = A} k v next m kept = subst LinkKept (sym m.gives) (record {
       placed = placed r before.session r.on before.placed;
     }
 
-    down : (n : ℕ) (d : Conn A) (q : ℕ) → v.here ≡ Some n → carries d ≡ Some q → Entry k this v.conns n d → (t : Session A) × (v.sessions q ≡ Some t) × GoesDown d t
-    down n d q here carried (New same is) = absurd (apart n here same)
+    down : GoesDownStill k this v
+    down n d q here carried (New same is) = absurd (apart_from v.here k n m.left here same)
     down n d q here carried (Old ne there) = kept.goes_down n d q here there carried
 
     back : (q : ℕ) → IsCarried (record v { conns = with_at k this v.conns }) q → IsCarried v q
-    back q (n, d, here, found, carried) = by (entry k this v.conns n d found)
-      where
-        by : Entry k this v.conns n d → IsCarried v q
-        by (New same is) = absurd (apart n here same)
-        by (Old ne there) = (n, d, here, there, carried)
+    back q (n, d, here, found, carried) = carried_before k this v q (λ e at. absurd (not_true m.left (is_has v.here k e))) n d here carried (entry k this v.conns n d found)
 
     bare : IsBare (up_words m.conn.wires) → IsBare (up_words (with_foot m.conn.wires))
     bare (inl e) = inr (foot_words m.conn.wires ∙ ap (λ l. l ++ Foot ∷ []) e)
     bare (inr e) = up_foot old.stage [] (sym bare_up ∙ lost_whole m.conn.wires m.whole ∙ e)
 
-    late : (n : ℕ) (d : Conn A) (q : ℕ) → has v.here n ≡ false → session_on d ≡ Some q → IsCarried v q → Entry k this v.conns n d → IsBare (up_words d.wires)
+    late : StaysBare k this v
     late n d q away on carried (New same is) =
         subst (λ x. IsBare (up_words x.wires)) is (bare (kept.late k m.conn q m.is m.left (subst (λ x. session_on x ≡ Some q) (sym is) on) carried))
     late n d q away on carried (Old ne there) = kept.late n d q there away on carried

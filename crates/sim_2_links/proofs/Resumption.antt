@@ -11,9 +11,11 @@ use Rattle.std.proofs.lemmas.List.Elements.{Contains-push}
 use Rattle.sm_acks.proofs.Directions.{kept_reached}
 use Rattle.sim_2_links.proofs.CutLinks.{not_true, some_one, there_cut, on_other, some_same}
 use Rattle.sim_2_links.proofs.Hands.{no_entry, piped_up, taken_stands, up_words_down, flow_down}
+use Rattle.sim_2_links.proofs.StepParts.{none_carried, on_none, RowAfter, GoesDownAfter}
+use Rattle.sim_2_links.proofs.Heard.{same_session}
 use Rattle.sim_2_links.specs.Words.{St, up_stanzas, down_stanzas, UpWord, ResumeAt, DownWord, Resumed, Down, InResume, AtSession}
 use Rattle.sim_2_links.specs.Wires.{Wires, Flow, Stop, is_flowing, up_words, down_words, up_whole, down_whole, send_down, left_up}
-use Rattle.sim_2_links.specs.Stages.{Stage, Greets, Greeted, Offered, Proves, Challenged, Answers, Succeeded, Regreets, Regreeted, Reoffered, AsksResume, Refused, Resumes, AsksBind, Binds, AsksEnable, Enables, Runs, client_of, up_of, down_of, Ending, Stands, Errs, Closes, tail_of, foot_of, Conn}
+use Rattle.sim_2_links.specs.Stages.{Stage, Greets, Greeted, Offered, Proves, Challenged, Answers, Succeeded, Regreets, Regreeted, Reoffered, AsksResume, Refused, Resumes, AsksBind, Binds, AsksEnable, Enables, Runs, client_of, up_of, down_of, Ending, Stands, Errs, Closes, tail_of, foot_of, Conn, IsAt}
 use Rattle.sim_2_links.specs.Views.{Table, with_at, alter, has, Session, Row, View, on_phase, session_on, carried_by, carries, sends}
 use Rattle.sim_2_links.specs.SessionMoves.{resumed_if, IsResumedHere}
 use Rattle.sim_2_links.specs.Links.{UpCounts, DownCounts, IsAsked, FitsOwn, ConnKept, GoesUp, GoesDown, IsIdle, IsPlaced, RowKept, SessionKept, IsCarried, LinkKept}
@@ -51,6 +53,13 @@ asks (Refused q) foot p h rest e = no_ask foot p h rest e
 asks (Resumes q i downs) foot p h rest e = no_ask foot p h rest e
 asks (Binds m) foot p h rest e = no_ask foot p h rest e
 asks (Enables m downs) foot p h rest e = no_ask foot p h rest e
+
+-- it is the first word that goes up on this connection
+abbrev pub AsksFirst : {A : Type 0} → Stage A → Conn A → ℕ → ℕ → List (UpWord A) → Type 0
+AsksFirst s c p h rest = Asks s p h (foot_of c.footed) (up_whole (left_up rest c.wires))
+
+pub asks_first : {A : Type 0} (s : Stage A) (c : Conn A) (p h : ℕ) (rest : List (UpWord A)) → IsAt s c → up_words c.wires ≡ ResumeAt p h ∷ rest → AsksFirst s c p h rest
+asks_first s c p h rest at first = asks s c.footed p h (up_whole (left_up rest c.wires)) (sym at.up ∙ left_up_whole (ResumeAt p h) rest c.wires first)
 
 -- a whole pipe with nothing has nothing
 up_none : {A : Type 0} (x : Wires A) → up_whole x ≡ [] → up_words x ≡ []
@@ -130,7 +139,7 @@ resumed_here_keeps {A = A} k v next m kept = subst LinkKept (sym m.gives) (recor
     acked = old.acked;
     queue = old.queue;
   };
-  sessions = λ q s found. let w = was f v.sessions q s found in subst SessionKept w.2 (resumed_kept (has (Some m.row.number) q) (is_flowing m.conn.wires) w.0 (λ e. subst (λ (x : Session A). x.counted ≡ true) (mine q w.0 e w.1) counted) (kept.sessions q w.0 w.1));
+  sessions = λ q s found. let w = was f v.sessions q s found in subst SessionKept w.2 (resumed_kept (has (Some m.row.number) q) (is_flowing m.conn.wires) w.0 (λ e. subst (λ (x : Session A). x.counted ≡ true) (same_session v m.row.number q row.session w.0 row.is e w.1) counted) (kept.sessions q w.0 w.1));
   goes_down = λ n d q here found carried. down n d q here carried (entry k this v.conns n d found);
   idle_up = λ q s found yes_counted. idle_up q s (was f v.sessions q s found) yes_counted;
   idle_down = λ q s found yes_counted. idle_down q s (was f v.sessions q s found) yes_counted (cases_eq m.row.number q);
@@ -161,8 +170,8 @@ resumed_here_keeps {A = A} k v next m kept = subst LinkKept (sym m.gives) (recor
     works : has v.here k ≡ true
     works = is_has v.here k m.here
 
-    asking : Asks old.stage m.row.number m.h (foot_of m.conn.footed) (up_whole (left_up m.rest m.conn.wires))
-    asking = asks old.stage m.conn.footed m.row.number m.h (up_whole (left_up m.rest m.conn.wires)) (sym old.at.up ∙ left_up_whole (ResumeAt m.row.number m.h) m.rest m.conn.wires m.first)
+    asking : AsksFirst old.stage m.conn m.row.number m.h m.rest
+    asking = asks_first old.stage m.conn m.row.number m.h m.rest old.at m.first
 
     stands : m.conn.ending ≡ Stands
     stands = taken_stands (has v.here k) m.conn (ResumeAt m.row.number m.h) m.rest old.piped m.first
@@ -215,9 +224,6 @@ resumed_here_keeps {A = A} k v next m kept = subst LinkKept (sym m.gives) (recor
         let sum : row.session.down.acked + (m.h - m.row.acked) ≡ length row.session.down.got = omega arith in
         ap (drop (m.h - m.row.acked)) row.queue ∙ drop-drop (m.h - m.row.acked) row.session.down.acked row.session.down.put ∙ ap (λ (n : ℕ). drop n row.session.down.put) sum
 
-    mine : (q : ℕ) (t : Session A) → has (Some m.row.number) q ≡ true → v.sessions q ≡ Some t → row.session ≡ t
-    mine q t e found = let same : Some m.row.number ≡ Some q = has_is (Some m.row.number) q e in let n : m.row.number ≡ q = cc in some_one (v.sessions q) row.session t (subst (λ x. v.sessions x ≡ Some row.session) n row.is) found
-
     up_words_this : up_words (send_down puts (left_up m.rest m.conn.wires)) ≡ []
     up_words_this = up_words_down puts m.rest m.conn.wires ∙ no_rest
 
@@ -232,7 +238,7 @@ resumed_here_keeps {A = A} k v next m kept = subst LinkKept (sym m.gives) (recor
         never false = refl
         never true = refl
 
-    row_kept : RowKept (with_at k this v.conns) (alter f v.sessions) new
+    row_kept : RowAfter k this v f new
     row_kept = record {
       session = f m.row.number row.session;
       is = altered f v.sessions m.row.number row.session row.is;
@@ -246,16 +252,9 @@ resumed_here_keeps {A = A} k v next m kept = subst LinkKept (sym m.gives) (recor
         told : m.conn.gone ≡ false
         told = elim (cases_Bool m.conn.gone) [ inr e ↦ e | inl e ↦ absurd (let none = old.piped.gone e in let first = m.first in let no_way : ⊥ = cc in no_way) ]
 
-    no_other : (n : ℕ) (d : Conn A) (q : ℕ) → v.conns n ≡ Some d → session_on d ≡ Some q → ⊥
-    no_other n d q there on =
-        let a : (x : Row A) × (v.row ≡ Some x) × (x.number ≡ q) × (x.on ≡ Some n) = (kept.conns n d there).attached q on in
-        let same : a.0 ≡ m.row = some_one v.row a.0 m.row a.1 m.is_row in
-        let both : m.row.on ≡ Some n = subst (λ (x : Row A). x.on ≡ Some n) same a.3 in
-        no_entry n (sym m.off ∙ both)
-
     nowhere : (n : ℕ) (d : Conn A) (q : ℕ) → has v.here n ≡ false → session_on d ≡ Some q → Entry k this v.conns n d → ⊥
     nowhere n d q away on (New same is) = not_true away (subst (λ x. has v.here x ≡ true) same works)
-    nowhere n d q away on (Old ne there) = no_other n d q there on
+    nowhere n d q away on (Old ne there) = on_none v m.row kept m.is_row m.off n d q there on
 
     conn : (n : ℕ) (d : Conn A) → Entry k this v.conns n d → ConnKept (record v { conns = with_at k this v.conns; row = Some new; sessions = alter f v.sessions }) n d
     conn n d (New same is) =
@@ -300,7 +299,7 @@ resumed_here_keeps {A = A} k v next m kept = subst LinkKept (sym m.gives) (recor
           at = before.at;
           asked = resumed_asked m.row.number (is_flowing m.conn.wires) v.sessions before.stage before.asked;
           fits = λ e. absurd (ne (let h : v.here ≡ Some n = has_is v.here n e in let here = m.here in let same : k ≡ n = cc in same));
-          attached = λ q e. absurd (no_other n d q there e);
+          attached = λ q e. absurd (on_none v m.row kept m.is_row m.off n d q there e);
           uncounted = λ r f on e. on_other k n new r f refl ne on;
           counting = λ r f on p e. on_other k n new r f refl ne on;
         }
@@ -320,7 +319,7 @@ resumed_here_keeps {A = A} k v next m kept = subst LinkKept (sym m.gives) (recor
           (kept_reached row.session.up (kept.sessions m.row.number row.session row.is).up).acked (Contains-push row.session.up.stated (length row.session.up.got))));
     }
 
-    down : (n : ℕ) (d : Conn A) (q : ℕ) → v.here ≡ Some n → carries d ≡ Some q → Entry k this v.conns n d → (t : Session A) × (alter f v.sessions q ≡ Some t) × GoesDown d t
+    down : GoesDownAfter k this v f
     down n d q here carried (New same is) =
         let e : Some m.row.number ≡ Some q = sym carries_this ∙ subst (λ x. carries x ≡ Some q) (sym is) carried in
         let one : m.row.number ≡ q = cc in
@@ -344,15 +343,5 @@ resumed_here_keeps {A = A} k v next m kept = subst LinkKept (sym m.gives) (recor
         let before : w.0.counted ≡ true = ap (λ (x : Session A). x.counted) stays ∙ yes_counted in
         elim (kept.idle_down q w.0 w.1 before) [
           | inl still ↦ inl (subst (λ (x : Session A). IsIdle x.down) stays still)
-          | inr x ↦ absurd (none q x)
+          | inr x ↦ absurd (none_carried v k m.conn m.here m.is (λ p e. no_entry p (ap (carried_by {A = A} (InResume m.row.number)) (sym nothing_down) ∙ ap (λ x. carried_by x (down_whole m.conn.wires)) (sym (old.at.client ∙ ap client_of asking.is)) ∙ e)) q x)
         ]
-      where
-        none : (q : ℕ) → IsCarried v q → ⊥
-        none q (n, d, here, found, carried) =
-            let h = m.here in
-            let same : k ≡ n = cc in
-            let one : d ≡ m.conn = some_one (v.conns k) d m.conn (subst (λ x. v.conns x ≡ Some d) (sym same) found) m.is in
-            let e : carried_by {A = A} (InResume m.row.number) [] ≡ Some q =
-            ap (carried_by (InResume m.row.number)) (sym nothing_down) ∙ ap (λ x. carried_by x (down_whole m.conn.wires)) (sym (old.at.client ∙ ap client_of asking.is)) ∙ subst (λ x. carries x ≡ Some q) one carried
-            in
-            no_entry q e

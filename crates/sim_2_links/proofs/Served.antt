@@ -1,5 +1,5 @@
 -- Stanzas, requests and counts that the server takes on the connection that has the session.
-use Rattle.std.proofs.Common.{◌≡◌, ◌≢◌, ℕ, ◌+◌, Bool, true, false, ◌&&◌, List, [], ◌∷◌, ◌++◌, length, map, refl, sym, ap, ◌∙◌, subst, arith, ◌⊎◌, inl, inr, Option, Some, nat_eq}
+use Rattle.std.proofs.Common.{◌≡◌, ◌≢◌, ℕ, ◌+◌, Bool, true, false, ◌&&◌, List, [], ◌∷◌, ◌++◌, length, map, refl, sym, ap, ◌∙◌, subst, arith, ◌⊎◌, inl, inr, Option, Some, nat_eq, ◌≤◌}
 use Rattle.std.proofs.lemmas.Bool.{cases_eq}
 use Rattle.std.specs.List.{Contains}
 use Rattle.sm_acks.specs.Delivery.{Handle, queue_of}
@@ -9,6 +9,8 @@ use Rattle.sim_2_links.proofs.Tables.{send_down_whole, send_down_whole_up, left_
 use Rattle.std.proofs.lemmas.List.{append-nil, map-append, length_push}
 use Rattle.sim_2_links.proofs.CutLinks.{not_true, some_one, here_or_not, there_cut, on_other, some_same}
 use Rattle.sim_2_links.proofs.Hands.{piped_up, taken_stands, up_words_down, flow_down}
+use Rattle.sim_2_links.proofs.Heard.{same_session}
+use Rattle.sim_2_links.proofs.StepParts.{GoesDownAfter, StaysBare}
 use Rattle.sim_2_links.specs.Words.{Traffic, St, up_stanzas, down_stanzas, UpWord, Up, Down, InOnline, AtSession}
 use Rattle.sim_2_links.specs.Wires.{Wires, Flow, Stop, up_words, down_words, up_whole, down_whole, send_down, left_up}
 use Rattle.sim_2_links.specs.Stages.{Stage, Greets, Greeted, Offered, Proves, Challenged, Answers, Succeeded, Regreets, Regreeted, Reoffered, AsksResume, Refused, Resumes, AsksBind, Binds, AsksEnable, Enables, Runs, client_of, phase_of, up_of, down_of, Ending, Stands, Errs, Closes, tail_of, foot_of, Conn, IsAt}
@@ -78,10 +80,7 @@ IsResumed p _ = ⊥
 gentle_fits : {A : Type 0} (own : Option (Own A)) (epoch p : ℕ) (f : ℕ → Session A → Session A) (sessions : Table (Session A)) (s : Stage A) → IsGentle p f → (IsResumed p s → ⊥) → FitsOwn own epoch sessions s → FitsOwn own epoch (alter f sessions) s
 gentle_fits own epoch p f sessions (AsksResume q h) g apart a = a
 gentle_fits own epoch p f sessions (Refused q) g apart a = a
-gentle_fits {A = A} own epoch p f sessions (Resumes q h downs) g apart a = (a.0, λ t is. moved t (was f sessions q t is))
-  where
-    moved : (t : Session A) → (s : Session A) × (sessions q ≡ Some s) × (f q s ≡ t) → (h ≡ length t.up.got) × Contains t.up.stated h
-    moved t w = subst (λ x. (h ≡ length x.up.got) × Contains x.up.stated h) (sym (g.others q w.0 apart) ∙ w.2) (a.1 w.0 w.1)
+gentle_fits {A = A} own epoch p f sessions (Resumes q h downs) g apart a = (a.0, λ t is. let w = was f sessions q t is in subst (λ (x : Session A). (h ≡ length x.up.got) × Contains x.up.stated h) (sym (g.others q w.0 apart) ∙ w.2) (a.1 w.0 w.1))
 gentle_fits own epoch p f sessions AsksBind g apart a = a
 gentle_fits own epoch p f sessions (Binds m) g apart (none, b) = (none, (f m b.0, altered f sessions m b.0 b.1, g.epoch m b.0 ∙ b.2, g.counted m b.0 ∙ b.3))
 gentle_fits own epoch p f sessions (AsksEnable m) g apart (none, b) = (none, (f m b.0, altered f sessions m b.0 b.1, g.epoch m b.0 ∙ b.2))
@@ -228,7 +227,7 @@ served_keeps {A = A} v k c r new t rest puts f m kept = record {
             let here : v.here ≡ Some n = has_is v.here n e in
             bare_not (kept.late k c r.number m.is (here_or_not v k n ne here) held (n, d, here, there, resumed_carries r.number b.stage d b.at resumed))
 
-    down : (n : ℕ) (d : Conn A) (q : ℕ) → v.here ≡ Some n → carries d ≡ Some q → Entry k this v.conns n d → (s : Session A) × (alter f v.sessions q ≡ Some s) × GoesDown d s
+    down : GoesDownAfter k this v f
     down n d q here carried (New same is) =
         let mine : r.number ≡ q = let a = carries_this in let b : carries this ≡ Some q = subst (λ x. carries x ≡ Some q) (sym is) carried in let c : Some r.number ≡ Some q = sym a ∙ b in cc in
         let before = kept.goes_down k c r.number (here ∙ ap Some (sym same)) m.is carries_old in
@@ -267,7 +266,7 @@ served_keeps {A = A} v k c r new t rest puts f m kept = record {
             (k, c, here ∙ ap Some (sym same), m.is, carries_old ∙ e)
         by (Old ne there) = (n, d, here, there, carried)
 
-    late : (n : ℕ) (d : Conn A) (q : ℕ) → has v.here n ≡ false → session_on d ≡ Some q → IsCarried v q → Entry k this v.conns n d → IsBare (up_words d.wires)
+    late : StaysBare k this v
     late n d q away on carried (New same is) =
         let e : session_on c ≡ Some q = subst (λ x. session_on x ≡ Some q) (sym is) on in
         not_bare (kept.late k c q m.is (subst (λ x. has v.here x ≡ false) (sym same) away) e carried)
@@ -313,7 +312,14 @@ pub record IsOn {A : Type 0} (v : View A) (k : ℕ) (c : Conn A) (r : Row A) (s 
   pub held : session_on c ≡ Some r.number
   pub goes : GoesUp c s
 
-pub on_row : {A : Type 0} (v : View A) (k : ℕ) (c : Conn A) (r : Row A) → v.conns k ≡ Some c → v.row ≡ Some r → r.on ≡ Some k → r.counted ≡ true → LinkKept v → (s : Session A) × IsOn v k c r s
+abbrev pub RowOn : {A : Type 0} → View A → ℕ → Conn A → Row A → Type 0
+RowOn {A = A} v k c r = (s : Session A) × IsOn v k c r s
+
+-- a count of what the server put, and those behind it
+abbrev pub UpCounted : {A : Type 0} → ℕ → Session A → List (UpWord A) → Type 0
+UpCounted h s rest = (s.down.acked ≤ h) × Contains s.down.stated h × UpCounts h s.down.stated rest
+
+pub on_row : {A : Type 0} (v : View A) (k : ℕ) (c : Conn A) (r : Row A) → v.conns k ≡ Some c → v.row ≡ Some r → r.on ≡ Some k → r.counted ≡ true → LinkKept v → RowOn v k c r
 on_row v k c r is is_row on counted kept =
     let old = kept.row r is_row in
     let placed : IsPlaced v.conns r old.session (Some k) = subst (λ o. IsPlaced v.conns r old.session o) on old.placed in
@@ -331,6 +337,10 @@ on_row v k c r is is_row on counted kept =
       },
     )
 
+pub nothing_sent : {A : Type 0} (rest : List (UpWord A)) (x : Wires A) → down_words (send_down [] (left_up rest x)) ≡ down_words x
+nothing_sent rest (Flow us ds) = append-nil ds
+nothing_sent rest (Stop us ds lu ld) = refl
+
 pub up_stanza_keeps : {A : Type 0} (k : ℕ) (z : A) (v next : View A) → IsUpStanza k z v next → LinkKept v → LinkKept next
 up_stanza_keeps {A = A} k z v next m kept = subst LinkKept (sym m.gives) (served_keeps v k m.conn m.row (record m.row { handled = m.row.handled + 1 }) (St z) m.rest [] f (record {
   is = m.is;
@@ -342,8 +352,8 @@ up_stanza_keeps {A = A} k z v next m kept = subst LinkKept (sym m.gives) (served
   new_counted = refl;
   gentle = handled_gentle m.row.number z (up_stanzas m.rest);
   sessions = λ q s found. handled_kept (has (Some m.row.number) q) z (up_stanzas m.rest) s
-      (λ e. subst (λ x. x.up.way ≡ z ∷ up_stanzas m.rest) (mine q s e found) split)
-      (λ e. subst (λ x. x.counted ≡ true) (mine q s e found) on.1.counted)
+      (λ e. subst (λ x. x.up.way ≡ z ∷ up_stanzas m.rest) (same_session v m.row.number q on.0 s on.1.is e found) split)
+      (λ e. subst (λ x. x.counted ≡ true) (same_session v m.row.number q on.0 s on.1.is e found) on.1.counted)
       (kept.sessions q s found);
   row = record {
     session = f m.row.number on.0;
@@ -375,9 +385,9 @@ up_stanza_keeps {A = A} k z v next m kept = subst LinkKept (sym m.gives) (served
   down_other = λ q s d g. record { counted = g.counted; way = g.way; is_open = g.is_open; counts = g.counts };
   down_this = λ s found g. record {
     counted = g.counted;
-    way = g.way ∙ ap down_stanzas (sym (same_down m.conn.wires));
+    way = g.way ∙ ap down_stanzas (sym (nothing_sent m.rest m.conn.wires));
     is_open = g.is_open ∙ sym (flow_down [] m.rest m.conn.wires);
-    counts = subst (λ ws. DownCounts s.up.acked s.up.stated ws) (sym (same_down m.conn.wires)) g.counts;
+    counts = subst (λ ws. DownCounts s.up.acked s.up.stated ws) (sym (nothing_sent m.rest m.conn.wires)) g.counts;
   };
   idle_down = λ q s quiet. quiet;
 }) kept)
@@ -385,7 +395,7 @@ up_stanza_keeps {A = A} k z v next m kept = subst LinkKept (sym m.gives) (served
     f : ℕ → Session A → Session A
     f = λ q s. handled_if (has (Some m.row.number) q) z (up_stanzas m.rest) s
 
-    on : (s : Session A) × IsOn v k m.conn m.row s
+    on : RowOn v k m.conn m.row
     on = on_row v k m.conn m.row m.is m.is_row m.on m.counted kept
 
     split : on.0.up.way ≡ z ∷ up_stanzas m.rest
@@ -393,10 +403,3 @@ up_stanza_keeps {A = A} k z v next m kept = subst LinkKept (sym m.gives) (served
 
     counts : UpCounts on.0.down.acked on.0.down.stated m.rest
     counts = subst (λ ws. UpCounts on.0.down.acked on.0.down.stated ws) m.first on.1.goes.counts
-
-    mine : (q : ℕ) (s : Session A) → has (Some m.row.number) q ≡ true → v.sessions q ≡ Some s → on.0 ≡ s
-    mine q s e found = let same : Some m.row.number ≡ Some q = has_is (Some m.row.number) q e in let n : m.row.number ≡ q = cc in some_one (v.sessions q) on.0 s (subst (λ x. v.sessions x ≡ Some on.0) n on.1.is) found
-
-    same_down : (x : Wires A) → down_words (send_down [] (left_up m.rest x)) ≡ down_words x
-    same_down (Flow us ds) = append-nil ds
-    same_down (Stop us ds lu ld) = refl

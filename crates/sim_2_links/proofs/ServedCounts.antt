@@ -2,14 +2,15 @@
 use Rattle.std.proofs.Common.{◌≡◌, ℕ, ◌+◌, ◌-◌, ◌≤◌, Bool, true, false, ◌&&◌, List, [], ◌∷◌, ◌++◌, length, drop, refl, sym, ap, ◌∙◌, subst, arith, Some, nat_eq}
 use Rattle.std.specs.List.{Contains}
 use Rattle.sm_acks.specs.Delivery.{State, Acknowledge}
-use Rattle.sim_2_links.proofs.Entries.{same_number, other_number, at_same, altered, has_is}
+use Rattle.sim_2_links.proofs.Entries.{same_number, other_number, at_same, altered}
 use Rattle.sim_2_links.proofs.DeliveryRuns.{reached_more}
 use Rattle.std.proofs.lemmas.List.{drop-drop, append-nil}
 use Rattle.sm_acks.proofs.Directions.{kept_reached}
 use Rattle.sim_2_links.proofs.CutLinks.{not_true, some_one}
 use Rattle.sim_2_links.proofs.Counting.{down_counts_push, down_counts_more, down_stanzas_with}
 use Rattle.sim_2_links.proofs.Hands.{up_words_down, flow_down}
-use Rattle.sim_2_links.proofs.Served.{served, IsGentle, served_keeps, IsOn, on_row}
+use Rattle.sim_2_links.proofs.Served.{served, IsGentle, served_keeps, on_row, RowOn, UpCounted, nothing_sent}
+use Rattle.sim_2_links.proofs.Heard.{same_session}
 use Rattle.sim_2_links.specs.Words.{Req, Ack, up_stanzas, down_stanzas, UpWord, DownWord, Down}
 use Rattle.sim_2_links.specs.Wires.{Wires, Flow, Stop, down_words, send_down, left_up}
 use Rattle.sim_2_links.specs.Stages.{Conn}
@@ -68,7 +69,7 @@ up_request_keeps {A = A} k v next m kept = subst LinkKept (sym m.gives) (subst (
   new_on = refl;
   new_counted = refl;
   gentle = stated_gentle m.row.number;
-  sessions = λ q s found. stated_kept (has (Some m.row.number) q) s (λ e. subst (λ x. x.counted ≡ true) (mine q s e found) on.1.counted) (kept.sessions q s found);
+  sessions = λ q s found. stated_kept (has (Some m.row.number) q) s (λ e. subst (λ x. x.counted ≡ true) (same_session v m.row.number q on.0 s on.1.is e found) on.1.counted) (kept.sessions q s found);
   row = record {
     session = f m.row.number on.0;
     is = altered f v.sessions m.row.number on.0 on.1.is;
@@ -118,14 +119,11 @@ up_request_keeps {A = A} k v next m kept = subst LinkKept (sym m.gives) (subst (
     f : ℕ → Session A → Session A
     f = λ q s. stated_if (has (Some m.row.number) q) s
 
-    on : (s : Session A) × IsOn v k m.conn m.row s
+    on : RowOn v k m.conn m.row
     on = on_row v k m.conn m.row m.is m.is_row m.on m.counted kept
 
     counts : UpCounts on.0.down.acked on.0.down.stated m.rest
     counts = subst (λ ws. UpCounts on.0.down.acked on.0.down.stated ws) m.first on.1.goes.counts
-
-    mine : (q : ℕ) (s : Session A) → has (Some m.row.number) q ≡ true → v.sessions q ≡ Some s → on.0 ≡ s
-    mine q s e found = let same : Some m.row.number ≡ Some q = has_is (Some m.row.number) q e in let n : m.row.number ≡ q = cc in some_one (v.sessions q) on.0 s (subst (λ x. v.sessions x ≡ Some on.0) n on.1.is) found
 
 -- a count
 
@@ -166,7 +164,7 @@ up_count_keeps {A = A} k h v next m kept = subst LinkKept (sym m.gives) (served_
   new_on = refl;
   new_counted = refl;
   gentle = acked_gentle m.row.number h;
-  sessions = λ q s found. acked_kept (has (Some m.row.number) q) h s (λ e. subst (λ (x : Session A). (x.counted ≡ true) × Contains x.down.stated h × (x.down.acked ≤ h)) (mine q s e found) (on.1.counted, counts.1, counts.0)) (kept.sessions q s found);
+  sessions = λ q s found. acked_kept (has (Some m.row.number) q) h s (λ e. subst (λ (x : Session A). (x.counted ≡ true) × Contains x.down.stated h × (x.down.acked ≤ h)) (same_session v m.row.number q on.0 s on.1.is e found) (on.1.counted, counts.1, counts.0)) (kept.sessions q s found);
   row = record {
     session = f m.row.number on.0;
     is = altered f v.sessions m.row.number on.0 on.1.is;
@@ -197,9 +195,9 @@ up_count_keeps {A = A} k h v next m kept = subst LinkKept (sym m.gives) (served_
   down_other = λ q s d g. record { counted = g.counted; way = g.way; is_open = g.is_open; counts = g.counts };
   down_this = λ s found g. record {
     counted = g.counted;
-    way = g.way ∙ ap down_stanzas (sym (same_down m.conn.wires));
+    way = g.way ∙ ap down_stanzas (sym (nothing_sent m.rest m.conn.wires));
     is_open = g.is_open ∙ sym (flow_down [] m.rest m.conn.wires);
-    counts = subst (λ ws. DownCounts s.up.acked s.up.stated ws) (sym (same_down m.conn.wires)) g.counts;
+    counts = subst (λ ws. DownCounts s.up.acked s.up.stated ws) (sym (nothing_sent m.rest m.conn.wires)) g.counts;
   };
   idle_down = λ q s quiet. record { way = quiet.way; is_open = quiet.is_open };
 }) kept)
@@ -213,10 +211,10 @@ up_count_keeps {A = A} k h v next m kept = subst LinkKept (sym m.gives) (served_
     f : ℕ → Session A → Session A
     f = λ q s. acked_if (has (Some m.row.number) q) h s
 
-    on : (s : Session A) × IsOn v k m.conn m.row s
+    on : RowOn v k m.conn m.row
     on = on_row v k m.conn m.row m.is m.is_row m.on m.counted kept
 
-    counts : (on.0.down.acked ≤ h) × Contains on.0.down.stated h × UpCounts h on.0.down.stated m.rest
+    counts : UpCounted h on.0 m.rest
     counts = subst (λ ws. UpCounts on.0.down.acked on.0.down.stated ws) m.first on.1.goes.counts
 
     queue : drop (h - m.row.acked) m.row.queue ≡ drop h on.0.down.put
@@ -225,10 +223,3 @@ up_count_keeps {A = A} k h v next m kept = subst LinkKept (sym m.gives) (served_
         let a = on.1.acked in
         let sum : (h - m.row.acked) + on.0.down.acked ≡ h = omega arith in
         ap (drop (h - m.row.acked)) on.1.queue ∙ drop_twice (h - m.row.acked) on.0.down.acked on.0.down.put ∙ ap (λ (n : ℕ). drop n on.0.down.put) sum
-
-    mine : (q : ℕ) (s : Session A) → has (Some m.row.number) q ≡ true → v.sessions q ≡ Some s → on.0 ≡ s
-    mine q s e found = let same : Some m.row.number ≡ Some q = has_is (Some m.row.number) q e in let n : m.row.number ≡ q = cc in some_one (v.sessions q) on.0 s (subst (λ x. v.sessions x ≡ Some on.0) n on.1.is) found
-
-    same_down : (x : Wires A) → down_words (send_down [] (left_up m.rest x)) ≡ down_words x
-    same_down (Flow us ds) = append-nil ds
-    same_down (Stop us ds lu ld) = refl

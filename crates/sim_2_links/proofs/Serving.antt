@@ -9,6 +9,7 @@ use Rattle.sim_2_links.proofs.CutLinks.{not_true, some_one, some_same, there_cut
 use Rattle.sim_2_links.proofs.Hands.{no_entry, stopped_away}
 use Rattle.sim_2_links.proofs.Detached.{IsStill, still_asked, still_fits, carries_at, on_stands}
 use Rattle.sim_2_links.proofs.UncountedEnds.{carried_is_held, carried_holds}
+use Rattle.sim_2_links.proofs.StepParts.{carried_before, GoesDownAfter, StaysBare, attached_after}
 use Rattle.sim_2_links.specs.Words.{Traffic, up_stanzas, DownWord, Resumed, Enabled, Down}
 use Rattle.sim_2_links.specs.Wires.{Wires, Flow, Stop, is_flowing, up_words, down_words, down_whole, send_down}
 use Rattle.sim_2_links.specs.Stages.{Stage, AsksResume, Refused, Resumes, Binds, AsksEnable, Enables, Runs, client_of, phase_of, up_of, down_of, Ending, Stands, tail_of, foot_of, Conn, IsAt}
@@ -170,12 +171,6 @@ sent_keeps {A = A} v k c r new t f m kept = record {
           );
         }
 
-    attached : (n : ℕ) (d : Conn A) → ((q : ℕ) → session_on d ≡ Some q → (x : Row A) × (v.row ≡ Some x) × (x.number ≡ q) × (x.on ≡ Some n)) → (q : ℕ) → session_on d ≡ Some q → (x : Row A) × (Some new ≡ Some x) × (x.number ≡ q) × (x.on ≡ Some n)
-    attached n d before q e =
-        let b = before q e in
-        let same : b.0 ≡ r = some_one v.row b.0 r b.1 m.is_row in
-        (new, refl, m.number ∙ subst (λ x. x.number ≡ q) same b.2, m.new_on ∙ subst (λ x. x.on ≡ Some n) same b.3)
-
     conn : (n : ℕ) (d : Conn A) → Entry k this v.conns n d → ConnKept (record v { conns = with_at k (sent_down c t) v.conns; row = Some new; sessions = alter f v.sessions }) n d
     conn n d (New same is) =
         let here : ConnKept (record v { conns = with_at k (sent_down c t) v.conns; row = Some new; sessions = alter f v.sessions }) k (sent_down c t) = record {
@@ -184,7 +179,7 @@ sent_keeps {A = A} v k c r new t f m kept = record {
           at = at;
           asked = more.asked (alter f v.sessions);
           fits = λ e. more.fits v.own v.epoch (alter f v.sessions) (still_fits v.own v.epoch f v.sessions old.stage m.still (old.fits e));
-          attached = attached k c old.attached;
+          attached = attached_after v r new m.is_row m.number m.new_on k c old.attached;
           uncounted = λ x g on e. absurd (not_true more.yet e);
           counting = λ x g on p e. subst (λ (y : Row A). y.counted ≡ true) (some_same new x g) (m.new_counted ∙ m.counted);
         } in
@@ -197,12 +192,12 @@ sent_keeps {A = A} v k c r new t f m kept = record {
           at = before.at;
           asked = still_asked f v.sessions before.stage m.still before.asked;
           fits = λ e. still_fits v.own v.epoch f v.sessions before.stage m.still (before.fits e);
-          attached = attached n d before.attached;
+          attached = attached_after v r new m.is_row m.number m.new_on n d before.attached;
           uncounted = λ x g on e. on_other k n new x g (m.new_on ∙ m.on) ne on;
           counting = λ x g on p e. on_other k n new x g (m.new_on ∙ m.on) ne on;
         }
 
-    down : (n : ℕ) (d : Conn A) (q : ℕ) → v.here ≡ Some n → carries d ≡ Some q → Entry k this v.conns n d → (s : Session A) × (alter f v.sessions q ≡ Some s) × GoesDown d s
+    down : GoesDownAfter k this v f
     down n d q here carried (New same is) =
         let carried_old : carries c ≡ Some q = sym same_carried ∙ subst (λ x. carries x ≡ Some q) (sym is) carried in
         let mine : q ≡ r.number = carried_is_held old.stage c q r.number old.at carried_old held in
@@ -238,13 +233,9 @@ sent_keeps {A = A} v k c r new t f m kept = record {
         by (inr ne) = (n, d, here, at_other k this v.conns n ne ∙ found, carried)
 
     carried_back : (q : ℕ) → IsCarried (record v { conns = with_at k (sent_down c t) v.conns; row = Some new; sessions = alter f v.sessions }) q → IsCarried v q
-    carried_back q (n, d, here, found, carried) = by (entry k this v.conns n d found)
-      where
-        by : Entry k this v.conns n d → IsCarried v q
-        by (New same is) = (k, c, here ∙ ap Some (sym same), m.is, sym same_carried ∙ subst (λ x. carries x ≡ Some q) (sym is) carried)
-        by (Old ne there) = (n, d, here, there, carried)
+    carried_back q (n, d, here, found, carried) = carried_before k (sent_down c t) v q (λ e at. (k, c, e, m.is, sym same_carried ∙ at)) n d here carried (entry k (sent_down c t) v.conns n d found)
 
-    late : (n : ℕ) (d : Conn A) (q : ℕ) → has v.here n ≡ false → session_on d ≡ Some q → IsCarried v q → Entry k this v.conns n d → IsBare (up_words d.wires)
+    late : StaysBare k this v
     late n d q away on carried (New same is) =
         let bare = kept.late k c q m.is (subst (λ x. has v.here x ≡ false) (sym same) away) (subst (λ x. session_on x ≡ Some q) (sym is) on) carried in
         subst (λ x. IsBare (up_words x.wires)) is (subst IsBare (sym (sent_up_words (Down t ∷ []) c.wires)) bare)

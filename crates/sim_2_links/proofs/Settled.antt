@@ -1,5 +1,5 @@
 -- Where both pipes of a connection that flows are empty, nothing is outstanding.
-use Rattle.std.proofs.Common.{◌≡◌, ℕ, Bool, true, false, List, [], ◌∷◌, ◌++◌, length, drop, refl, sym, ap, ◌∙◌, subst, inl, inr, Some}
+use Rattle.std.proofs.Common.{◌≡◌, ℕ, Bool, true, List, [], ◌∷◌, ◌++◌, length, drop, refl, sym, ap, ◌∙◌, subst, inl, inr, Some}
 use Rattle.std.proofs.lemmas.List.{append-nil}
 use Rattle.sm_acks.specs.Delivery.{queue_of}
 use Rattle.sm_acks.proofs.Directions.{kept_reached}
@@ -15,7 +15,7 @@ use Rattle.sim_2_links.proofs.PromptWords.{server_put_covered, server_request_co
 use Rattle.sim_2_links.proofs.PromptSessions.{read_resumed_covered, read_enabled_covered}
 use Rattle.sim_2_links.specs.Words.{up_stanzas, down_stanzas, InOnline}
 use Rattle.sim_2_links.specs.Wires.{Wires, Flow, Stop, is_flowing, up_words, down_words, up_whole, down_whole}
-use Rattle.sim_2_links.specs.Stages.{Stage, AsksResume, Refused, Resumes, Binds, AsksEnable, Enables, Runs, client_of, up_of, down_of, tail_of, foot_of, Stands, Conn}
+use Rattle.sim_2_links.specs.Stages.{Stage, AsksResume, Refused, Resumes, Binds, AsksEnable, Enables, Runs, client_of, up_of, down_of, tail_of, foot_of, Conn}
 use Rattle.sim_2_links.specs.Views.{has, Session, Own, View, carried_by}
 use Rattle.sim_2_links.specs.Links.{FitsOwn, IsOwn, ConnKept, GoesDown, OwnKept, LinkKept}
 use Rattle.sim_2_links.specs.Machine.{LinkMove, Cuts, Dials, LetsGo, Foots, Forgets, Puts, Queues, Requests, ReadsHand, AsksToResume, AsksToBind, ReadsFailed, ReadsResumed, ReadsBound, ReadsEnabled, ReadsStanza, ReadsRequest, ReadsCount, TakesHand, TakesResume, TakesLateResume, TakesStrangeResume, TakesHighResume, TakesBind, TakesEnable, TakesStanza, TakesRequest, TakesCount, TakesFoot, Parks, Hears, HearsEarly, Detaches, Shuts, EndsRow, Serves, Keeps, Demands, LinkMoves, nothing_yet}
@@ -123,13 +123,10 @@ settled {A = A} test v k c (kept, covered) here is flows no_up no_down = record 
     works : has v.here k ≡ true
     works = is_has v.here k here
 
-    f : (has v.here k ≡ true) × (c.ending ≡ Stands) × (c.gone ≡ false)
-    f = old.piped.flowing flows
-
     quiet : (p : ℕ) × (old.stage ≡ Runs p [] [])
     quiet = quiet_row old.stage
         (sym (append-nil (up_of old.stage)) ∙ ap (λ x. up_of old.stage ++ foot_of x) (sym (old.piped.unfooted works)) ∙ sym old.at.up ∙ flowing_whole_up c.wires flows ∙ no_up)
-        (sym (append-nil (down_of old.stage)) ∙ ap (λ x. down_of old.stage ++ tail_of x) (sym f.1) ∙ sym old.at.down ∙ flowing_whole_down c.wires flows ∙ no_down)
+        (sym (append-nil (down_of old.stage)) ∙ ap (λ x. down_of old.stage ++ tail_of x) (sym (old.piped.flowing flows).1) ∙ sym old.at.down ∙ flowing_whole_down c.wires flows ∙ no_down)
 
     own : IsOwn v.own quiet.0
     own = subst (λ s. FitsOwn v.own v.epoch v.sessions s) quiet.1 (old.fits works)

@@ -3,7 +3,7 @@ use Rattle.std.proofs.Common.{◌≡◌, ℕ, Bool, true, false, List, [], ◌�
 use Rattle.std.proofs.lemmas.List.{append-nil}
 use Rattle.sim_2_links.specs.Words.{UpWord, Hdr, Auth, Resp, ResumeAt, Bind, Enable, Up, Foot, DownWord, Head, Feat, Chal, Succ, Failed, Resumed, Bound, Enabled, Down, Err, End, Cause, Client, InHeader1, InFeatures1, InAuth, InResponse, InHeader2, InFeatures2, InResume, InBind, InEnable, InOnline, Phase, Start, Sasl, Challenge, Restart, Ready, AtSession}
 use Rattle.sim_2_links.specs.Wires.{Wires, Flow, Stop, is_flowing, up_words, down_words, up_whole, down_whole, send_up, send_down, left_up, left_down, cut, halt}
-use Rattle.sim_2_links.specs.Stages.{Stage, Greets, Greeted, Offered, Proves, Challenged, Answers, Succeeded, Regreets, Regreeted, Reoffered, AsksResume, Refused, Resumes, AsksBind, Binds, AsksEnable, Enables, Runs, client_of, phase_of, up_of, down_of, Hand, Other, Goes, server_hand, client_hand, Ending, Stands, Errs, Closes, tail_of, foot_of, IsPlain, IsEarly}
+use Rattle.sim_2_links.specs.Stages.{Stage, Greets, Greeted, Offered, Proves, Challenged, Answers, Succeeded, Regreets, Regreeted, Reoffered, AsksResume, Refused, Resumes, AsksBind, Binds, AsksEnable, Enables, Runs, client_of, phase_of, up_of, down_of, Hand, Other, Goes, server_hand, client_hand, Ending, Stands, Errs, Closes, tail_of, foot_of, IsPlain, IsEarly, Conn}
 
 -- the pipes, with what was lost
 
@@ -90,6 +90,10 @@ pub record NextDown {A : Type 0} (s : Stage A) (tail : List (DownWord A)) (clien
   pub up : up_of row ≡ up_of s ++ puts
   pub down : down_of row ++ tail ≡ rest
   pub plain : IsEarly (client_of s) → IsPlain row
+
+-- the row to which a word leads that the client takes
+abbrev pub DownRow : {A : Type 0} → Stage A → Conn A → Client → List (UpWord A) → List (DownWord A) → Type 0
+DownRow s c client puts rest = NextDown s (tail_of c.ending) client puts (down_whole (left_down rest c.wires))
 
 abbrev pub LeadsDown : {A : Type 0} → Stage A → List (DownWord A) → Hand Client (UpWord A) → List (DownWord A) → Type 0
 LeadsDown s tail Other rest = Unit {0}
@@ -188,6 +192,10 @@ pub record NextUp {A : Type 0} (s : Stage A) (tail : List (UpWord A)) (phase : P
   pub down : down_of row ≡ down_of s ++ puts
   pub before : IsPlain s
   pub plain : IsPlain row
+
+-- the row to which a word leads that the server takes
+abbrev pub UpRow : {A : Type 0} → Stage A → Conn A → Phase → List (DownWord A) → List (UpWord A) → Type 0
+UpRow s c phase puts rest = NextUp s (foot_of c.footed) phase puts (up_whole (left_up rest c.wires))
 
 abbrev pub LeadsUp : {A : Type 0} → Stage A → List (UpWord A) → Hand Phase (DownWord A) → List (UpWord A) → Type 0
 LeadsUp s tail Other rest = Unit {0}

@@ -66,14 +66,21 @@ bind_free {A = A} v k c rest is first ready none given =
     fresh None e = e
     fresh (Some s) e = let g = given v.free s e in absurd (let no_way : ⊥ = omega arith in no_way)
 
+-- by the row that there is, and by the connection that it is on
+abbrev ByRow : {A : Type 0} → View A → ℕ → List (UpWord A) → Type 0
+ByRow {A = A} v k rest = (o : Option (Row A)) → v.row ≡ o → IsTaken v k rest
+
+abbrev ByPlace : {A : Type 0} → Row A → View A → ℕ → List (UpWord A) → Type 0
+ByPlace r v k rest = (o : Option ℕ) → r.on ≡ o → IsTaken v k rest
+
 bind_taken : {A : Type 0} (v : View A) (k : ℕ) (c : Conn A) (rest : List (UpWord A)) → LinkKept v → IsRising v → v.conns k ≡ Some c → up_words c.wires ≡ Bind ∷ rest → c.phase ≡ Ready → IsTaken v k rest
 bind_taken {A = A} v k c rest kept rising is first ready = by v.row refl
   where
-    by : (o : Option (Row A)) → v.row ≡ o → IsTaken v k rest
+    by : ByRow v k rest
     by None none = bind_free v k c rest is first ready none rising.given
     by (Some r) is_row = placed r.on refl
       where
-        placed : (o : Option ℕ) → r.on ≡ o → IsTaken v k rest
+        placed : ByPlace r v k rest
         placed None off =
             after_move EndsRow v (record v { row = None }) k rest (record { row = r; is_row = is_row; off = off; gives = refl }) (bind_free (record v { row = None }) k c rest is first ready refl rising.given)
         placed (Some j) on =
@@ -139,7 +146,7 @@ resume_taken {A = A} v k p h c rest kept is first ready = by v.row refl
         let whole = first_whole (ResumeAt p h) rest c.wires first in
         subst (λ s. IsAsked v.sessions s) (asks old.stage c.footed p h whole.0 (sym old.at.up ∙ whole.1)).is old.asked
 
-    by : (o : Option (Row A)) → v.row ≡ o → IsTaken v k rest
+    by : ByRow v k rest
     by None none = strange (λ r is_row same. no_entry r (sym none ∙ is_row))
     by (Some r) is_row = numbered (cases_eq r.number p)
       where
@@ -158,7 +165,7 @@ resume_taken {A = A} v k p h c rest kept is first ready = by v.row refl
             mine : up_words c.wires ≡ ResumeAt r.number h ∷ rest
             mine = first ∙ ap (λ (n : ℕ). ResumeAt n h ∷ rest) (sym same)
 
-            placed : (o : Option ℕ) → r.on ≡ o → IsTaken v k rest
+            placed : ByPlace r v k rest
             placed None off = resume_off v k h c rest r is mine is_row off counted
             placed (Some j) on =
                 let d = other_conn v k j c r kept is ready is_row on in

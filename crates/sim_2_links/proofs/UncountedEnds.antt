@@ -1,5 +1,5 @@
 -- A session ends that the server doesn't count yet, with its connection.
-use Rattle.std.proofs.Common.{◌≡◌, ◌≢◌, ℕ, true, false, refl, sym, ap, ◌∙◌, subst, ◌⊎◌, inl, inr, None, Some}
+use Rattle.std.proofs.Common.{◌≡◌, ℕ, true, false, refl, sym, ap, ◌∙◌, subst, ◌⊎◌, inl, inr, None, Some}
 use Rattle.std.proofs.lemmas.Bool.{cases_eq}
 use Rattle.sim_2_links.proofs.Entries.{at_other, Entry, New, Old, entry}
 use Rattle.sim_2_links.proofs.CutLinks.{not_true, some_one, there_cut}
@@ -8,12 +8,13 @@ use Rattle.sim_2_links.proofs.ReadResumed.{phase_session}
 use Rattle.sim_2_links.proofs.Detached.{carries_at, on_stands, reason_ends, fair_reason}
 use Rattle.sim_2_links.proofs.Parked.{gone_off}
 use Rattle.sim_2_links.proofs.Ends.{shut_at, shut_piped, shut_off}
+use Rattle.sim_2_links.proofs.StepParts.{on_no_other, on_nowhere, GoesDownStill}
 use Rattle.sim_2_links.specs.Wires.{up_words}
 use Rattle.sim_2_links.specs.Stages.{Stage, AsksResume, Refused, Resumes, Binds, AsksEnable, Enables, Runs, phase_of, Ending, Stands, Conn, IsAt}
 use Rattle.sim_2_links.specs.Views.{with_at, has, Session, Row, View, on_phase, session_on, carries}
 use Rattle.sim_2_links.specs.SessionMoves.{shut}
 use Rattle.sim_2_links.specs.EndMoves.{IsUncountedShut, IsUncountedGone}
-use Rattle.sim_2_links.specs.Links.{carried_of, ArePiped, ConnKept, GoesDown, IsPlaced, RowKept, IsCarried, LinkKept}
+use Rattle.sim_2_links.specs.Links.{carried_of, ArePiped, ConnKept, IsPlaced, RowKept, IsCarried, LinkKept}
 
 -- what the way down of a connection carries is the session that the server has on it, where it has one
 pub carried_is_held : {A : Type 0} (s : Stage A) (c : Conn A) (p q : ℕ) → IsAt s c → carries c ≡ Some p → session_on c ≡ Some q → p ≡ q
@@ -55,7 +56,7 @@ uncounted_keeps {A = A} v k old new r is is_row on yet kept at' off piped = reco
   goes_down = λ n c p here found carried. down n c p here carried (entry k new v.conns n c found);
   idle_up = λ p t found counted. elim (kept.idle_up p t found counted) [ inl q ↦ inl q | inr x ↦ absurd (not_counted p t found counted x) ];
   idle_down = λ p t found counted. elim (kept.idle_down p t found counted) [ inl q ↦ inl q | inr c ↦ inr (carried_on p c) ];
-  late = λ n c p found gone here carried. absurd (nowhere n c p here (entry k new v.conns n c found));
+  late = λ n c p found gone here carried. absurd (on_nowhere k new v (λ q e. no_entry q (sym off ∙ e)) (on_no_other v k r kept is_row on) n c p here (entry k new v.conns n c found));
 }
   where
     was_kept : ConnKept v k old
@@ -85,17 +86,6 @@ uncounted_keeps {A = A} v k old new r is is_row on yet kept at' off piped = reco
     same_carried : carries new ≡ carries old
     same_carried = carries_at was_kept.stage new at' ∙ sym (carries_at was_kept.stage old was_kept.at)
 
-    no_other : (n : ℕ) (d : Conn A) (q : ℕ) → k ≢ n → v.conns n ≡ Some d → session_on d ≡ Some q → ⊥
-    no_other n d q ne there held_there =
-        let a : (x : Row A) × (v.row ≡ Some x) × (x.number ≡ q) × (x.on ≡ Some n) = (kept.conns n d there).attached q held_there in
-        let both : r.on ≡ Some n = subst (λ (x : Row A). x.on ≡ Some n) (some_one v.row a.0 r a.1 is_row) a.3 in
-        let on_k = on in
-        ne (let out : k ≡ n = cc in out)
-
-    nowhere : (n : ℕ) (d : Conn A) (q : ℕ) → session_on d ≡ Some q → Entry k new v.conns n d → ⊥
-    nowhere n d q held_there (New same this) = no_entry q (sym off ∙ subst (λ x. session_on x ≡ Some q) (sym this) held_there)
-    nowhere n d q held_there (Old ne there) = no_other n d q ne there held_there
-
     conn : (n : ℕ) (c : Conn A) → Entry k new v.conns n c → ConnKept (record v { conns = with_at k new v.conns; row = None }) n c
     conn n c (New same this) =
         let here : ConnKept (record v { conns = with_at k new v.conns; row = None }) k new = record {
@@ -111,9 +101,9 @@ uncounted_keeps {A = A} v k old new r is is_row on yet kept at' off piped = reco
         subst (λ x. ConnKept (record v { conns = with_at k new v.conns; row = None }) x c) same (subst (λ x. ConnKept (record v { conns = with_at k new v.conns; row = None }) k x) this here)
     conn n c (Old ne there) =
         let before = kept.conns n c there in
-        record { piped = before.piped; stage = before.stage; at = before.at; asked = before.asked; fits = before.fits; attached = λ p e. absurd (no_other n c p ne there e); uncounted = λ x f on e. no_entry x f; counting = λ x f on p e. no_entry x f }
+        record { piped = before.piped; stage = before.stage; at = before.at; asked = before.asked; fits = before.fits; attached = λ p e. absurd (on_no_other v k r kept is_row on n c p ne there e); uncounted = λ x f on e. no_entry x f; counting = λ x f on p e. no_entry x f }
 
-    down : (n : ℕ) (c : Conn A) (p : ℕ) → v.here ≡ Some n → carries c ≡ Some p → Entry k new v.conns n c → (t : Session A) × (v.sessions p ≡ Some t) × GoesDown c t
+    down : GoesDownStill k new v
     down n c p here carried (New same this) = absurd (silent old p (here ∙ ap Some (sym same)) refl (sym same_carried ∙ subst (λ x. carries x ≡ Some p) (sym this) carried))
     down n c p here carried (Old ne there) = kept.goes_down n c p here there carried
 

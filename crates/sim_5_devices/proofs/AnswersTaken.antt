@@ -1,6 +1,6 @@
 -- A client takes the results of its open page, and the end.
-use Rattle.std.proofs.Common.{◌≡◌, ℕ, suc, ◌+◌, ◌<◌, ◌≤◌, nat_le, true, false, List, [], ◌∷◌, ◌++◌, Some, None, Ok, length, map, codes, refl, sym, ap, subst, ◌∙◌, arith, append_assoc, append-nil, if◌then◌else◌}
-use Rattle.std.proofs.lemmas.Bool.Decides.{nat_tests}
+use Rattle.std.proofs.Common.{◌≡◌, ℕ, suc, ◌+◌, ◌<◌, ◌≤◌, true, false, List, [], ◌∷◌, ◌++◌, Some, None, Ok, length, map, codes, refl, sym, ap, subst, ◌∙◌, arith, append_assoc, append-nil, if◌then◌else◌}
+use Rattle.std.proofs.lemmas.Bool.{lt-leb}
 use Rattle.std.specs.List.{AllByRecursion}
 use Rattle.std.specs.Option.{option_map}
 use Rattle.std.specs.Str.{bytes_eq}
@@ -25,7 +25,6 @@ use Rattle.mam_archive.specs.Entries.{EntryView}
 use Rattle.mam_log.specs.Views.{OpenPage, page_for, with_result}
 use Rattle.mam_log.specs.declared.log_entry.LogEntry.{LogEntry}
 use Rattle.sim_5_devices.proofs.AnswersSent.{asker}
-use Rattle.sim_5_devices.proofs.Lives.{same_again}
 use Rattle.sim_5_devices.proofs.Results.{logged_again, result_again}
 use Rattle.sim_5_devices.proofs.Stanzas.{archived, archived_read, iq_read}
 use Rattle.sim_5_devices.specs.Exchanges.{taken}
@@ -37,6 +36,7 @@ use Rattle.xml_framer.specs.declared.items.Item.TheVariants.{Element}
 use Rattle.xml_trees.specs.Readers.{is_named}
 use Rattle.xml_trees.specs.Trees.{Elem}
 use Rattle.xml_writer.specs.Items.{ItemOut}
+use Rattle.base_lemmas.proofs.Bytes.{bytes_eq-self}
 
 -- one after another
 pub taken_both : (t : ClientStep ItemOut ItemOut) (xs ys : List ItemOut) → taken t (xs ++ ys) ≡ taken (taken t xs) ys
@@ -67,10 +67,7 @@ pub record IsAlong (c : ClientView ItemOut) (page : OpenPage) (queue : List Item
   pub page_is : t.client.log.page ≡ Some (record page { results = results })
 
 pub page_found : (page : OpenPage) (queryid : List ℕ) → page.queryid ≡ queryid → page_for queryid (Some page) ≡ Some page
-page_found page queryid is = ap (λ id. if bytes_eq id queryid then Some page else None) is ∙ rw (same_again queryid) refl
-
-not_full : (max n : ℕ) → n < max → nat_le max n ≡ false
-not_full max n low = grind (arith, nat_tests)
+page_found page queryid is = ap (λ id. if bytes_eq id queryid then Some page else None) is ∙ rw (bytes_eq-self queryid) refl
 
 module _ (bare full : List ℕ) (bare_normal : normal bare ≡ Ok bare) (full_normal : normal full ≡ Ok full) (c : ClientView ItemOut) (page : OpenPage) (queue : List ItemOut)
     (q : ℕ) (own : c.account.bare ≡ bare) (id : page.queryid ≡ queryid_text q) where
@@ -81,7 +78,7 @@ module _ (bare full : List ℕ) (bare_normal : normal bare ≡ Ok bare) (full_no
       let h = handles in_items t s x in
       let result = archived_result (queryid_text q) e in
       let m = archived bare full result bare_normal full_normal in
-      let own_one : is_own_or_absent t.client.account.bare (Some bare) ≡ true = ap (λ b. bytes_eq bare b) is_own ∙ same_again bare in
+      let own_one : is_own_or_absent t.client.account.bare (Some bare) ≡ true = ap (λ b. bytes_eq bare b) is_own ∙ bytes_eq-self bare in
       read_there t s x online session refl refl
       ∙ ap (stanza_row in_items h) (archived_read bare full result bare_normal full_normal)
       ∙ ap (λ b. if b then result_row h (result_read result) else other_message h m) own_one
@@ -95,7 +92,7 @@ module _ (bare full : List ℕ) (bare_normal : normal bare ≡ Ok bare) (full_no
       let step : item_step in_items t (Element (entry_elem (asker bare full q) e)) ≡ with_log h (with_result t.client.log (as_logged e)) =
       entry_comes t a.session e a.online a.stands (ap (λ x. x.bare) a.account ∙ own) plain
       ∙ ap (λ o. result_to h o (as_logged e)) (ap (page_for (queryid_text q)) a.page_is ∙ page_found (record page { results = results }) (queryid_text q) id)
-      ∙ rw (not_full page.max (length results) low) refl in
+      ∙ rw (lt-leb page.max (length results) low) refl in
       subst (IsAlong c page queue (results ++ as_logged e ∷ [])) (sym step)
       (record {
         account = a.account;

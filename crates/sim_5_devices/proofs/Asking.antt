@@ -26,9 +26,10 @@ use Rattle.sim_3_items.specs.Built.{IsUpAs}
 use Rattle.sim_3_items.specs.Submitted.{SubmissionsRepresent}
 use Rattle.sim_1_applications.proofs.Lists.{all_rest}
 use Rattle.sim_1_applications.proofs.Logs.{last_of_run}
+use Rattle.sim_1_applications.proofs.Tiles.{last_append}
 use Rattle.sim_1_applications.specs.Answers.{following, last_in}
 use Rattle.sim_1_applications.specs.Devices.{Device, Reading, log_of}
-use Rattle.sim_1_applications.specs.Events.{CatchUp, May, ask, put_up}
+use Rattle.sim_1_applications.specs.Events.{CatchUp, May, ask}
 use Rattle.sim_1_applications.specs.Events as events
 use Rattle.sim_1_applications.specs.Stanzas.{Query}
 use Rattle.sim_5_devices.proofs.Puts.{request_told}
@@ -37,15 +38,10 @@ use Rattle.sim_5_devices.specs.Told.{IsCatchingUp, SameSaid, next_request}
 use Rattle.xml_writer.specs.Items.{ItemOut}
 use Rattle.sim_5_devices.proofs.Saying.{next_is}
 
-pub last_after : (a : List ℕ) (n : ℕ) (b : List ℕ) → last_in (a ++ n ∷ b) ≡ last_in (n ∷ b)
-last_after [] n b = refl
-last_after (m ∷ []) n b = refl
-last_after (m ∷ k ∷ a) n b = last_after (k ∷ a) n b
-
 -- the last number of all runs is that of the last one
 same_last : (broken : List (List ℕ)) (run : List ℕ) → (run ≡ [] → broken ≡ []) → last_in (flat_map (λ r. r) broken ++ run) ≡ last_in run
 same_last broken [] none = ap (λ (rs : List (List ℕ)). last_in (flat_map (λ r. r) rs ++ [])) (none refl)
-same_last broken (n ∷ run) none = last_after (flat_map (λ r. r) broken) n run
+same_last broken (n ∷ run) none = last_append (flat_map (λ r. r) broken) n run
 
 all_last : (P : ℕ → Type 0) (xs : List ℕ) → AllByRecursion P xs → IfSome (last_in xs) P
 all_last P [] all = tt

@@ -24,6 +24,10 @@ still (Ends ∷ xs) d there by counted counts = absurd (stays_away xs (session_s
 
 -- ---- given
 
+-- nothing is put
+pub none_put : (d : Sessions) → put_down [] d ≡ d
+none_put d = ap (λ l. record d { now = record d.now { down_rest = l } }) (append-nil d.now.down_rest)
+
 module _ {A : Type 0} (r : Stanzas A) where
   pub given_at_once : (z : A) (zs : List A) (d last : Sessions) → DoesInterleaved r (gives_all (z ∷ zs)) d last → IsGivenAtOnce (map r.down (z ∷ zs)) d last
   given_at_once z [] d last interleaved =
@@ -45,10 +49,6 @@ module _ {A : Type 0} (r : Stanzas A) where
         counting = does.0;
         rests = subst (λ s. SessionSteps more.following s last) (ap (put_down (map r.down (y ∷ zs))) same ∙ sym (one_by_one (r.down z) (map r.down (y ∷ zs)) there)) more.rests;
       }
-
-  -- nothing is put
-  none_put : (d : Sessions) → put_down [] d ≡ d
-  none_put d = ap (λ l. record d { now = record d.now { down_rest = l } }) (append-nil d.now.down_rest)
 
   pub taken_at_once : (z : A) (zs : List A) (d last : Sessions) → DoesInterleaved r (Takes z ∷ gives_all zs) d last → IsTakenAtOnce (r.up z) (map r.down zs) d last
   taken_at_once z [] d last interleaved =

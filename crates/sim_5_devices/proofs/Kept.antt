@@ -9,7 +9,7 @@ use Rattle.sim_2_links.specs.Paging.{many, one_if}
 use Rattle.sim_5_devices.specs.InTime.{is_end, is_query}
 use Rattle.sim_1_applications.proofs.EachDevice.{IsKept}
 use Rattle.sim_1_applications.proofs.Reactions.{Asks, Reacts, Stays, reacts}
-use Rattle.sim_1_applications.proofs.Up.{put_more, put_stays}
+use Rattle.sim_1_applications.proofs.Up.{put_more, put_stays, nothing_put}
 use Rattle.sim_1_applications.specs.Answers.{last_in}
 use Rattle.sim_1_applications.specs.Devices.{Counted, Device, Known, OpenPage, Reading, Session, Take, epoch_of, last_of, new_device, up_put}
 use Rattle.sim_1_applications.specs.Events as events
@@ -129,9 +129,6 @@ served_page a fits (z ∷ rest) d is paged =
 
 more_put : (zs : List Up) (s : Session) → many is_query (s.up_got ++ (s.up_rest ++ zs)) ≡ many is_query (up_put s) + many is_query zs
 more_put zs s = ap (many is_query) (put_more zs s) ∙ many_append is_query (up_put s) zs
-
-pub nothing_put : (s : Session) → s.up_got ≡ [] → s.up_rest ≡ [] → up_put s ≡ []
-nothing_put s got rest = ap (λ l. l ++ s.up_rest) got ∙ rest
 
 -- nothing was put before the client knows of its session
 pub begins_empty : (d : Device) → SessionsKept d.sessions → d.sessions.now.stage ≡ Counted → up_put d.sessions.now ≡ []

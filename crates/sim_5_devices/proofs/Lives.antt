@@ -1,6 +1,5 @@
 -- A message that came live, and a copy of one, is held by its number in the account's archive.
 use Rattle.std.proofs.Common.{◌≡◌, ℕ, ◌<◌, ◌^◌, min, Bool, true, false, find, if◌then◌else◌, List, [], ◌∷◌, ◌++◌, Option, Some, None, Ok, inl, inr, refl, sym, ap, ap₂, subst, ◌∙◌, codes}
-use Rattle.std.proofs.lemmas.Slice.Eq.{bytes_eq-Decides}
 use Rattle.std.specs.List.{AllByRecursion}
 use Rattle.std.specs.Str.{bytes_eq}
 use Rattle.mam_archive.specs.Entries.{EntryView}
@@ -41,16 +40,14 @@ use Rattle.sim_5_devices.specs.Logged.{IsOnline, IsReadAs}
 use Rattle.xml_trees.specs.Readers.{elements_of, first_named}
 use Rattle.xml_trees.specs.Trees.{Elem, child, no_nodes}
 use Rattle.xml_writer.specs.Items.{ItemOut, Whole}
-
-pub same_again : (t : List ℕ) → bytes_eq t t ≡ true
-same_again t = (bytes_eq-Decides t t).1 refl
+use Rattle.base_lemmas.proofs.Bytes.{bytes_eq-self}
 
 -- ---- what is inside a message that is passed on
 
 module _ (by : List ℕ) (number : ℕ) where
   id_among : (origin said : List ℕ) (apart : Bool) → own_id by (elements_of (passed_nodes by (Some number) (submission_nodes origin said apart))) ≡ Some (id_of number)
-  id_among origin said true = rw (same_again by) refl
-  id_among origin said false = rw (same_again by) refl
+  id_among origin said true = rw (bytes_eq-self by) refl
+  id_among origin said false = rw (bytes_eq-self by) refl
 
   plain_inside : (origin said : List ℕ) (apart : Bool) → find is_carbon (elements_of (passed_nodes by (Some number) (submission_nodes origin said apart))) ≡ None
   plain_inside origin said true = refl
@@ -139,7 +136,7 @@ module _ (o : Owned) (keep : ℕ) (history : List EntryView) (d : ItemDevice) (s
     none_in false e = refl
 
     own_copy : is_own d.client.account.bare outside.from ≡ true
-    own_copy = ap₂ (λ from bare. bytes_eq from bare) copied.by is.bare ∙ same_again by
+    own_copy = ap₂ (λ from bare. bytes_eq from bare) copied.by is.bare ∙ bytes_eq-self by
 
     live_within : live_in d.client.account.bare outside ≡ within
     live_within =

@@ -1,6 +1,6 @@
 -- The end of a page: where the application takes it over, so does the log, and then the two are the same still.
 use Rattle.std.proofs.Common.{◌≡◌, inl, inr, arith, ℕ, suc, ◌<◌, ◌^◌, ◌==◌, nat_lt, min, Bool, true, false, not, ◌&&◌, ◌||◌, if◌then◌else◌, List, [], ◌∷◌, ◌++◌, Option, Some, None, Ok, Err, map, filter, length, refl, sym, ap, ap₂, subst, ◌∙◌, append_assoc, append-nil}
-use Rattle.std.proofs.Math.Bool.{and-false, or-false}
+use Rattle.std.proofs.Math.Bool.{and-false, or-false, or_comm}
 use Rattle.std.proofs.lemmas.Bool.{and_parts, false≢true, not-true, true≢false}
 use Rattle.std.proofs.lemmas.Bool.Decides.{leb_tells}
 use Rattle.std.proofs.lemmas.List.{map-append}
@@ -39,16 +39,10 @@ Alike xs ys = (n : ℕ) → is_number_among n xs ≡ is_number_among n ys
 among_both : (n : ℕ) (xs ys : List ℕ) → is_number_among n (xs ++ ys) ≡ (is_number_among n xs || is_number_among n ys)
 among_both n xs ys = list_any-append (λ m. n == m) xs ys
 
-or_rendered : (x y : Bool) → (x || y) ≡ (y || x)
-or_rendered true true = refl
-or_rendered true false = refl
-or_rendered false true = refl
-or_rendered false false = refl
-
 -- one more in both, at either end
 alike_more : (n : ℕ) (xs ys : List ℕ) → Alike xs ys → Alike (xs ++ n ∷ []) (n ∷ ys)
 alike_more n xs ys same m =
-    among_both m xs (n ∷ []) ∙ ap₂ (λ x y. x || y) (same m) (or-false (m == n)) ∙ or_rendered (is_number_among m ys) (m == n)
+    among_both m xs (n ∷ []) ∙ ap₂ (λ x y. x || y) (same m) (or-false (m == n)) ∙ or_comm (is_number_among m ys) (m == n)
 
 no_repeat : (known : List ℕ) (ns : List ℕ) (log : List ℕ) → Small known → Small ns → Alike known log → are_new log ns ≡ true → first_repeat (map id_of known) (map id_of ns) ≡ None
 no_repeat known [] log small few alike new = refl

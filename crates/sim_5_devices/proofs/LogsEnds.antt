@@ -21,7 +21,7 @@ use Rattle.sim_3_items.specs.ItemWorlds.{ItemDevice}
 use Rattle.mam_log.specs.LogPages.{last_id}
 use Rattle.mam_log.specs.Views.{LogView, after_fin, outcome_of, with_begun}
 use Rattle.mam_log.specs.declared.fin.PageOutcome.TheVariants.{Complete, More}
-use Rattle.sim_5_devices.proofs.Asking.{last_after as last_append}
+use Rattle.sim_1_applications.proofs.Tiles.{last_append}
 use Rattle.sim_5_devices.proofs.LogReadingsEnds.{ends_well, over_represents}
 use Rattle.sim_5_devices.proofs.Entries.{last_at}
 use Rattle.sim_5_devices.proofs.LogReadingsSteps.{begun_represents}

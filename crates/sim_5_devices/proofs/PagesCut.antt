@@ -84,13 +84,10 @@ entry_there k n (e ∷ es) follow low high small =
           record { entry = rest.entry; there = rw apart rest.there; number = rest.number; small = small }
     ]
 
-given_after : (first last b count : ℕ) (es : List EntryView) → IsNumbered first last es → last < 2 ^ 64 → first ≤ b + 1 → b + count ≤ last → AreGiven es (numbers_after b count)
-given_after first last b zero es known few low high = tt
-given_after first last b (suc count) es known few low high =
+pub all_given : (first last b count : ℕ) (es : List EntryView) → IsNumbered first last es → last < 2 ^ 64 → first ≤ b + 1 → b + count ≤ last → AreGiven es (numbers_after b count)
+all_given first last b zero es known few low high = tt
+all_given first last b (suc count) es known few low high =
     let at = placed first last es known in
     let end = at.1.end in
     let one = at.0 in
-    (entry_there (suc b) (first - 1) es at.1.follow (omega arith) (omega (arith, end)) (omega arith), given_after first last (suc b) count es known few (omega arith) (omega arith))
-
-pub all_given : (first last base count : ℕ) (es : List EntryView) → IsNumbered first last es → last < 2 ^ 64 → first ≤ base + 1 → base + count ≤ last → AreGiven es (numbers_after base count)
-all_given first last base count es known few low high = given_after first last base count es known few low high
+    (entry_there (suc b) (first - 1) es at.1.follow (omega arith) (omega (arith, end)) (omega arith), all_given first last (suc b) count es known few (omega arith) (omega arith))

@@ -8,14 +8,14 @@ use Rattle.std.specs.List.{list_any}
 use Rattle.std.specs.Str.{bytes_eq}
 use Rattle.mam_archive.specs.Ids.{id_of}
 use Rattle.mam_log.specs.LogPages.{ids_of, last_id}
-use Rattle.mam_log.specs.Views.{LogView, OpenPage, advance_of, after_fin, end_of, first_repeat, is_among, outcome_of, same_id, with_page}
+use Rattle.mam_log.specs.Views.{LogView, OpenPage, advance_of, end_of, first_repeat, is_among, outcome_of, same_id}
 use Rattle.mam_log.specs.declared.log_entry.LogEntry.{LogEntry}
 use Rattle.mam_pages.specs.Spans.{numbers_after}
 use Rattle.mam_pages.specs.declared.fin.Fin.{Fin}
 use Rattle.sim_1_applications.specs.Answers.{last_in}
 use Rattle.sim_5_devices.proofs.Entries.{same_ids}
-use Rattle.sim_5_devices.proofs.Lives.{same_again}
 pub use Rattle.law_client.proofs.KeptLogs.{fin_is as after_is}
+use Rattle.base_lemmas.proofs.Bytes.{bytes_eq-self}
 
 -- ---- ids of numbers behind another
 
@@ -65,7 +65,7 @@ last_of_both (e ∷ f ∷ es) rs id is = last_of_both (f ∷ es) rs id is
 
 same_id_again : (o : Option (List ℕ)) → same_id o o ≡ true
 same_id_again None = refl
-same_id_again (Some id) = same_again id
+same_id_again (Some id) = bytes_eq-self id
 
 pub end_is_well : (log : LogView) (page : OpenPage) (fin : Fin) (complete : Bool) → fin.complete ≡ complete → fin.last ≡ last_id page.results → first_repeat (ids_of log.entries) (ids_of page.results) ≡ None
     → (nat_lt (length page.results) 1 && not complete) ≡ false → end_of log page fin ≡ Ok (outcome_of complete)

@@ -35,7 +35,6 @@ use Rattle.sim_1_applications.specs.Events.{passed, quiet, result, with_page}
 use Rattle.sim_5_devices.proofs.Faults.{page_well, taken_well}
 use Rattle.sim_5_devices.proofs.Forwards.{forward_again}
 use Rattle.sim_5_devices.proofs.Found.{both_given, found_entry, results_given}
-use Rattle.sim_5_devices.proofs.Lives.{same_again}
 use Rattle.sim_5_devices.proofs.Names.{bare_normal, full_normal}
 use Rattle.sim_5_devices.proofs.Stanzas.{archived, archived_read}
 use Rattle.sim_5_devices.proofs.ClientSteps.{IsDone, counted_client_step, quiet_read, quietly, read_online}
@@ -43,6 +42,7 @@ use Rattle.sim_5_devices.specs.Logged.{IsOnline, IsReadAs}
 use Rattle.sim_5_devices.specs.Plain.{IsPlain, IsPlainEntry}
 use Rattle.xml_trees.specs.Trees.{Elem}
 use Rattle.xml_writer.specs.Items.{ItemOut, Whole}
+use Rattle.base_lemmas.proofs.Bytes.{bytes_eq-self}
 
 -- ---- what is read of a result
 
@@ -64,7 +64,7 @@ logged_again e plain =
 -- the open page is found by the number of its request
 pub page_found : (history : List EntryView) (page : OpenPage) (q : ℕ) → (page.number == q) ≡ true → page_for (queryid_text q) (Some (page_shown history page)) ≡ Some (page_shown history page)
 page_found history page q same =
-    ap (λ n. page_for (queryid_text n) (Some (page_shown history page))) (sym ((Decides-eqb page.number q).0 same)) ∙ rw (same_again (queryid_text page.number)) refl
+    ap (λ n. page_for (queryid_text n) (Some (page_shown history page))) (sym ((Decides-eqb page.number q).0 same)) ∙ rw (bytes_eq-self (queryid_text page.number)) refl
 
 not_full : (max n : ℕ) → nat_lt n max ≡ true → nat_le max n ≡ false
 not_full max n below = lt-leb max n (ltb-true n max below)
@@ -93,7 +93,7 @@ module _ (o : Owned) (keep : ℕ) (history : List EntryView) (d : ItemDevice) (s
   full = full_address o.account o.device
 
   own_one : is_own_or_absent d.client.account.bare (Some bare) ≡ true
-  own_one = ap (λ own. bytes_eq bare own) is.bare ∙ same_again bare
+  own_one = ap (λ own. bytes_eq bare own) is.bare ∙ bytes_eq-self bare
 
   -- the client looks for the page
   looks_for : client_step_on (Whole e) d ≡ result_to h (page_for (queryid_text q) d.client.log.page) (as_logged entry)

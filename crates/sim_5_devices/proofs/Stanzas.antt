@@ -21,9 +21,6 @@ normal_address (Some form) h = (form, h, refl)
 pub address_again : (given address : Option (List ℕ)) → given ≡ address → IsNormal address → IsAddressOf given address
 address_again given address is h = subst (λ o. IsAddressOf o address) (sym is) (normal_address address h)
 
-text_again : (given : Option (List ℕ)) (t : List ℕ) → given ≡ unless_empty t → t ≡ unwrap_or given []
-text_again given t is = sym (ap (λ o. unwrap_or o []) is ∙ empty_again t)
-
 -- ---- messages
 
 module _ (m : MessageView) (from : IsNormal m.from) (to : IsNormal m.to) where
@@ -35,9 +32,9 @@ module _ (m : MessageView) (from : IsNormal m.from) (to : IsNormal m.to) where
         named = (refl, refl);
         from = address_again _ m.from (from_written m.from id m.to kind lang) from;
         to = address_again _ m.to (to_written m.from id m.to kind lang) to;
-        id = text_again _ m.id (id_written m.from id m.to kind lang);
+        id = (sym (ap (λ o. unwrap_or o []) (id_written m.from id m.to kind lang) ∙ empty_again m.id));
         kind = subst (λ given. IsMessageKind given m.kind) (sym (type_written m.from id m.to kind lang)) (spelled_is message_type Normal message_kind_named message_reads m.kind);
-        lang = text_again _ m.lang (lang_written m.from id m.to kind lang);
+        lang = (sym (ap (λ o. unwrap_or o []) (lang_written m.from id m.to kind lang) ∙ empty_again m.lang));
         payload = refl;
       }
 
@@ -54,9 +51,9 @@ module _ (from to : List ℕ) (result : Elem) (sender : IsNormal (Some from)) (a
     named = (refl, refl);
     from = address_again _ (Some from) (from_written (Some from) None (Some to) None None) sender;
     to = address_again _ (Some to) (to_written (Some from) None (Some to) None None) addressee;
-    id = text_again _ [] (id_written (Some from) None (Some to) None None);
+    id = (sym (ap (λ o. unwrap_or o []) (id_written (Some from) None (Some to) None None) ∙ empty_again []));
     kind = subst (λ given. IsMessageKind given Normal) (sym (type_written (Some from) None (Some to) None None)) (no_kind_is message_type Normal);
-    lang = text_again _ [] (lang_written (Some from) None (Some to) None None);
+    lang = (sym (ap (λ o. unwrap_or o []) (lang_written (Some from) None (Some to) None None) ∙ empty_again []));
     payload = refl;
   }
 

@@ -1,10 +1,7 @@
 -- A catch-up of client and server over a session, answer by answer.
-use Rattle.std.proofs.Common.{◌≡◌, ℕ, zero, suc, ◌+◌, ◌-◌, ◌*◌, ◌/◌, ◌%◌, ◌<◌, ◌≤◌, ◌^◌, ◌==◌, min, leb, Bool, true, false, List, [], ◌∷◌, ◌++◌, Option, Some, None, Ok, length, map, refl, sym, ap, ap₂, subst, ◌∙◌, ◌⊎◌, arith, inl, inr, append_assoc, ne_eqb, if◌then◌else◌}
-use Rattle.std.proofs.Math.Nat.{add-div_right, add-mod_right, div-add-mod, div-eq_of_lt, div_self, mod_self, mul-zero}
-use Rattle.std.proofs.lemmas.Bool.{cases_Bool, false≢true}
-use Rattle.std.proofs.lemmas.Bool.Decides.{nat_tests}
+use Rattle.std.proofs.Common.{◌≡◌, ℕ, zero, suc, ◌+◌, ◌-◌, ◌<◌, ◌≤◌, ◌^◌, ◌==◌, min, leb, Bool, true, false, List, [], ◌∷◌, ◌++◌, Option, Some, None, Ok, length, map, refl, sym, ap, ap₂, subst, ◌∙◌, ◌⊎◌, arith, inl, inr, append_assoc, ne_eqb, if◌then◌else◌}
+use Rattle.std.proofs.lemmas.Bool.{false≢true}
 use Rattle.std.proofs.lemmas.Option.{same_Some}
-use Rattle.std.specs.Int.{div_ceil}
 use Rattle.std.specs.List.{AllByRecursion}
 use Rattle.std.specs.Option.{IsSome, option_map}
 use Rattle.std.specs.Result.{result_ok}
@@ -58,42 +55,9 @@ use Rattle.sm_outbox.specs.Waiting.{counted_in, is_full, queued}
 use Rattle.srv_state.specs.State.{Kept, ServerState}
 use Rattle.xml_trees.specs.Trees.{child, no_nodes}
 use Rattle.xml_writer.specs.Items.{ItemOut}
+use Rattle.law_client.proofs.CaughtUp.{more_left, all_taken, one_page, next_page}
 
 -- ---- numbers
-
-more_left : (n most : ℕ) → leb n most ≡ false → most < n
-more_left n most more = grind (arith, nat_tests)
-
-all_taken : (n most : ℕ) → leb n most ≡ true → n ≤ most
-all_taken n most all = grind (arith, nat_tests)
-
--- how many pages there are, where one is enough, and where it isn't
-one_page : (n most : ℕ) → 1 ≤ most → n ≤ most → pages_for n most ≡ 1
-one_page n most some all =
-    elim (cases_Bool (leb most n)) [
-      | inl full ↦
-          let same : n ≡ most = let low = all_taken most n full in omega arith in
-          rw same (let quotient : most / most ≡ 1 = div_self some in let rest : most % most ≡ 0 = mod_self most in omega arith)
-      | inr less ↦
-          let low : n < most = more_left most n less in
-          let quotient : n / most ≡ 0 = div-eq_of_lt low in
-          omega arith
-    ]
-
-least_of : (q r n most : ℕ) → most * q + r ≡ n → 1 ≤ n → 1 ≤ q + min 1 r
-least_of zero r n most sum some = let none : most * zero ≡ zero = mul-zero most in omega arith
-least_of (suc q) r n most sum some = omega arith
-
-next_page : (n most : ℕ) → 1 ≤ most → most < n → pages_for n most ≡ suc (pages_for (n - most) most)
-next_page n most some more =
-    let left = n - most in
-    let sum : n ≡ left + most = omega arith in
-    let quotient : (left + most) / most ≡ left / most + 1 = add-div_right left some in
-    let rest : (left + most) % most ≡ left % most = add-mod_right left most in
-    let least : 1 ≤ left / most + min 1 (left % most) = least_of (left / most) (left % most) left most (div-add-mod left most) (omega arith) in
-    let step : div_ceil (left + most) most ≡ div_ceil left most + 1 = rw (quotient, rest) (omega arith) in
-    let whole : div_ceil n most ≡ div_ceil left most + 1 = ap (λ m. div_ceil m most) sum ∙ step in
-    omega arith
 
 one_more : (last base most : ℕ) → 1 ≤ most → most < last - base → pages_for (last - base) most ≡ suc (pages_for (last - (base + most)) most)
 one_more last base most some more =
