@@ -12,7 +12,7 @@ use Rattle.cl_handlers.specs.ClientSteps as turns
 use Rattle.cl_handlers.specs.ClientSteps.{drops, is_apart, puts}
 use Rattle.srv_state.specs.State.{ServerState}
 use Rattle.cmd_network.specs.Devices as devices
-use Rattle.cmd_network.specs.Devices.{DeviceState, client_after, has_wire}
+use Rattle.cmd_network.specs.Devices.{DeviceState, client_after}
 use Rattle.xml_framer.specs.Limits.{client_limits, server_limits}
 use Rattle.xml_framer.specs.States.{State}
 use Rattle.xml_framer.specs.declared.states.Phase.{Phase}
@@ -23,6 +23,7 @@ use Rattle.sim_3_images.proofs.PipeSteps.{closed_encodes, over_encodes}
 use Rattle.sim_3_images.proofs.PutSteps.{put_encodes}
 use Rattle.sim_3_images.proofs.UserMoves.{After, away, silent_is, user_encodes}
 use Rattle.sim_3_images.proofs.WireSteps.{all_entered, wire_left, wire_put_up}
+use Rattle.sim_3_images.proofs.NotesTold.{nothing_noted}
 use Rattle.sim_3_images.specs.EncodingsCores.{CoresFit, writer_at}
 use Rattle.sim_3_images.specs.PipeEncodings.{PipeEncodes}
 use Rattle.sim_3_images.specs.WireEncodings.{WireEncodes}
@@ -98,7 +99,7 @@ module _ (UpFits DownFits : ItemOut → Type 0) (ServerFits : ℕ → ServerStat
   }
 
   pub close_is : (i : ℕ) (w : ByteWorld) (v : ItemWorld) → WorldEncodes UpFits DownFits ServerFits ClientFits w v → IsMoved UpFits DownFits ServerFits ClientFits (Close i) w v
-  close_is i w v encodes = record { moves = items.Close i ∷ []; is_run = refl; encodes = by (slice_get w.devices i) (slice_get v.devices i) refl refl (encodes.devices i) }
+  close_is i w v encodes = record { moves = items.Close i ∷ []; is_run = refl; encodes = by (slice_get w.devices i) (slice_get v.devices i) refl refl (encodes.devices i); notes = λ j. nothing_noted (slice_get w.devices j); reads = λ j. refl }
     where
       some : (d : DeviceState) (e : ItemDevice) → slice_get w.devices i ≡ Some d → slice_get v.devices i ≡ Some e → DeviceEncodes ClientFits d e → Closed i w v (Some d) (Some e)
       some d e found found_item h =

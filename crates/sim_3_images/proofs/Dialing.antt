@@ -17,7 +17,7 @@ use Rattle.cl_handlers.specs.Speech.{in_bytes, in_items}
 use Rattle.srv_state.specs.Moments.{at_moment, fresh_conn, with_fresh}
 use Rattle.srv_state.specs.State.{ServerState}
 use Rattle.cmd_network.specs.Devices as devices
-use Rattle.cmd_network.specs.Devices.{DeviceState, client_after, has_wire}
+use Rattle.cmd_network.specs.Devices.{DeviceState, client_after}
 use Rattle.xml_framer.specs.Limits.{client_limits, server_limits}
 use Rattle.xml_framer.specs.States.{from_start}
 use Rattle.sim_3_images.proofs.DialMoves.{framed, silent_fed}
@@ -27,6 +27,7 @@ use Rattle.sim_3_images.proofs.Lookups.{found_beside_inserted, found_inserted, g
 use Rattle.sim_3_images.proofs.NetworkMoves.{both_weaker, number_apart}
 use Rattle.sim_3_images.proofs.UserMoves.{After, away, devices_changed, get_set_same, left_at_here, length_where, wires_changed}
 use Rattle.sim_3_images.proofs.WireSteps.{wire_fresh}
+use Rattle.sim_3_images.proofs.NotesTold.{nothing_noted}
 use Rattle.sim_3_images.specs.EncodingsCores.{ClientStepFits, CoresFit, writer_at, writer_of}
 use Rattle.sim_3_images.specs.WireEncodings.{WireEncodes}
 use Rattle.sim_3_images.specs.WorldEncodings.{Begins, Both, DeviceEncodes, IsBegun, IsMoved, WorldEncodes, framer_here}
@@ -212,6 +213,8 @@ module _ (UpFits DownFits : ItemOut → Type 0) (ServerFits : ℕ → ServerStat
     moves = items.Dial i (client_entropy (number_at (length w.wires))) (server_entropy (number_at (length w.wires))) ∷ [];
     is_run = (number_at (length w.wires), refl);
     encodes = by (slice_get w.devices i) (slice_get v.devices i) refl refl (encodes.devices i);
+    notes = λ j. nothing_noted (slice_get w.devices j);
+    reads = λ j. refl;
   }
     where
       by : (od : Option DeviceState) (oe : Option ItemDevice) → slice_get w.devices i ≡ od → slice_get v.devices i ≡ oe → Both (DeviceEncodes ClientFits) od oe → Dialed i w v (slice_get w.devices i) (slice_get v.devices i)

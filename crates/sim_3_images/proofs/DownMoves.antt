@@ -8,9 +8,10 @@ use Rattle.cl_core.specs.Feeds.{Fed, bytes_in, bytes_step, kept_while, with_faul
 use Rattle.cl_core.specs.Steps.{item_step, items_run}
 use Rattle.cl_core.specs.UserCalls.{leaves}
 use Rattle.law_client.proofs.TableRendered.{bytes_rendered, items_rendered}
+use Rattle.law_client.specs.Calls.{Bytes, Call, calls_run}
 use Rattle.law_client.specs.Rendered.{client_rendered, written}
 use Rattle.cl_handlers.specs.Clients.{ClientStep, ClientView}
-use Rattle.cl_handlers.specs.Speech.{in_bytes}
+use Rattle.cl_handlers.specs.Speech.{in_bytes, in_items}
 use Rattle.cl_handlers.specs.ClientSteps.{is_apart}
 use Rattle.cl_handlers.specs.declared.phase.Phase.TheVariants.{Apart}
 use Rattle.srv_state.specs.State.{ServerState}
@@ -23,15 +24,18 @@ use Rattle.xml_framer.specs.declared.items.Item.{Item}
 use Rattle.xml_framer.specs.declared.items.Item.TheVariants as item
 use Rattle.law_xml.specs.Spells.{placed}
 use Rattle.sim_3_images.proofs.Beginnings.{closed_begun, entered_begun}
-use Rattle.sim_3_images.proofs.ItemsHeard.{client_step_fits, client_step_of_items, downs_are, many_down, many_of, set_twice}
+use Rattle.sim_3_images.proofs.ItemsHeard.{client_step_fits, client_step_of_items, downs_are, downs_noted, many_down, many_of, nothing_either, set_twice}
 use Rattle.sim_3_images.proofs.Lookups.{set_changes}
 use Rattle.sim_3_images.proofs.NetworkMoves.{found_both}
+use Rattle.sim_3_images.proofs.ReadsTold.{downs_read}
+use Rattle.sim_3_images.proofs.NotesTold.{calls_noted, down_end_noted, nothing_noted, silent_at, written_notes}
 use Rattle.sim_3_images.proofs.PipeSteps.{items_due}
 use Rattle.sim_3_images.proofs.UpMoves.{drop_taken, moved_joined, no_amount}
 use Rattle.sim_3_images.proofs.UserMoves.{After, away, get_set_same, silent_is, user_encodes}
 use Rattle.sim_3_images.proofs.WireSteps.{IsDownHanded, all_taken, wire_down, wire_down_told, wire_last, wire_left, wire_put_up}
 use Rattle.sim_3_images.specs.EncodingsCores.{CoresFit, HeardFits, IsInClientStep, IsNoFooter, writer_at}
 use Rattle.sim_3_images.specs.ItemRuns.{downs, moved_where}
+use Rattle.sim_3_images.specs.Notes.{all_item_notes, call_of_piece, calls_at, calls_in, calls_on, notes_in, notes_of}
 use Rattle.sim_3_images.specs.PipeEncodings.{over, standing}
 use Rattle.sim_3_images.specs.WireEncodings.{WireEncodes}
 use Rattle.sim_3_images.specs.WorldEncodings.{DeviceEncodes, IsBegun, IsMoved, WireAt, WorldEncodes, framer_here}
@@ -62,6 +66,16 @@ step_unplaced t item.Footer = refl
 pub run_unplaced : (l : List Item) (t : ClientStep (List ℕ) ℕ) → items_run in_bytes t l ≡ items_run in_bytes t (map (placed 0) l)
 run_unplaced [] t = refl
 run_unplaced (i ∷ l) t = ap (λ u. items_run in_bytes u l) (step_unplaced t i) ∙ run_unplaced l (item_step in_bytes t (placed 0 i))
+
+-- nor by a client of items
+item_unplaced : (t : ClientStep ItemOut ItemOut) (i : Item) → item_step in_items t i ≡ item_step in_items t (placed 0 i)
+item_unplaced t (item.Header at h) = refl
+item_unplaced t (item.Element e) = refl
+item_unplaced t item.Footer = refl
+
+items_unplaced : (l : List Item) (t : ClientStep ItemOut ItemOut) → items_run in_items t l ≡ items_run in_items t (map (placed 0) l)
+items_unplaced [] t = refl
+items_unplaced (i ∷ l) t = ap (λ u. items_run in_items u l) (item_unplaced t i) ∙ items_unplaced l (item_step in_items t (placed 0 i))
 
 left_device : (a : Bool) (y : Wire) → (left_where a y).device ≡ y.device
 left_device true y = refl
@@ -211,9 +225,30 @@ module _ (UpFits DownFits : ItemOut → Type 0) (ServerFits : ℕ → ServerStat
         subst (λ y. WorldEncodes UpFits DownFits ServerFits ClientFits y (items.all_moved (downs position (length taken)) v)) bytes_is
         (subst (WorldEncodes UpFits DownFits ServerFits ClientFits (record w { devices = slice_set w.devices b.device (device_left a (d1 a)); wires = changed_where d.here (f_now a) w.wires })) items_is all)
 
+    -- ---- what it notes down
+
+    read_notes : (calls_run in_items (Bytes piece ∷ []) (silent_at d.client.framer e.client)).turn.out.notes ≡ t.out.notes
+    read_notes =
+        ap (λ o. (bytes_in in_items (silent_client_step e.client) o piece).turn.out.notes) framer
+        ∙ ap (λ (u : framing.Turn). (kept_while (with_fault (items_run in_items (silent_client_step e.client) u.items) u.state.fault) u.state).turn.out.notes) x.run_is
+        ∙ ap (λ o. (kept_while (with_fault (items_run in_items (silent_client_step e.client) x.first) o) x.now).turn.out.notes) x.no_fault
+        ∙ ap (λ (u : ClientStep ItemOut ItemOut). u.out.notes) (items_unplaced x.first (silent_client_step e.client) ∙ ap (items_run in_items (silent_client_step e.client)) x.read)
+
+    heard_noted : (n == 0) ≡ false → (i : ℕ) → notes_of (cond (b.device == i) (call_of_piece n b.down.bytes) []) (slice_get w.devices i) ≡ written_notes (all_item_notes (downs position (length taken)) v i)
+    heard_noted some i =
+        by (b.device == i) refl
+        ∙ ap written_notes (sym (downs_noted UpFits DownFits ServerFits ClientFits cores position b.device i taken (drop x.count p.down.items) v p e found_item (sym same) item_device items_here stands (sym (take-append-drop x.count p.down.items))))
+      where
+        by : (c : Bool) → (b.device == i) ≡ c → notes_of (cond c (call_of_piece n b.down.bytes) []) (slice_get w.devices i) ≡ written_notes (cond c t.out.notes [])
+        by true this =
+            ap₂ notes_of (ap (λ (z : Bool). cond z [] (Bytes piece ∷ [])) some) (ap (slice_get w.devices) (sym (eqb-true b.device i this)) ∙ device)
+            ∙ calls_noted ClientFits (Bytes piece ∷ []) d e h ∙ ap written_notes read_notes
+        by false other = nothing_noted (slice_get w.devices i)
+
   -- a connection and its device behind the items, and the world
-  record IsHeard (position : ℕ) (w : ByteWorld) (v : ItemWorld) (b : Wire) (l : Link) : Type 0 where
+  record IsHeard (position n : ℕ) (w : ByteWorld) (v : ItemWorld) (b : Wire) (l : Link) : Type 0 where
     count : ℕ
+    noted : (i : ℕ) → notes_of (cond (b.device == i) (call_of_piece n b.down.bytes) []) (slice_get w.devices i) ≡ written_notes (all_item_notes (downs position count) v i)
     same_device : l.wire.device ≡ b.device
     encodes : WorldEncodes UpFits DownFits ServerFits ClientFits (with_link position b.device l w) (items.all_moved (downs position count) v)
 
@@ -222,15 +257,20 @@ module _ (UpFits DownFits : ItemOut → Type 0) (ServerFits : ℕ → ServerStat
   same_link position w b d found device = ap₂ (λ x y. record w { wires = x; devices = y }) (put_again w.wires position b found) (put_again w.devices b.device d device)
 
   is_heard : (position n : ℕ) (w : ByteWorld) (v : ItemWorld) (b : Wire) (p : ItemWire) (d : DeviceState) (e : ItemDevice) → slice_get w.wires position ≡ Some b → slice_get v.wires position ≡ Some p → slice_get w.devices b.device ≡ Some d → slice_get v.devices b.device ≡ Some e
-      → WireAt UpFits DownFits w v position b p → DeviceEncodes ClientFits d e → WorldEncodes UpFits DownFits ServerFits ClientFits w v → d.here ≡ Some position → (b.down.bytes ≡ [] → n ≡ 0) → IsHeard position w v b (heard_first n (link_of b d))
+      → WireAt UpFits DownFits w v position b p → DeviceEncodes ClientFits d e → WorldEncodes UpFits DownFits ServerFits ClientFits w v → d.here ≡ Some position → (b.down.bytes ≡ [] → n ≡ 0) → IsHeard position n w v b (heard_first n (link_of b d))
   is_heard position n w v b p d e found found_item device item_device at h encodes here none = by (n == 0) refl
     where
       reader_is : framer_here position (slice_get w.devices b.device) ≡ d.client.framer
       reader_is = ap (framer_here position) device ∙ ap (λ o. cond (has_wire position o) d.client.framer None) here ∙ ap (λ (c : Bool). cond c d.client.framer None) (eq-eqb position position refl)
 
-      by : (c : Bool) → (n == 0) ≡ c → IsHeard position w v b (heard_first n (link_of b d))
+      none_called : (n == 0) ≡ true → (c : Bool) (o : Option DeviceState) → notes_of (cond c (call_of_piece n b.down.bytes) []) o ≡ []
+      none_called zero_is true o = ap (λ (z : Bool). notes_of (cond z [] (Bytes (take n b.down.bytes) ∷ [])) o) zero_is ∙ nothing_noted o
+      none_called zero_is false o = nothing_noted o
+
+      by : (c : Bool) → (n == 0) ≡ c → IsHeard position n w v b (heard_first n (link_of b d))
       by true zero_is = record {
         count = 0;
+        noted = λ i. none_called zero_is (b.device == i) (slice_get w.devices i);
         same_device = ap (λ (c : Bool). (cond c (link_of b d) (heard n (hears (take n b.down.bytes) d) (link_of b d))).wire.device) zero_is;
         encodes = subst (λ y. WorldEncodes UpFits DownFits ServerFits ClientFits y v) (sym (ap (λ (c : Bool). with_link position b.device (cond c (link_of b d) (heard n (hears (take n b.down.bytes) d) (link_of b d))) w) zero_is ∙ same_link position w b d found device)) encodes;
       }
@@ -246,6 +286,7 @@ module _ (UpFits DownFits : ItemOut → Type 0) (ServerFits : ℕ → ServerStat
             ∙ link_is position n w v b p d e found found_item device item_device at.device h encodes here f framer x at.down_fits apart refl in
             record {
               count = length taken;
+              noted = heard_noted position n w v b p d e found found_item device item_device at.device h encodes here f framer x at.down_fits some;
               same_device = ap (λ (l : Link). l.wire.device) now_is ∙ left_device apart (put_up (flat_map written_item (client_step_of_items e.client taken).out.put) (handed_down n b));
               encodes = subst (λ l. WorldEncodes UpFits DownFits ServerFits ClientFits (with_link position b.device l w) (items.all_moved (downs position (length taken)) v)) (sym now_is)
                   (heard_encodes position n w v b p d e found found_item device item_device at.device h encodes here f framer x at.down_fits apart refl);
@@ -301,27 +342,32 @@ module _ (UpFits DownFits : ItemOut → Type 0) (ServerFits : ℕ → ServerStat
 
   -- ---- the move
 
-  record IsDown (position : ℕ) (w : ByteWorld) (v : ItemWorld) (following : ByteWorld) : Type 0 where
+  record IsDown (position : ℕ) (amounts : Count) (w : ByteWorld) (v : ItemWorld) (following : ByteWorld) : Type 0 where
     count : ℕ
     ended : Bool
+    noted : (i : ℕ) → notes_in (Down position amounts) w i ≡ written_notes (all_item_notes (downs position count ++ moved_where (items.DownEnd position) ended) v i)
     encodes : WorldEncodes UpFits DownFits ServerFits ClientFits following (items.all_moved (downs position count ++ moved_where (items.DownEnd position) ended) v)
 
   linked_twice : (position i : ℕ) (l m : Link) (w : ByteWorld) → with_link position i m (with_link position i l w) ≡ with_link position i m w
   linked_twice position i l m w = ap₂ (λ x y. record w { wires = x; devices = y }) (set_twice w.wires position l.wire m.wire) (set_twice w.devices i l.device m.device)
 
-  end_is_heard : (position : ℕ) (w : ByteWorld) (v : ItemWorld) (b : Wire) (d : DeviceState) (l : Link) → slice_get w.wires position ≡ Some b → slice_get w.devices b.device ≡ Some d → IsHeard position w v b l
-      → IsDown position w v (with_link position b.device (end_heard position l) w)
-  end_is_heard position w v b d l found device heard_so = by (has_wire position l.device.here && is_end_due l.wire.down) refl
+  end_is_heard : (position n : ℕ) (amounts : Count) (w : ByteWorld) (v : ItemWorld) (b : Wire) (d : DeviceState) (l : Link) → slice_get w.wires position ≡ Some b → slice_get w.devices b.device ≡ Some d → IsHeard position n w v b l
+      → ((i : ℕ) → calls_in (Down position amounts) w i ≡ cond (b.device == i) (call_of_piece n b.down.bytes) []) → IsDown position amounts w v (with_link position b.device (end_heard position l) w)
+  end_is_heard position n amounts w v b d l found device heard_so called = by (has_wire position l.device.here && is_end_due l.wire.down) refl
     where
       both_true : (x y : Bool) → (x && y) ≡ true → (x ≡ true) × (y ≡ true)
       both_true true true e = (refl, refl)
       both_true true false e = absurd (true≢false (sym e))
       both_true false y e = absurd (true≢false (sym e))
 
-      by : (c : Bool) → (has_wire position l.device.here && is_end_due l.wire.down) ≡ c → IsDown position w v (with_link position b.device (end_heard position l) w)
+      noted_so : (ended : Bool) (i : ℕ) → notes_in (Down position amounts) w i ≡ written_notes (all_item_notes (downs position heard_so.count ++ moved_where (items.DownEnd position) ended) v i)
+      noted_so ended i = ap (λ (l : List Call). notes_of l (slice_get w.devices i)) (called i) ∙ heard_so.noted i ∙ ap written_notes (sym (down_end_noted position (downs position heard_so.count) ended v i))
+
+      by : (c : Bool) → (has_wire position l.device.here && is_end_due l.wire.down) ≡ c → IsDown position amounts w v (with_link position b.device (end_heard position l) w)
       by false c = record {
         count = heard_so.count;
         ended = false;
+        noted = noted_so false;
         encodes = subst (λ m. WorldEncodes UpFits DownFits ServerFits ClientFits (with_link position b.device m w) (items.all_moved (downs position heard_so.count ++ []) v)) (sym (ap (λ (x : Bool). cond x (link_of (down_end_reported l.wire) (loses l.device)) l) c))
             (subst (WorldEncodes UpFits DownFits ServerFits ClientFits (with_link position b.device l w)) (sym (moved_joined (downs position heard_so.count) [] v)) heard_so.encodes);
       }
@@ -335,39 +381,55 @@ module _ (UpFits DownFits : ItemOut → Type 0) (ServerFits : ℕ → ServerStat
           record {
             count = heard_so.count;
             ended = true;
+            noted = noted_so true;
             encodes = subst (λ y. WorldEncodes UpFits DownFits ServerFits ClientFits (with_link position b.device y w) (items.all_moved (downs position heard_so.count ++ items.DownEnd position ∷ []) v)) (sym (ap (λ (x : Bool). cond x m l) c))
                 (subst (WorldEncodes UpFits DownFits ServerFits ClientFits (with_link position b.device m w)) (sym (moved_joined (downs position heard_so.count) (items.DownEnd position ∷ []) v))
                 (subst (λ y. WorldEncodes UpFits DownFits ServerFits ClientFits y (items.moved (items.DownEnd position) v1)) (ap (λ i. with_link position i m (with_link position b.device l w)) heard_so.same_device ∙ linked_twice position b.device l m w) one));
           }
 
-  down_of : (position : ℕ) (count : Count) (w : ByteWorld) (v : ItemWorld) → WorldEncodes UpFits DownFits ServerFits ClientFits w v → IsDown position w v (down_by position count (slice_get w.wires position) w)
+  down_of : (position : ℕ) (count : Count) (w : ByteWorld) (v : ItemWorld) → WorldEncodes UpFits DownFits ServerFits ClientFits w v → IsDown position count w v (down_by position count (slice_get w.wires position) w)
   down_of position count w v encodes = by (slice_get w.wires position) refl
     where
-      nothing : (x : ByteWorld) → x ≡ w → IsDown position w v x
-      nothing x same = record { count = 0; ended = false; encodes = subst (λ y. WorldEncodes UpFits DownFits ServerFits ClientFits y v) (sym same) encodes }
+      nothing : (x : ByteWorld) → x ≡ w → ((i : ℕ) → calls_in (Down position count) w i ≡ []) → IsDown position count w v x
+      nothing x same none = record { count = 0; ended = false; noted = λ i. ap (λ (l : List Call). notes_of l (slice_get w.devices i)) (none i) ∙ nothing_noted (slice_get w.devices i); encodes = subst (λ y. WorldEncodes UpFits DownFits ServerFits ClientFits y v) (sym same) encodes }
+
+      -- what is called of the devices
+      called_on : (b : Wire) (o : Option DeviceState) (piece : List Call) → slice_get w.wires position ≡ Some b → slice_get w.devices b.device ≡ o → calls_at position count b o ≡ piece → (i : ℕ) → calls_in (Down position count) w i ≡ cond (b.device == i) piece []
+      called_on b o piece found device is i = ap (calls_on position count i (slice_get w.devices i)) found ∙ by (b.device == i) refl
+        where
+          by : (c : Bool) → (b.device == i) ≡ c → cond c (calls_at position count b (slice_get w.devices i)) [] ≡ cond c piece []
+          by true same = ap (calls_at position count b) (ap (slice_get w.devices) (sym (eqb-true b.device i same)) ∙ device) ∙ is
+          by false other = refl
+
+      called_none : (b : Wire) (o : Option DeviceState) → slice_get w.wires position ≡ Some b → slice_get w.devices b.device ≡ o → calls_at position count b o ≡ [] → (i : ℕ) → calls_in (Down position count) w i ≡ []
+      called_none b o found device is i = called_on b o [] found device is i ∙ nothing_either (b.device == i)
 
       -- the device has this connection
-      has_it : (b : Wire) (d : DeviceState) → slice_get w.wires position ≡ Some b → slice_get w.devices b.device ≡ Some d → d.here ≡ Some position → IsDown position w v (with_link position b.device (end_heard position (heard_first (amount count b.down) (link_of b d))) w)
+      has_it : (b : Wire) (d : DeviceState) → slice_get w.wires position ≡ Some b → slice_get w.devices b.device ≡ Some d → d.here ≡ Some position → IsDown position count w v (with_link position b.device (end_heard position (heard_first (amount count b.down) (link_of b d))) w)
       has_it b d found device here =
           let other = found_both (WireAt UpFits DownFits w v position) b (slice_get w.wires position) (slice_get v.wires position) found (encodes.wires position) in
           let other_device = found_both (DeviceEncodes ClientFits) d (slice_get w.devices b.device) (slice_get v.devices b.device) device (encodes.devices b.device) in
-          end_is_heard position w v b d (heard_first (amount count b.down) (link_of b d)) found device
+          end_is_heard position (amount count b.down) count w v b d (heard_first (amount count b.down) (link_of b d)) found device
           (is_heard position (amount count b.down) w v b other.other d other_device.other found other.is device other_device.is other.holds other_device.holds encodes here (no_amount count b.down))
+          (called_on b (Some d) (call_of_piece (amount count b.down) b.down.bytes) found device
+          (ap (λ o. cond (has_wire position o) (call_of_piece (amount count b.down) b.down.bytes) []) here ∙ ap (λ (c : Bool). cond c (call_of_piece (amount count b.down) b.down.bytes) []) (eq-eqb position position refl)))
 
-      has_or_not : (b : Wire) (d : DeviceState) → slice_get w.wires position ≡ Some b → slice_get w.devices b.device ≡ Some d → (o : Option ℕ) → d.here ≡ o → (c : Bool) → has_wire position o ≡ c → IsDown position w v (with_link position b.device (cond c (end_heard position (heard_first (amount count b.down) (link_of b d))) (link_of b d)) w)
-      has_or_not b d found device o here false elsewhere = nothing (with_link position b.device (link_of b d) w) (same_link position w b d found device)
+      has_or_not : (b : Wire) (d : DeviceState) → slice_get w.wires position ≡ Some b → slice_get w.devices b.device ≡ Some d → (o : Option ℕ) → d.here ≡ o → (c : Bool) → has_wire position o ≡ c → IsDown position count w v (with_link position b.device (cond c (end_heard position (heard_first (amount count b.down) (link_of b d))) (link_of b d)) w)
+      has_or_not b d found device o here false elsewhere =
+          nothing (with_link position b.device (link_of b d) w) (same_link position w b d found device)
+          (called_none b (Some d) found device (ap (λ (c : Bool). cond c (call_of_piece (amount count b.down) b.down.bytes) []) (ap (has_wire position) here ∙ elsewhere)))
       has_or_not b d found device None here true is = absurd (true≢false (sym is))
       has_or_not b d found device (Some q) here true is = has_it b d found device (here ∙ ap Some (eqb-true q position is))
 
-      of_device : (b : Wire) → slice_get w.wires position ≡ Some b → (o : Option DeviceState) → slice_get w.devices b.device ≡ o → IsDown position w v (down_to position count b o w)
-      of_device b found None device = nothing w refl
+      of_device : (b : Wire) → slice_get w.wires position ≡ Some b → (o : Option DeviceState) → slice_get w.devices b.device ≡ o → IsDown position count w v (down_to position count b o w)
+      of_device b found None device = nothing w refl (called_none b None found device refl)
       of_device b found (Some d) device = has_or_not b d found device d.here refl (has_wire position d.here) refl
 
-      by : (o : Option Wire) → slice_get w.wires position ≡ o → IsDown position w v (down_by position count (slice_get w.wires position) w)
-      by None found = nothing (down_by position count (slice_get w.wires position) w) (ap (λ o. down_by position count o w) found)
-      by (Some b) found = subst (λ o. IsDown position w v (down_by position count o w)) (sym found) (of_device b found (slice_get w.devices b.device) refl)
+      by : (o : Option Wire) → slice_get w.wires position ≡ o → IsDown position count w v (down_by position count (slice_get w.wires position) w)
+      by None found = nothing (down_by position count (slice_get w.wires position) w) (ap (λ o. down_by position count o w) found) (λ i. ap (calls_on position count i (slice_get w.devices i)) found)
+      by (Some b) found = subst (λ o. IsDown position count w v (down_by position count o w)) (sym found) (of_device b found (slice_get w.devices b.device) refl)
 
   pub down_moves : (position : ℕ) (count : Count) (w : ByteWorld) (v : ItemWorld) → WorldEncodes UpFits DownFits ServerFits ClientFits w v → IsMoved UpFits DownFits ServerFits ClientFits (Down position count) w v
   down_moves position count w v encodes =
       let h = down_of position count w v encodes in
-      record { moves = downs position h.count ++ moved_where (items.DownEnd position) h.ended; is_run = (h.count, h.ended, refl); encodes = h.encodes }
+      record { moves = downs position h.count ++ moved_where (items.DownEnd position) h.ended; is_run = (h.count, h.ended, refl); encodes = h.encodes; notes = h.noted; reads = λ i. sym (downs_read position h.count h.ended v i) }

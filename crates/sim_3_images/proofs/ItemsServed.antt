@@ -1,5 +1,5 @@
 -- Items of a connection that go to the server one after another do what they do at once.
-use Rattle.std.proofs.Common.{◌≡◌, ◌⊎◌, ◌≤◌, ℕ, zero, suc, Bool, true, false, List, [], ◌∷◌, ◌++◌, Option, Some, None, map, drop, length, refl, sym, ap, ap₂, subst, ◌∙◌, inl, inr, append-nil, append_assoc}
+use Rattle.std.proofs.Common.{◌≡◌, ◌⊎◌, ◌≤◌, ℕ, zero, suc, ◌==◌, Bool, true, false, cond, List, [], ◌∷◌, ◌++◌, Option, Some, None, map, drop, length, refl, sym, ap, ap₂, subst, ◌∙◌, inl, inr, append-nil, append_assoc}
 use Rattle.std.proofs.lemmas.Bool.{cases_eq}
 use Rattle.std.proofs.lemmas.Option.{none-some, same_Some}
 use Rattle.std.specs.List.{AllByRecursion, slice_get}
@@ -19,6 +19,8 @@ use Rattle.sim_3_images.proofs.Lookups.{get_changed_other, get_changed_same}
 use Rattle.sim_3_images.specs.PipeEncodings.{dropped}
 use Rattle.sim_3_images.specs.EncodingsCores.{AreInOrder, CoresFit, IsInOrder, after_put, after_shut, writer_at, writer_of}
 use Rattle.sim_3_images.specs.ItemRuns.{ups}
+use Rattle.sim_3_images.specs.Reads.{all_item_reads, item_read_first, item_read_on, item_reads, read_along, read_here, read_where}
+use Rattle.sim_3_images.proofs.ReadsTold.{read_following}
 use Rattle.sim_3_items.specs.ItemMoves.{Up, all_emitted, all_moved, emitted, moved, served_by, served_first, step_of, takes_reported}
 use Rattle.sim_3_items.specs.ItemPipes.{ItemPipe, ItemWire, handed_up, put_down, shut}
 use Rattle.sim_3_items.specs.ItemWorlds.{ItemWorld, Take, itself, read_of}
@@ -171,6 +173,40 @@ nothing_done k [] s none = refl
 nothing_done k (i ∷ items) s none =
     ap (λ o. after_items itself k items (acted itself (at_open itself k i (option_map standing_of o) s.server_state) s)) none ∙ nothing_done k items s none
 
+-- nothing is read there
+nothing_read : (k : ℕ) (coming : List Item) (s : Step ItemOut) → conn_at k s.server_state ≡ None → read_along itself k coming s ≡ []
+nothing_read k [] s none = refl
+nothing_read k (i ∷ coming) s none =
+    ap₂ (λ a b. a ++ b) (ap (λ o. read_where o k i s.server_state) none)
+    (ap (λ o. read_along itself k coming (acted itself (at_open itself k i (option_map standing_of o) s.server_state) s)) none ∙ nothing_read k coming s none)
+
+-- what is put out leaves each connection to its device
+changed_device : (f : ItemWire → ItemWire) → ((x : ItemWire) → (f x).device ≡ x.device) → (ws : List ItemWire) (q position : ℕ) → option_map (λ (x : ItemWire). x.device) (slice_get (changed_at q f ws) position) ≡ option_map (λ (x : ItemWire). x.device) (slice_get ws position)
+changed_device f same [] q position = refl
+changed_device f same (x ∷ ws) zero zero = ap Some (same x)
+changed_device f same (x ∷ ws) zero (suc position) = refl
+changed_device f same (x ∷ ws) (suc q) zero = refl
+changed_device f same (x ∷ ws) (suc q) (suc position) = changed_device f same ws q position
+
+under_device : (k : ℕ) (f : ItemWire → ItemWire) → ((x : ItemWire) → (f x).device ≡ x.device) → (ws : List ItemWire) (position : ℕ) → option_map (λ (x : ItemWire). x.device) (slice_get (changed_under k f ws) position) ≡ option_map (λ (x : ItemWire). x.device) (slice_get ws position)
+under_device zero f same ws position = refl
+under_device (suc q) f same ws position = changed_device f same ws q position
+
+emitted_device : (outs : List (Out ItemOut)) (ws : List ItemWire) (position : ℕ) → option_map (λ (x : ItemWire). x.device) (slice_get (all_emitted outs ws) position) ≡ option_map (λ (x : ItemWire). x.device) (slice_get ws position)
+emitted_device [] ws position = refl
+emitted_device (Put k i ∷ outs) ws position = emitted_device outs (emitted (Put k i) ws) position ∙ under_device k (put_down (i ∷ [])) (λ x. refl) ws position
+emitted_device (Shut k ∷ outs) ws position = emitted_device outs (emitted (Shut k) ws) position ∙ under_device k shut (λ x. refl) ws position
+emitted_device (Took from to origin ∷ outs) ws position = emitted_device outs ws position
+
+-- what is read of one device, or of another
+pub nothing_either : (b : Bool) → cond {A = List ItemOut} b [] [] ≡ []
+nothing_either true = refl
+nothing_either false = refl
+
+both_either : (b : Bool) (first second : List ItemOut) → cond b first [] ++ cond b second [] ≡ cond b (first ++ second) []
+both_either true first second = refl
+both_either false first second = refl
+
 ups_of_none : (position n : ℕ) (v : ItemWorld) (p : ItemWire) → slice_get v.wires position ≡ Some p → p.up.items ≡ [] → all_moved (ups position n) v ≡ v
 ups_of_none position zero v p found none = refl
 ups_of_none position (suc n) v p found none =
@@ -250,3 +286,40 @@ module _ (UpFits DownFits : ItemOut → Type 0) (ServerFits : ℕ → ServerStat
             ∙ ap (λ l. record v { server = d.server_state; wires = l; takes = v.takes ++ took d.outs }) (sym (changed_to_same (many_up n) (all_emitted d.outs ws) position after.wire after.found unchanged) ∙ dropped_is)
             ∙ ap (λ (s : Step ItemOut). record v { server = s.server_state; wires = all_emitted s.outs (changed_at position (many_up (suc n)) v.wires); takes = v.takes ++ took s.outs }) (sym same)
       ])
+
+  -- ---- what the server reads of them
+
+  none_read : (position n i : ℕ) (v : ItemWorld) (p : ItemWire) → slice_get v.wires position ≡ Some p → p.up.items ≡ [] → all_item_reads (ups position n) v i ≡ []
+  none_read position zero i v p found none = refl
+  none_read position (suc n) i v p found none =
+      let same : moved (Up position) v ≡ v = ap (λ o. served_by position o v) found ∙ ap (λ l. served_first position l v) none in
+      ap₂ (λ a b. a ++ b) (ap (item_read_on position i v) found ∙ ap (λ l. cond (p.device == i) (item_read_first (number_at position) l v) []) none ∙ nothing_either (p.device == i))
+      (ap (λ u. all_item_reads (ups position n) u i) same ∙ none_read position n i v p found none)
+
+  pub ups_read : (many position device i : ℕ) (first others : List ItemOut) (v : ItemWorld) (p : ItemWire) → number_at position ≤ many → slice_get v.wires position ≡ Some p → p.device ≡ device → p.up.items ≡ first ++ others → ServerFits many v.server → AllByRecursion UpFits first
+      → (writer_at (number_at position) v.server ≡ Some phase.First → IsHeaded first) → all_item_reads (ups position (length first)) v i ≡ cond (device == i) (read_along itself (number_at position) (map read_of first) (step_of v.server)) []
+  ups_read many position device i [] others v p few found dev items_are fits all comes = sym (nothing_either (device == i))
+  ups_read many position device i (x ∷ rest) others v p few found dev items_are fits all comes =
+      let n = length rest in
+      let k = number_at position in
+      let d = after_item itself k (read_of x) (step_of v.server) in
+      let ws = changed_at position handed_up v.wires in
+      let one : ItemWorld = record v { server = d.server_state; wires = all_emitted d.outs ws; takes = v.takes ++ takes_reported v.moment d.outs } in
+      let step : moved (Up position) v ≡ one = ap (λ o. served_by position o v) found ∙ ap (λ l. served_first position l v) items_are in
+      let here : slice_get ws position ≡ Some (handed_up p) = get_changed_same handed_up v.wires position ∙ ap (option_map handed_up) found in
+      let after = up_after DownFits position d.outs (writer_at k v.server) (writer_at k d.server_state) ws (handed_up p) (cores.in_order many k x v.server k fits few all.0 comes) here in
+      let same_device : after.wire.device ≡ device =
+      same_Some after.wire.device p.device (sym (ap (option_map (λ (y : ItemWire). y.device)) after.found) ∙ emitted_device d.outs ws position ∙ ap (option_map (λ (y : ItemWire). y.device)) here) ∙ dev in
+      let mine : item_reads (Up position) v i ≡ cond (device == i) (read_here k (read_of x) v.server) [] =
+      ap (item_read_on position i v) found ∙ ap₂ (λ m l. cond (m == i) (item_read_first k l v) []) dev items_are in
+      let more : read_along itself k (map read_of rest) d ≡ read_along itself k (map read_of rest) (step_of d.server_state) =
+      ap (λ l. read_along itself k (map read_of rest) (record { server_state = d.server_state; outs = l })) (sym (append-nil d.outs)) ∙ read_following d.outs itself k (map read_of rest) (step_of d.server_state) in
+      elim after.is [
+        | inl kept ↦
+            ap₂ (λ a b. a ++ b) mine (ap (λ u. all_item_reads (ups position n) u i) step
+            ∙ ups_read many position device i rest others one after.wire few after.found same_device (ap (λ (y : ItemPipe). y.items) kept ∙ ap (drop 1) items_are) (cores.handles many k x v.server fits few all.0 comes) all.1 (λ e. absurd (cores.opened many k x v.server fits few all.0 comes e)))
+            ∙ both_either (device == i) (read_here k (read_of x) v.server) (read_along itself k (map read_of rest) (step_of d.server_state)) ∙ ap (λ l. cond (device == i) (read_here k (read_of x) v.server ++ l) []) (sym more)
+        | inr gone ↦
+            ap₂ (λ a b. a ++ b) mine (ap (λ u. all_item_reads (ups position n) u i) step ∙ none_read position n i one after.wire after.found gone.0) ∙ append-nil (cond (device == i) (read_here k (read_of x) v.server) [])
+            ∙ ap (λ l. cond (device == i) l []) (sym (append-nil (read_here k (read_of x) v.server)) ∙ ap (λ l. read_here k (read_of x) v.server ++ l) (sym (nothing_read k (map read_of rest) d (no_conn (conn_at k d.server_state) gone.1))))
+      ]

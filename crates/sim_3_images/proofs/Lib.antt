@@ -11,8 +11,10 @@ pub mod AfterOuts
 pub mod ServerStatesRendered
 pub mod Beginnings
 pub mod Emissions
+pub mod ReadsTold
 pub mod ItemsServed
 -- moves
+pub mod NotesTold
 pub mod NetworkMoves
 pub mod UpMoves
 pub mod UserMoves

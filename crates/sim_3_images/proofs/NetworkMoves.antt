@@ -15,12 +15,12 @@ use Rattle.sim_3_images.proofs.ServerStatesRendered.{gone_rendered, moment_rende
 use Rattle.sim_3_images.proofs.Lookups.{found_after_removal, get_changed_other, get_changed_same, length_changed, set_changes}
 use Rattle.sim_3_images.proofs.PipeSteps.{due_encodes, is_due, items_due}
 use Rattle.sim_3_images.proofs.WireSteps.{wire_cut, wire_up_told}
+use Rattle.sim_3_images.proofs.NotesTold.{nothing_noted}
 use Rattle.sim_3_images.specs.EncodingsCores.{CoresFit, writer_at, writer_of}
 use Rattle.sim_3_images.specs.ItemRuns.{moved_where}
 use Rattle.sim_3_images.specs.WireEncodings.{WireEncodes}
 use Rattle.sim_3_images.specs.WorldEncodings.{Begins, Both, IsBegun, IsMoved, WireAt, WorldEncodes, framer_here}
 use Rattle.sim_3_items.specs.ItemMoves as items
-use Rattle.sim_3_items.specs.ItemMoves.{ItemMove}
 use Rattle.sim_3_items.specs.ItemPipes as pipes
 use Rattle.sim_3_items.specs.ItemPipes.{ItemWire}
 use Rattle.sim_3_items.specs.ItemWorlds.{ItemWorld}
@@ -90,6 +90,8 @@ module _ (UpFits DownFits : ItemOut → Type 0) (ServerFits : ℕ → ServerStat
       wires = i.wires;
       takes = i.takes;
     };
+    notes = λ j. nothing_noted (slice_get w.devices j);
+    reads = λ j. refl;
   }
 
   -- ---- a cut, whose counts hang on what is there
@@ -119,6 +121,8 @@ module _ (UpFits DownFits : ItemOut → Type 0) (ServerFits : ℕ → ServerStat
           wires = both_changed (WireAt UpFits DownFits w v) (WireAt UpFits DownFits w v) (cut_at up down) (pipes.cut_at h.0 h.1) w.wires v.wires position h.2 (λ q other c r x. x) i.wires;
           takes = i.takes;
         };
+        notes = λ j. nothing_noted (slice_get w.devices j);
+        reads = λ j. refl;
       }
 
   -- ---- the end of a connection is told to the server

@@ -10,7 +10,7 @@ use Rattle.cl_login.specs.declared.answers.Next.TheVariants as next
 use Rattle.cl_handlers.specs.AckRows.{ack_row, acknowledges, counts_too_high, request_row}
 use Rattle.cl_handlers.specs.Clients.{ClientStep, OutView}
 use Rattle.cl_handlers.specs.LoginSteps as login
-use Rattle.cl_handlers.specs.LoginSteps.{follows, header_row, login_row, other_element, peer_fault}
+use Rattle.cl_handlers.specs.LoginSteps.{follows, header_row, other_element, peer_fault}
 use Rattle.cl_handlers.specs.MessageRows.{bounce_of, error_within, held_row, is_own_or_absent, live_in, logged, message_with, other_message, refuses, result_row, result_to, tells_where}
 use Rattle.cl_handlers.specs.SessionRows.{asks, attaches, begins, begins_epoch, binding_row, binds, can_resume, enabling_with, failed_row, features2_with, first_stanzas, is_stanza, queue_in, resent, resumed_in, resumes_or_binds, resuming_with, tells_bound}
 use Rattle.cl_handlers.specs.Speech.{Note, Acknowledged, Counted, Ended, Epoch, Handled, Put, Stated, in_items, uttered, uttered_where}
@@ -359,4 +359,4 @@ client_step_is t = ap₂ (λ p e. record { client = t.client; out = record { put
 pub step_adds : (i : Item) (t : Rendered) → Adds t (item_step in_items (silent_client_step t.client) i) (item_step in_items t i)
 step_adds i t =
     let is = ap (λ u. item_step in_items u i) (client_step_is t) ∙ step_b t.out (silent_client_step t.client) i in
-    record { client_is = ap (λ (u : Rendered). u.client) is; put_is = ap (λ (u : Rendered). u.out.put) is }
+    record { client_is = ap (λ (u : Rendered). u.client) is; put_is = ap (λ (u : Rendered). u.out.put) is; notes_is = ap (λ (u : Rendered). u.out.notes) is }

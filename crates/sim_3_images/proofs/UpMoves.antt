@@ -9,23 +9,22 @@ use Rattle.std.specs.Option.{option_map}
 use Rattle.cl_handlers.specs.Clients.{ClientView}
 use Rattle.srv_state.specs.Moments.{at_moment}
 use Rattle.srv_state.specs.State.{Out, Put, ServerState, Shut, Step, Took, is_number}
-use Rattle.srv_state.specs.Streams.{standing_at}
-use Rattle.srv_state.specs.Steps.{acted}
-use Rattle.srv_state.specs.declared.connection.Standing.{Standing as ConnStanding}
 use Rattle.xml_framer.specs.Machine.{run}
 use Rattle.xml_framer.specs.States.{State, Turn, turn}
 use Rattle.xml_framer.specs.declared.items.Item.{Item}
-use Rattle.xml_framer.specs.declared.items.Item.TheVariants as item
 use Rattle.xml_framer.specs.declared.states.Phase.{Phase}
 use Rattle.xml_framer.specs.declared.states.Phase.TheVariants as phase
 use Rattle.law_xml.specs.Spells.{placed}
 use Rattle.sim_3_images.proofs.Beginnings.{IsHeaded, begun_headed, first_before, wire_there}
 use Rattle.sim_3_images.proofs.Emissions.{all_here}
 use Rattle.sim_3_images.proofs.ServerStatesRendered.{moment_rendered}
-use Rattle.sim_3_images.proofs.ItemsServed.{at_once, changed_none, many_up, served, served_fits, served_in_order, served_opened, up_after, ups_are}
+use Rattle.sim_3_images.proofs.ItemsServed.{at_once, changed_none, many_up, served, served_fits, served_in_order, served_opened, up_after, ups_are, ups_read}
 use Rattle.sim_3_images.proofs.Lookups.{get_changed_other, found_after_other_value, found_after_value, length_changed, set_changes}
 use Rattle.sim_3_images.proofs.NetworkMoves.{both_changed, end_is, found_both, number_apart}
 use Rattle.sim_3_images.proofs.WireSteps.{IsUpHanded, all_taken, wire_up}
+use Rattle.sim_3_images.proofs.NotesTold.{up_noted}
+use Rattle.sim_3_images.proofs.ReadsTold.{item_unplaced, read_rendered, read_unplaced, up_end_read}
+use Rattle.sim_3_images.specs.Reads.{all_item_reads, read_along, read_first, read_in, read_of_piece, read_on}
 use Rattle.sim_3_images.specs.EncodingsCores.{CoresFit, writer_at}
 use Rattle.sim_3_images.specs.ItemRuns.{AreServedUps, moved_where, ups}
 use Rattle.sim_3_images.specs.PipeEncodings.{AreRead, over, standing}
@@ -39,7 +38,7 @@ use Rattle.cmd_schedule.specs.declared.schedule.Count.{Count}
 use Rattle.cmd_schedule.specs.declared.schedule.Count.TheVariants.{All, Number}
 use Rattle.cmd_schedule.specs.declared.schedule.Version.{Version}
 use Rattle.srv_core.specs.Events.{after_fault, at_piece, begun, dropped, fed, framer_at}
-use Rattle.srv_core.specs.Table.{after_item, after_items, at_open}
+use Rattle.srv_core.specs.Table.{after_item, after_items}
 use Rattle.law_server.proofs.TableRendered.{items_rendered}
 use Rattle.law_server.specs.Rendered.{outs_rendered, server_state_rendered, step_rendered}
 use Rattle.cmd_network.specs.Positions.{changed_at, changed_under}
@@ -49,21 +48,15 @@ use Rattle.cmd_network.specs.declared.wire.Wire.{Wire}
 use Rattle.net_pipes.specs.Pipes.{Pipe}
 use Rattle.cmd_world.specs.Effects.{Effects, all_emitted, effects_of, emitted}
 use Rattle.cmd_world.specs.Moves as bytes
-use Rattle.cmd_world.specs.Moves.{Up, end_reported_up, server_after, served_by, served_first, step_of_piece, with_effects}
+use Rattle.cmd_world.specs.Moves.{Up, end_reported_up, server_after, served_by, step_of_piece, with_effects}
 use Rattle.cmd_world.specs.Worlds.{ByteWorld, number_at}
 use Rattle.xml_writer.specs.Items.{ItemOut, written_item}
 
 -- ---- the place of a header is not looked at
 
-open_unplaced : {A : Type 0} (say : ItemOut → A) (k : ℕ) (i : Item) (o : Option ConnStanding) (h : ServerState A) → at_open say k i o h ≡ at_open say k (placed 0 i) o h
-open_unplaced say k i None h = refl
-open_unplaced say k (item.Header at header) (Some st) h = refl
-open_unplaced say k (item.Element e) (Some st) h = refl
-open_unplaced say k item.Footer (Some st) h = refl
-
 unplaced : {A : Type 0} (say : ItemOut → A) (k : ℕ) (l : List Item) (s : Step A) → after_items say k l s ≡ after_items say k (map (placed 0) l) s
 unplaced say k [] s = refl
-unplaced say k (i ∷ l) s = ap (λ acts. after_items say k l (acted say acts s)) (open_unplaced say k i (standing_at k s.server_state) s.server_state) ∙ unplaced say k l (after_item say k (placed 0 i) s)
+unplaced say k (i ∷ l) s = ap (after_items say k l) (item_unplaced say k i s) ∙ unplaced say k l (after_item say k (placed 0 i) s)
 
 -- ---- lengths
 
@@ -118,6 +111,7 @@ module _ (UpFits DownFits : ItemOut → Type 0) (ServerFits : ℕ → ServerStat
   record IsServedSo (position : ℕ) (count : Count) (w : ByteWorld) (v : ItemWorld) : Type 0 where
     moves : List ItemMove
     is_served : AreServedUps position moves
+    read : (i : ℕ) → read_in (Up position count) w i ≡ all_item_reads moves v i
     encodes : WorldEncodes UpFits DownFits ServerFits ClientFits (served_by position count (slice_get w.wires position) w) (items.all_moved moves v)
 
   -- where the framer gives some first items
@@ -259,6 +253,25 @@ module _ (UpFits DownFits : ItemOut → Type 0) (ServerFits : ℕ → ServerStat
           ∙ sym (map-append (line_reported w.version) v.takes (items.takes_reported (v.moment + 0) done.outs));
     }
 
+    -- ---- what the server reads
+
+    read_piece : read_of_piece (number_at position) piece (framer_at (number_at position) w.server.framers) (begun w.moment w.server.server_state []) ≡ read_along itself (number_at position) (map read_of taken) (step_of ticked.server)
+    read_piece =
+        ap (λ o. read_of_piece (number_at position) piece o (begun w.moment w.server.server_state [])) reader
+        ∙ ap (λ (u : Turn). read_along written_item (number_at position) u.items (begun w.moment w.server.server_state [])) h.run_is
+        ∙ read_unplaced written_item (number_at position) h.first (begun w.moment w.server.server_state []) ∙ ap (λ l. read_along written_item (number_at position) l (begun w.moment w.server.server_state [])) h.read
+        ∙ ap (λ x. read_along written_item (number_at position) (map read_of taken) (record { server_state = x; outs = [] })) (ap₂ at_moment same_moment i.server_state ∙ moment_rendered written_item (v.moment + 0) v.server)
+        ∙ read_rendered (number_at position) (map read_of taken) (step_of ticked.server)
+
+    served_read : (count : Count) → amount count b.up ≡ n → (n == 0) ≡ false → b.device ≡ p.device → (j : ℕ) → read_in (Up position count) w j ≡ all_item_reads (items.Tick 0 ∷ ups position (length taken)) v j
+    served_read count is some same j =
+        ap (read_on position count j w) found
+        ∙ ap (λ m. cond (b.device == j) (read_first (number_at position) m b.up.bytes w) []) is
+        ∙ ap (λ (c : Bool). cond (b.device == j) (cond c [] (read_of_piece (number_at position) piece (framer_at (number_at position) w.server.framers) (begun w.moment w.server.server_state []))) []) some
+        ∙ ap (λ l. cond (b.device == j) l []) read_piece
+        ∙ ap (λ d. cond (d == j) (read_along itself (number_at position) (map read_of taken) (step_of ticked.server)) []) same
+        ∙ sym (ups_read UpFits DownFits ServerFits ClientFits cores many position p.device j taken (drop h.count p.up.items) ticked p few found_item refl (sym (take-append-drop h.count p.up.items)) ticked_fits taken_fit comes)
+
     pub served_encodes : WorldEncodes UpFits DownFits ServerFits ClientFits (bytes.served position n b w) (items.all_moved (items.Tick 0 ∷ ups position (length taken)) v)
     served_encodes =
         subst (λ x. WorldEncodes UpFits DownFits ServerFits ClientFits x (items.all_moved (items.Tick 0 ∷ ups position (length taken)) v)) (sym bytes_is)
@@ -270,10 +283,22 @@ module _ (UpFits DownFits : ItemOut → Type 0) (ServerFits : ℕ → ServerStat
       nothing : (x : ByteWorld) → x ≡ w → WorldEncodes UpFits DownFits ServerFits ClientFits x v
       nothing x e = subst (λ y. WorldEncodes UpFits DownFits ServerFits ClientFits y v) (sym e) i
 
+      -- nothing is read where the server isn't called
+      unread : (b : Wire) → slice_get w.wires position ≡ Some b → (amount count b.up == 0) ≡ true → (j : ℕ) → read_in (Up position count) w j ≡ []
+      unread b found none j =
+          ap (read_on position count j w) found
+          ∙ ap (λ (c : Bool). cond (b.device == j) (cond c [] (read_of_piece (number_at position) (take (amount count b.up) b.up.bytes) (framer_at (number_at position) w.server.framers) (begun w.moment w.server.server_state []))) []) none
+          ∙ either (b.device == j)
+        where
+          either : (c : Bool) → cond {A = List ItemOut} c [] [] ≡ []
+          either true = refl
+          either false = refl
+
       some : (b : Wire) → slice_get w.wires position ≡ Some b → (e : Bool) → (amount count b.up == 0) ≡ e → IsServedSo position count w v
       some b found true none = record {
         moves = [];
         is_served = inl refl;
+        read = unread b found none;
         encodes = nothing (served_by position count (slice_get w.wires position) w) (ap (λ o. served_by position count o w) found ∙ ap (λ (e : Bool). cond e w (bytes.served position (amount count b.up) b w)) none);
       }
       some b found false few =
@@ -290,12 +315,13 @@ module _ (UpFits DownFits : ItemOut → Type 0) (ServerFits : ℕ → ServerStat
                 record {
                   moves = items.Tick 0 ∷ ups position (length (take h.count p.up.items));
                   is_served = inr (length (take h.count p.up.items), refl);
+                  read = served_read position n w v b p found other.is i f reader h x.up_fits count refl few x.device;
                   encodes = subst (λ y. WorldEncodes UpFits DownFits ServerFits ClientFits y (items.all_moved (items.Tick 0 ∷ ups position (length (take h.count p.up.items))) v)) (sym is) (served_encodes position n w v b p found other.is i f reader h x.up_fits);
                 }
           ]
 
       by : (o : Option Wire) → slice_get w.wires position ≡ o → IsServedSo position count w v
-      by None found = record { moves = []; is_served = inl refl; encodes = nothing (served_by position count (slice_get w.wires position) w) (ap (λ o. served_by position count o w) found) }
+      by None found = record { moves = []; is_served = inl refl; read = λ j. ap (read_on position count j w) found; encodes = nothing (served_by position count (slice_get w.wires position) w) (ap (λ o. served_by position count o w) found) }
       by (Some b) found = some b found (amount count b.up == 0) refl
 
   pub up_is : (position : ℕ) (count : Count) (w : ByteWorld) (v : ItemWorld) → WorldEncodes UpFits DownFits ServerFits ClientFits w v → IsMoved UpFits DownFits ServerFits ClientFits (Up position count) w v
@@ -306,4 +332,6 @@ module _ (UpFits DownFits : ItemOut → Type 0) (ServerFits : ℕ → ServerStat
         moves = a.moves ++ moved_where (items.UpEnd position) z.ended;
         is_run = (a.moves, z.ended, a.is_served, refl);
         encodes = subst (WorldEncodes UpFits DownFits ServerFits ClientFits (end_reported_up position (served_by position count (slice_get w.wires position) w))) (sym (moved_joined a.moves (moved_where (items.UpEnd position) z.ended) v)) z.encodes;
+        notes = up_noted position count w a.moves z.ended v a.is_served;
+        reads = λ j. a.read j ∙ sym (up_end_read position a.moves z.ended v j);
       }

@@ -77,10 +77,11 @@ AreInOrder Fits j now (Took from to origin ∷ outs) later = AreInOrder Fits j n
 abbrev pub IsNoFooter : ItemOut → Type 0
 IsNoFooter i = phase_behind i ≡ phase.Between
 
--- What a turn put before is put still, and what is put then doesn't hang on it.
+-- What a turn put before is put still, and what is put then doesn't hang on it; and so is what it noted down.
 pub record Adds (t alone u : ClientStep ItemOut ItemOut) : Type 0 where
   pub client_is : u.client ≡ alone.client
   pub put_is : u.out.put ≡ t.out.put ++ alone.out.put
+  pub notes_is : u.out.notes ≡ t.out.notes ++ alone.out.notes
 
 -- what it puts fits and is no footer, and the client that it becomes is one of these
 pub record ClientStepFits (UpFits : ItemOut → Type 0) (ClientFits : ClientView ItemOut → Type 0) (t : ClientStep ItemOut ItemOut) : Type 0 where

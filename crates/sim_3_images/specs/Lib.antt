@@ -1,4 +1,7 @@
 pub use Rattle.base_io.specs.Listed
+-- machine: what clients note down in a move, and which stanzas the server reads
+pub mod Notes
+pub mod Reads
 -- law: pipes, connections and worlds of bytes as encodings of those of items
 pub mod PipeEncodings
 pub mod WireEncodings

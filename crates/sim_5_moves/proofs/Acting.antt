@@ -24,6 +24,8 @@ use Rattle.sim_5_moves.proofs.OneOwner.{of_owner}
 use Rattle.sim_5_moves.proofs.ReplyEvents.{set_long}
 use Rattle.sim_5_moves.specs.Moves.{ActsAlone, IsOneDevice}
 use Rattle.sim_5_moves.specs.Running.{Bounds, DeviceSimulates, IsOwned, Leads, RunsOn, WorldSimulates, history_for, keep_in, names_of}
+use Rattle.sim_3_items.specs.Labels.{Label}
+use Rattle.xml_writer.specs.Items.{ItemOut}
 
 -- ---- lists
 
@@ -73,43 +75,44 @@ module _ (schedule : WireView) (b : Bounds) (says : ℕ) (w : ItemWorld) (x : Ap
       flags = subst (λ h. FlagsRepresent (identity_at schedule j p).account p.device h was.device.sessions) (sym alone.server) was.flags;
     }
 
-  abbrev Comes : (j : ℕ) (p : Owned) → IsOwned schedule j p → Type 0
-  Comes j p is = (e : DeviceSimulates schedule next following j p) × Leads (runs.devices j p is).view e.view
+  module _ (Does : ℕ → List (Label ItemOut) → Type 0) (here : Does i a.done) (beside : (j : ℕ) → j ≢ i → Does j []) where
+    abbrev Comes : (j : ℕ) (p : Owned) → IsOwned schedule j p → Type 0
+    Comes j p is = (e : DeviceSimulates schedule next following j p) × Leads (Does j) (runs.devices j p is).view e.view
 
-  each_comes : (j : ℕ) (p : Owned) (is : IsOwned schedule j p) → Comes j p is
-  each_comes =
-      either (λ j. (p : Owned) (is : IsOwned schedule j p) → Comes j p is) i
-      (of_owner schedule i (Comes i) o a.owned (a.device, a.leads))
-      (λ j other p is. (other_runs j p is other, ([], refl)))
+    each_comes : (j : ℕ) (p : Owned) (is : IsOwned schedule j p) → Comes j p is
+    each_comes =
+        either (λ j. (p : Owned) (is : IsOwned schedule j p) → Comes j p is) i
+        (of_owner schedule i (Comes i) o a.owned (a.device, (a.leads.0, a.leads.1, subst (Does i) (sym a.leads.2) here)))
+        (λ j other p is. (other_runs j p is other, ([], refl, beside j other)))
 
-  abbrev goes_on : WorldSimulates schedule b (says + length (spoken_in a.events)) next following
-  goes_on = record {
-    led = record {
-      events = runs.led.events ++ a.events;
-      reaches = reaches_both runs.led.events a.events _ x following runs.led.reaches a.reaches;
-      spoken = ap length (spoken_both runs.led.events a.events) ∙ length-append (spoken_in runs.led.events) (spoken_in a.events) ∙ ap (λ n. n + length (spoken_in a.events)) runs.led.spoken;
-    };
-    said = a.said;
-    asked =
-        either (λ j. (e : Device) → slice_get following.devices j ≡ Some e → e.reading.asked ≤ b.pages + 1) i
-        (λ e at. subst (λ (y : Device). y.reading.asked ≤ b.pages + 1) (same_Some d e (sym (set_here x.devices i a.old d a.there) ∙ at)) a.asked)
-        (λ j other e at. runs.asked j e (sym (set_elsewhere x.devices i j d other) ∙ at));
-    dialled = subst (λ n. n ≤ b.dials) (sym alone.many) runs.dialled;
-    devices = λ j p is. (each_comes j p is).0;
-    many = alone.devices ∙ runs.many;
-    many_there = set_long x.devices i d ∙ runs.many_there;
-    wires = λ position wire at. let was = alone.wires position wire at in let of = runs.wires position was.0 was.1 in (of.0, subst (λ n. IsOwned schedule n of.0) (sym was.2) of.1);
-    server = subst (ServerSimulates (keep_in schedule) (owned_of schedule) (names_of schedule) x.takes) (sym alone.server) runs.server;
-    takes = alone.takes ∙ runs.takes;
-    clock = runs.clock ∙ sym alone.moment;
-    now = (λ k. (alone.server k).moment) ∙ runs.now ∙ sym alone.moment;
-    fits = a.fits;
-    stands = subst (λ n. ServerStateStands n next.server) (sym alone.many) (subst (ServerStateStands (length w.wires)) (sym alone.server) runs.stands);
-    within = subst (λ n. IsWithin n next.server) (sym alone.many) (subst (IsWithin (length w.wires)) (sym alone.server) runs.within);
-  }
+    abbrev goes_on : WorldSimulates schedule b (says + length (spoken_in a.events)) next following
+    goes_on = record {
+      led = record {
+        events = runs.led.events ++ a.events;
+        reaches = reaches_both runs.led.events a.events _ x following runs.led.reaches a.reaches;
+        spoken = ap length (spoken_both runs.led.events a.events) ∙ length-append (spoken_in runs.led.events) (spoken_in a.events) ∙ ap (λ n. n + length (spoken_in a.events)) runs.led.spoken;
+      };
+      said = a.said;
+      asked =
+          either (λ j. (e : Device) → slice_get following.devices j ≡ Some e → e.reading.asked ≤ b.pages + 1) i
+          (λ e at. subst (λ (y : Device). y.reading.asked ≤ b.pages + 1) (same_Some d e (sym (set_here x.devices i a.old d a.there) ∙ at)) a.asked)
+          (λ j other e at. runs.asked j e (sym (set_elsewhere x.devices i j d other) ∙ at));
+      dialled = subst (λ n. n ≤ b.dials) (sym alone.many) runs.dialled;
+      devices = λ j p is. (each_comes j p is).0;
+      many = alone.devices ∙ runs.many;
+      many_there = set_long x.devices i d ∙ runs.many_there;
+      wires = λ position wire at. let was = alone.wires position wire at in let of = runs.wires position was.0 was.1 in (of.0, subst (λ n. IsOwned schedule n of.0) (sym was.2) of.1);
+      server = subst (ServerSimulates (keep_in schedule) (owned_of schedule) (names_of schedule) x.takes) (sym alone.server) runs.server;
+      takes = alone.takes ∙ runs.takes;
+      clock = runs.clock ∙ sym alone.moment;
+      now = (λ k. (alone.server k).moment) ∙ runs.now ∙ sym alone.moment;
+      fits = a.fits;
+      stands = subst (λ n. ServerStateStands n next.server) (sym alone.many) (subst (ServerStateStands (length w.wires)) (sym alone.server) runs.stands);
+      within = subst (λ n. IsWithin n next.server) (sym alone.many) (subst (IsWithin (length w.wires)) (sym alone.server) runs.within);
+    }
 
-  pub acted_on : RunsOn schedule b says w x runs (says + length (spoken_in a.events)) next following
-  acted_on = record { runs = goes_on; links = λ j p is. (each_comes j p is).1 }
+    pub acted_on : RunsOn schedule b says w x runs Does (says + length (spoken_in a.events)) next following
+    acted_on = record { runs = goes_on; links = λ j p is. (each_comes j p is).1 }
 
 -- ---- an act behind drifts
 

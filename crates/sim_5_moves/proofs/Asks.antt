@@ -44,6 +44,7 @@ use Rattle.sim_4_links_follow.proofs.Downs.{ask_in}
 use Rattle.sim_5_moves.specs.Going.{DeviceGoes}
 use Rattle.sim_5_moves.specs.Running.{AreSmall, Bounds, DeviceSimulates, IsInBounds, IsOwned, MoveSimulates, WorldSimulates, history_for, keep_in}
 use Rattle.xml_writer.specs.Items.{ItemOut}
+use Rattle.sim_5_moves.proofs.Doing.{asked_does, asks_beside}
 
 -- one more is asked for by the device whose user asks
 one_more : (n i : ℕ) → n + 1 ≤ n + (if i == i then 1 else 0)
@@ -193,6 +194,8 @@ module _ (schedule : WireView) (right : IsLineList schedule) (b : Bounds) (small
         within = bounded;
         asked = one_more r.device.reading.asked i;
         others_asked = λ j d other. more_or_none d.reading.asked (j == i);
+        does = asked_does w i most c r.represents.there taken (Says z ∷ []) (asks_put (keep_in schedule) (history_for schedule x.takes o) c.client r.device most before);
+        others_do = asks_beside w i most;
       })
 
 -- of whichever device of the world

@@ -67,8 +67,9 @@ use Rattle.sim_5_devices.specs.Logged.{puts_of}
 use Rattle.sim_4_links_follow.proofs.Changes.{under_position}
 use Rattle.sim_5_moves.proofs.BuiltAlong.{built_along}
 use Rattle.sim_5_moves.specs.Going.{ArePutBuilt, DeviceGoes}
-use Rattle.sim_5_moves.specs.Running.{AreSmall, Bounds, DeviceSimulates, IsInBounds, IsOwned, MoveSimulates, RunsOn, WorldSimulates, history_for, keep_in}
+use Rattle.sim_5_moves.specs.Running.{AreSmall, Bounds, DeviceSimulates, IsInBounds, IsOwned, MoveSimulates, RunsOn, WorldSimulates, history_for, keep_in, DoesBy}
 use Rattle.xml_writer.specs.Items.{ItemOut}
+use Rattle.sim_5_moves.proofs.Doing.{heard_beside, heard_does}
 
 -- ---- small facts
 
@@ -174,7 +175,7 @@ module _ (schedule : WireView) (b : Bounds) (small : AreSmall b) (says : ℕ) (w
   goes_so = record {
     logins = old.logins;
     view = follows.next;
-    leads = (follows.moves, follows.leads);
+    leads = (follows.moves, follows.leads, follows.does);
     reached = reached_along follows.moves old.view follows.next p.shown.reached follows.leads;
     in_time = paging_stays follows.moves old.view follows.next old.device.sessions old.in_time follows.leads follows.prompt old.sessions (subst (λ ds. AreInTime ds old.device.sessions.now) (sym follows.does) timely);
     prompt = prompt_stays follows.moves old.view follows.next old.prompt follows.leads follows.prompt;
@@ -256,16 +257,18 @@ module _ (schedule : WireView) (b : Bounds) (small : AreSmall b) (says : ℕ) (w
     said = subst (λ l. says + length l ≤ b.says) (sym silent) (let said = runs.said in omega (arith, said));
     asked = asked_still;
     device = device_runs;
+    done = noted t.out.notes;
     leads = goes_so.leads;
     others = λ j q is other.
         subst (λ v. Represents (identity_at schedule j q) (runs.devices j q is).logins v (runs.devices j q is).view) (moved_so w position d wire z n)
         (down_leaves (identity_at schedule j q) (runs.devices j q is).logins w (runs.devices j q is).view (runs.devices j q is).represents position wire n.there (λ same. other (sym same)));
   }
 
-  world_runs : RunsOn schedule b says w x runs (says + 0) (moved (Down position) w) next_world
+  world_runs : RunsOn schedule b says w x runs (DoesBy (Down position) w) (says + 0) (moved (Down position) w) next_world
   world_runs =
-      subst (λ v. RunsOn schedule b says w x runs (says + 0) v next_world) (sym (moved_so w position d wire z n))
-      (subst (λ l. RunsOn schedule b says w x runs (says + length l) after next_world) silent (acted_on schedule b says w x runs i o after next acts))
+      subst (λ v. RunsOn schedule b says w x runs (DoesBy (Down position) w) (says + 0) v next_world) (sym (moved_so w position d wire z n))
+      (subst (λ l. RunsOn schedule b says w x runs (DoesBy (Down position) w) (says + length l) after next_world) silent
+      (acted_on schedule b says w x runs i o after next acts (DoesBy (Down position) w) (heard_does position i w d wire z n) (heard_beside position i w d wire z n)))
 
   elsewhere : (j : ℕ) (e f : Device) → slice_get x.devices j ≡ Some e → slice_get next_world.devices j ≡ Some f → (u : ItemWire) → slice_get w.wires position ≡ Some u → u.device ≢ j
       → (f.reading.asked ≡ e.reading.asked) × (IsUnanswered e → IsUnanswered f)

@@ -106,7 +106,7 @@ module _ (schedule : WireView) (b : Bounds) (says : ℕ) (w : ItemWorld) (x : Ap
     }
 
     due_runs : MoveSimulates schedule b says (UpEnd position) w x runs
-    due_runs = quiet_move schedule b says w x runs (UpEnd position) 0 refl (λ i d e same. same) (subst (λ (a : ItemWorld). SilentWorld schedule b w x a 0) (sym is_after) quiet)
+    due_runs = quiet_move schedule b says w x runs (UpEnd position) 0 refl (λ i d e same. same) (λ i. refl) (subst (λ (a : ItemWorld). SilentWorld schedule b w x a 0) (sym is_after) quiet)
 
   by_due : (wire : ItemWire) → slice_get w.wires position ≡ Some wire → (c : Bool) → is_end_due wire.up ≡ c → MoveSimulates schedule b says (UpEnd position) w x runs
   by_due wire there false early = told_runs schedule b says w x runs position wire there early

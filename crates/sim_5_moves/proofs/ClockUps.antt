@@ -46,6 +46,9 @@ use Rattle.sim_4_links_follow.proofs.StandMoves.{move_stands}
 use Rattle.sim_4_links_follow.specs.Steps.{ItemGoesUp, takes_it, takes_nothing}
 use Rattle.sim_5_moves.specs.Running.{AreSmall, Bounds, DeviceSimulates, IsOwned, MoveSimulates, WorldSimulates, keep_in, names_of}
 use Rattle.xml_writer.specs.Items.{ItemOut}
+use Rattle.sim_5_moves.proofs.ReadStanzas.{beside_unread, own_reads, silent_unread, unread_does}
+use Rattle.sim_3_images.specs.Reads.{item_reads, read_here}
+use Rattle.cmd_world.specs.Worlds.{number_at}
 
 module _ (schedule : WireView) (b : Bounds) (says : ℕ) (w : ItemWorld) (x : AppWorld) (right : IsLineList schedule) (small : AreSmall b) (runs : WorldSimulates schedule b says w x) (position : ℕ)
     (wire : ItemWire) (z : ItemOut) (items : List ItemOut) (there : slice_get w.wires position ≡ Some wire) (pipe : wire.up.items ≡ z ∷ items) (o : Owned) (owned : IsOwned schedule wire.device o)
@@ -172,5 +175,14 @@ module _ (schedule : WireView) (b : Bounds) (says : ℕ) (w : ItemWorld) (x : Ap
     within = subst (λ n. IsWithin n step.server_state) (sym many_wires) step_within;
   }
 
+  -- the server reads no stanza
+  unread : (i : ℕ) → item_reads (Up position) w i ≡ []
+  unread i = elim (cases_eq wire.device i) [
+    | inl same ↦
+        subst (λ j. item_reads (Up position) w j ≡ []) same
+        (own_reads position w wire there (z ∷ items) pipe ∙ ap (λ y. read_here (number_at position) (read_of y) w.server) (sym has.is) ∙ silent_unread who logins w.server wires v (position + 1) has.word has.first silent)
+    | inr apart ↦ beside_unread position w wire there (z ∷ items) pipe i (λ same. apart (sym same))
+  ]
+
   pub silent_runs : MoveSimulates schedule b says (Up position) w x runs
-  silent_runs = quiet_move schedule b says w x runs (Up position) 0 refl (λ i d e same. same) (subst (λ (a : ItemWorld). SilentWorld schedule b w x a 0) (sym is_after) quiet)
+  silent_runs = quiet_move schedule b says w x runs (Up position) 0 refl (λ i d e same. same) (λ i. unread_does position w i (unread i)) (subst (λ (a : ItemWorld). SilentWorld schedule b w x a 0) (sym is_after) quiet)

@@ -53,8 +53,9 @@ use Rattle.cmd_network.specs.Positions.{changed_where}
 use Rattle.cmd_world.specs.Worlds.{client_entropy, server_entropy}
 use Rattle.sim_4_links_follow.proofs.StandMoves.{move_stands, stands_dialled}
 use Rattle.sim_4_links_follow.specs.Standing.{ServerStands}
-use Rattle.sim_5_moves.specs.Running.{AreSmall, Bounds, DeviceSimulates, IsInBounds, IsOwned, MoveSimulates, RunsOn, WorldSimulates, keep_in, names_of}
+use Rattle.sim_5_moves.specs.Running.{AreSmall, Bounds, DeviceSimulates, IsInBounds, IsOwned, MoveSimulates, RunsOn, WorldSimulates, keep_in, names_of, DoesBy}
 use Rattle.xml_writer.specs.Items.{ItemOut}
+use Rattle.sim_5_moves.proofs.Doing.{without_labels}
 
 -- ---- a list of one more
 
@@ -202,9 +203,9 @@ module _ (schedule : WireView) (right : IsLineList schedule) (b : Bounds) (small
     dial_runs : MoveSimulates schedule b says (Dial i mine yours) w x runs
     dial_runs =
         let q : SilentSimulates schedule b says w x runs after = quiet_runs schedule b says w x runs taken after 0 quiet in
-        let on : RunsOn schedule b says w x runs (says + 0) (moved (Dial i mine yours) w) q.next =
-        subst (λ k. RunsOn schedule b says w x runs k (moved (Dial i mine yours) w) q.next) (let same : says ≡ says + 0 = omega arith in same)
-        (subst (λ v. RunsOn schedule b says w x runs says v q.next) (sym moved_so) q.on) in
+        let on : RunsOn schedule b says w x runs (DoesBy (Dial i mine yours) w) (says + 0) (moved (Dial i mine yours) w) q.next =
+        subst (λ k. RunsOn schedule b says w x runs (DoesBy (Dial i mine yours) w) k (moved (Dial i mine yours) w) q.next) (let same : says ≡ says + 0 = omega arith in same)
+        (subst (λ v. RunsOn schedule b says w x runs (DoesBy (Dial i mine yours) w) says v q.next) (sym moved_so) (without_labels schedule b says w x runs (DoesBy (Dial i mine yours) w) (λ j. refl) says after q.next q.on)) in
         record {
           events = q.events;
           next = q.next;

@@ -75,6 +75,7 @@ module _ (schedule : WireView) (b : Bounds) (says : ℕ) (w : ItemWorld) (x : Ap
               cut_leaves (identity_at schedule j p) (runs.devices j p q).logins w (runs.devices j p q).view (runs.devices j p q).represents position wire there (λ same. other (sym same)) up down;
           silent = refl;
           asked = λ j e f same. same.0;
+          nothing = λ j. refl;
         })
 
     -- ---- the end
@@ -99,11 +100,12 @@ module _ (schedule : WireView) (b : Bounds) (says : ℕ) (w : ItemWorld) (x : Ap
               (end_leaves (identity_at schedule j p) (runs.devices j p q).logins w (runs.devices j p q).view (runs.devices j p q).represents position wire there (λ same. other (sym same)));
           silent = refl;
           asked = λ j e f same. same.0;
+          nothing = λ j. refl;
         })
 
     -- it isn't the device's connection any more, or the end isn't due
     nothing_runs : moved (DownEnd position) w ≡ w → MoveSimulates schedule b says (DownEnd position) w x runs
-    nothing_runs same = still_runs schedule b says w x runs (DownEnd position) same refl
+    nothing_runs same = still_runs schedule b says w x runs (DownEnd position) same refl (λ i. refl)
 
     end_runs : MoveSimulates schedule b says (DownEnd position) w x runs
     end_runs = by (has_wire position d.here) refl

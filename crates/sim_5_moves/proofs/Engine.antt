@@ -1,9 +1,8 @@
 -- Where no device has a label, all drift, and the worlds are related still.
-use Rattle.std.proofs.Common.{◌≡◌, ℕ, ◌+◌, ◌≤◌, ◌<◌, List, [], ◌∷◌, ◌++◌, Some, length, refl, sym, ap, subst, ◌∙◌, append-nil, arith}
+use Rattle.std.proofs.Common.{◌≡◌, ℕ, ◌+◌, ◌≤◌, [], ◌∷◌, ◌++◌, Some, length, refl, sym, ap, subst, ◌∙◌, append-nil, arith}
 use Rattle.std.proofs.lemmas.Option.{same_Some, slice_get_within}
 use Rattle.std.specs.List.{slice_get}
 use Rattle.mam_archive.proofs.NumberedEntries.{at_position}
-use Rattle.sim_4_links_follow.specs.Following.{WorldFollows}
 use Rattle.sim_3_images.specs.Devices.{identity_at}
 use Rattle.sim_3_items.specs.Labels.{awaits}
 use Rattle.sim_3_items.specs.Identities.{Login}
@@ -11,7 +10,6 @@ use Rattle.sim_3_items.specs.Represents.{Represents}
 use Rattle.sim_3_items.specs.Items.{stanzas_read}
 use Rattle.sim_3_items.specs.ItemWorlds.{ItemWorld}
 use Rattle.sim_2_links.proofs.Reached.{link_kept}
-use Rattle.sim_2_links.proofs.WithPremises.{prompt_runs}
 use Rattle.sim_2_links.specs.Covers.{PromptReached}
 use Rattle.sim_2_links.specs.Events.{seen}
 use Rattle.sim_2_links.specs.Paging.{PagingReached}
@@ -25,11 +23,11 @@ use Rattle.sim_5_moves.specs.Silent.{SilentDevice, SilentSimulates, SilentWorld}
 use Rattle.cmd_schedule.specs.Contents.{Owned}
 use Rattle.cmd_schedule.specs.Schedules.{WireView}
 use Rattle.sim_5_devices.proofs.AllSessionSteps.{all_session_step, reaches_both, spoken_both}
-use Rattle.sim_5_devices.specs.Labels.{AllStep, HasSessionSteps, SessionStep, SessionSteps}
+use Rattle.sim_5_devices.specs.Labels.{AllStep, HasSessionSteps}
 use Rattle.sim_3_items.specs.Served.{FlagsRepresent}
 use Rattle.sim_3_items.specs.Submitted.{SubmissionsRepresent}
 use Rattle.sim_1_applications.specs.Devices.{AppWorld, Device, Sessions}
-use Rattle.sim_1_applications.specs.Events.{AppEvent, Reaches, Tick}
+use Rattle.sim_1_applications.specs.Events.{Tick}
 use Rattle.sim_1_applications.specs.Histories.{spoken_in}
 use Rattle.sim_1_applications.specs.Kept.{Taken}
 use Rattle.sim_1_applications.specs.Runs.{begins, owned_of}
@@ -43,7 +41,7 @@ use Rattle.xml_writer.specs.Items.{ItemOut}
 pub record Stands (schedule : WireView) (after : ItemWorld) (x : AppWorld) (i : ℕ) (d : Device) (last : Sessions) (o : Owned) (from : View ItemOut) : Type 0 where
   pub logins : ℕ → Login
   pub view : View ItemOut
-  pub leads : Leads from view
+  pub leads : Leads (λ ds. ds ≡ []) from view
   pub in_time : PagingReached paging_here view
   pub prompt : PromptReached awaits view
   pub represents : Represents (identity_at schedule i o) logins after view
@@ -119,7 +117,7 @@ module _ (schedule : WireView) (b : Bounds) (says : ℕ) (w : ItemWorld) (x : Ap
   next = record x { clock = x.clock + passed; devices = all.devices }
 
   abbrev Comes : (i : ℕ) (o : Owned) → IsOwned schedule i o → Type 0
-  Comes i o is = (e : DeviceSimulates schedule after next i o) × Leads (views i o is) e.view
+  Comes i o is = (e : DeviceSimulates schedule after next i o) × Leads (λ ds. ds ≡ []) (views i o is) e.view
 
   device_comes : (i : ℕ) (o : Owned) (is : IsOwned schedule i o) → Comes i o is
   device_comes i o owned =

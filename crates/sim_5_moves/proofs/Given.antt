@@ -80,7 +80,7 @@ module _ (schedule : WireView) (b : Bounds) (says : ℕ) (w : ItemWorld) (x : Ap
     g = record {
       logins = r.logins;
       view = follows.next;
-      leads = (follows.moves, follows.leads);
+      leads = (follows.moves, follows.leads, follows.does);
       reached = reached_along follows.moves r.view follows.next reached follows.leads;
       in_time = paging_stays follows.moves r.view follows.next r.device.sessions r.in_time follows.leads follows.prompt r.sessions (subst (λ ds. AreInTime ds r.device.sessions.now) (sym follows.does) tt);
       prompt = prompt_stays follows.moves r.view follows.next r.prompt follows.leads follows.prompt;
@@ -173,6 +173,8 @@ module _ (schedule : WireView) (b : Bounds) (says : ℕ) (w : ItemWorld) (x : Ap
         within = runs.asked i r.device r.there;
         asked = refl;
         others_asked = λ j d other. refl;
+        does = inr refl;
+        others_do = λ j other. inl refl;
       })
 
   -- ---- the stream is closed
@@ -224,4 +226,6 @@ module _ (schedule : WireView) (b : Bounds) (says : ℕ) (w : ItemWorld) (x : Ap
         within = runs.asked i r.device r.there;
         asked = refl;
         others_asked = λ j d other. refl;
+        does = inr refl;
+        others_do = λ j other. inl refl;
       })

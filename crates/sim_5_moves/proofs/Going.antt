@@ -10,14 +10,13 @@ use Rattle.sim_3_items.specs.Items.{stanzas_read}
 use Rattle.sim_3_items.specs.ItemWorlds.{ItemWorld}
 use Rattle.sim_2_links.proofs.WithPremises.{prompt_runs}
 use Rattle.sim_2_links.specs.Events.{seen}
-use Rattle.sim_2_events.specs.Lists.{IsDevice}
 use Rattle.sim_5_devices.proofs.Staying.{paging_stays, prompt_stays}
 use Rattle.sim_5_devices.specs.InTime.{AreInTime}
 use Rattle.cmd_schedule.specs.Contents.{Owned}
 use Rattle.cmd_schedule.specs.Schedules.{WireView}
 use Rattle.sim_5_devices.proofs.SessionLabelsSteps.{moves_done}
 use Rattle.sim_5_devices.specs.Labels.{DoesInterleaved}
-use Rattle.sim_1_applications.specs.Devices.{AppWorld, Sessions}
+use Rattle.sim_1_applications.specs.Devices.{AppWorld}
 use Rattle.sim_5_moves.proofs.BuiltAlong.{built_along}
 use Rattle.sim_5_moves.specs.Going.{AllBuilt, ArePutBuilt, DeviceGoes}
 use Rattle.sim_5_moves.specs.Running.{DeviceSimulates}
@@ -31,7 +30,7 @@ goes schedule w after x i o history done old logins f timely put built =
     record {
       logins = logins;
       view = f.next;
-      leads = (f.moves, f.leads);
+      leads = (f.moves, f.leads, f.does);
       reached = reached_along f.moves old.view f.next reached f.leads;
       in_time = paging_stays f.moves old.view f.next old.device.sessions old.in_time f.leads f.prompt old.sessions (subst (λ ds. AreInTime ds old.device.sessions.now) (sym f.does) timely);
       prompt = prompt_stays f.moves old.view f.next old.prompt f.leads f.prompt;

@@ -48,6 +48,9 @@ pub mod FullQueues
 pub mod MessageEvents
 pub mod ReplyEvents
 pub mod LabelEvents
+-- what devices do
+pub mod ReadStanzas
+pub mod Doing
 -- connections
 pub mod Still
 -- one device

@@ -37,10 +37,10 @@ use Rattle.xml_writer.specs.Items.{ItemOut}
 
 -- ---- a device, but for its place in the world of the applications, and its links before
 
-pub record Stands (schedule : WireView) (after : ItemWorld) (takes : List Take) (i : ℕ) (o : Owned) (d : Device) (from : View ItemOut) : Type 0 where
+pub record Stands (schedule : WireView) (after : ItemWorld) (takes : List Take) (i : ℕ) (o : Owned) (d : Device) (from : View ItemOut) (Does : List (Label ItemOut) → Type 0) : Type 0 where
   pub logins : ℕ → Login
   pub view : View ItemOut
-  pub leads : Leads from view
+  pub leads : Leads Does from view
   pub in_time : PagingReached paging_here view
   pub prompt : PromptReached awaits view
   pub represents : Represents (identity_at schedule i o) logins after view
@@ -52,8 +52,8 @@ pub record Stands (schedule : WireView) (after : ItemWorld) (takes : List Take) 
   pub pages : represents.device.client.pages ≡ d.reading.asked
   pub flags : FlagsRepresent (identity_at schedule i o).account o.device after.server d.sessions
 
-abbrev pub stands_run : (schedule : WireView) (after : ItemWorld) (next : AppWorld) (i : ℕ) (o : Owned) (d : Device) (from : View ItemOut) → Stands schedule after next.takes i o d from → slice_get next.devices i ≡ Some d → DeviceSimulates schedule after next i o
-stands_run schedule after next i o d from s there = record {
+abbrev pub stands_run : (schedule : WireView) (after : ItemWorld) (next : AppWorld) (i : ℕ) (o : Owned) (d : Device) (from : View ItemOut) (Does : List (Label ItemOut) → Type 0) → Stands schedule after next.takes i o d from Does → slice_get next.devices i ≡ Some d → DeviceSimulates schedule after next i o
+stands_run schedule after next i o d from Does s there = record {
   logins = s.logins;
   view = s.view;
   in_time = s.in_time;
@@ -96,12 +96,12 @@ module _ (schedule : WireView) (w : ItemWorld) (x : AppWorld) (i : ℕ) (o : Own
     same_user : old.represents.device ≡ f.represents.device
     same_user = same_Some old.represents.device f.represents.device (sym old.represents.there ∙ ap (λ (l : List ItemDevice). slice_get l i) (sym users) ∙ f.represents.there)
 
-    pub stands : (d : Device) → d.account ≡ o.account → IsDevice stanzas_read (seen f.next) d.sessions → SameUps old.device.sessions d.sessions → LogRepresents (keep_in schedule) (history_for schedule takes o) old.represents.device.client.log d.reading
-        → d.reading.asked ≡ old.device.reading.asked → FlagsRepresent (identity_at schedule i o).account o.device after.server d.sessions → Stands schedule after takes i o d old.view
-    stands d account sessions ups log asked flags = record {
+    pub stands : (Does : List (Label ItemOut) → Type 0) → Does done → (d : Device) → d.account ≡ o.account → IsDevice stanzas_read (seen f.next) d.sessions → SameUps old.device.sessions d.sessions → LogRepresents (keep_in schedule) (history_for schedule takes o) old.represents.device.client.log d.reading
+        → d.reading.asked ≡ old.device.reading.asked → FlagsRepresent (identity_at schedule i o).account o.device after.server d.sessions → Stands schedule after takes i o d old.view Does
+    stands Does so d account sessions ups log asked flags = record {
       logins = old.logins;
       view = f.next;
-      leads = (f.moves, f.leads);
+      leads = (f.moves, f.leads, subst Does (sym f.does) so);
       in_time = paging_stays f.moves old.view f.next old.device.sessions old.in_time f.leads f.prompt old.sessions (subst (λ ds. AreInTime ds old.device.sessions.now) (sym f.does) timely);
       prompt = prompt_stays f.moves old.view f.next old.prompt f.leads f.prompt;
       represents = f.represents;

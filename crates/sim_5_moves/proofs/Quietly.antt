@@ -13,7 +13,8 @@ use Rattle.sim_1_applications.proofs.Runs.{taken_along, taken_beginning}
 use Rattle.sim_1_applications.specs.Devices.{AppWorld, Device}
 use Rattle.sim_1_applications.specs.Kept.{Taken}
 use Rattle.sim_1_applications.specs.Runs.{begins, owned_of, steps_in}
-use Rattle.sim_5_moves.specs.Running.{Bounds, DeviceSimulates, IsAskedBy, MoveSimulates, RunsOn, WorldSimulates, spoken_by_move}
+use Rattle.sim_5_moves.specs.Running.{Bounds, DeviceSimulates, IsAskedBy, MoveSimulates, RunsOn, WorldSimulates, spoken_by_move, DoesBy}
+use Rattle.sim_5_moves.proofs.Doing.{without_labels}
 
 -- a device whose client does nothing
 pub quiet_device : (schedule : WireView) (w : ItemWorld) (x : AppWorld) (after : ItemWorld) (i : ℕ) (o : Owned) (old : DeviceSimulates schedule w x i o) → after.devices ≡ w.devices
@@ -34,11 +35,12 @@ module _ (schedule : WireView) (b : Bounds) (says : ℕ) (w : ItemWorld) (x : Ap
       (taken_beginning (keep_of schedule.version) (accounts_of (steps_in schedule)) (map (λ (o : Owned). o.account) (owned_of schedule)))
 
   -- by the move nobody says anything, and nobody asks for a page
-  pub quiet_move : (m : ItemMove) (passed : ℕ) → spoken_by_move m w ≡ [] → ((i : ℕ) (d e : Device) → e.reading.asked ≡ d.reading.asked → IsAskedBy m w i d e) → SilentWorld schedule b w x (moved m w) passed → MoveSimulates schedule b says m w x runs
-  quiet_move m passed silent asks quiet =
+  pub quiet_move : (m : ItemMove) (passed : ℕ) → spoken_by_move m w ≡ [] → ((i : ℕ) (d e : Device) → e.reading.asked ≡ d.reading.asked → IsAskedBy m w i d e) → ((i : ℕ) → DoesBy m w i []) → SilentWorld schedule b w x (moved m w) passed → MoveSimulates schedule b says m w x runs
+  quiet_move m passed silent asks nothing quiet =
       let q : SilentSimulates schedule b says w x runs (moved m w) = quiet_runs schedule b says w x runs taken (moved m w) passed quiet in
-      let on : RunsOn schedule b says w x runs (says + length (spoken_by_move m w)) (moved m w) q.next =
-      subst (λ n. RunsOn schedule b says w x runs n (moved m w) q.next) (let none = ap length silent in let same : says ≡ says + length (spoken_by_move m w) = omega arith in same) q.on in
+      let on : RunsOn schedule b says w x runs (DoesBy m w) (says + length (spoken_by_move m w)) (moved m w) q.next =
+      subst (λ n. RunsOn schedule b says w x runs (DoesBy m w) n (moved m w) q.next) (let none = ap length silent in let same : says ≡ says + length (spoken_by_move m w) = omega arith in same)
+      (without_labels schedule b says w x runs (DoesBy m w) nothing says (moved m w) q.next q.on) in
       record {
         events = q.events;
         next = q.next;

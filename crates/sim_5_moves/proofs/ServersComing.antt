@@ -53,6 +53,8 @@ use Rattle.sim_5_moves.specs.Going.{ArePutBuilt}
 use Rattle.sim_5_moves.specs.Running.{AreSmall, Bounds, DeviceSimulates, IsOwned, WorldSimulates, history_for, keep_in, names_of}
 use Rattle.sim_3_items.specs.Built.{IsDown}
 use Rattle.xml_writer.specs.Items.{ItemOut}
+use Rattle.sim_5_moves.proofs.ReadStanzas.{beside_unread, own_reads, stanza_read}
+use Rattle.sim_3_images.specs.Reads.{item_reads}
 
 -- ---- sessions, and the rows of the links
 
@@ -230,3 +232,12 @@ module _ (c : Coming) where
       let said = c.runs.said in
       let bounded = c.small.stanzas in
       omega (arith, takes, spoken, said, bounded)
+
+  -- ---- what the server reads
+
+  -- it is the device's stanza, and of another device there is none
+  pub read_own : item_reads (Up c.position) c.w mine ≡ c.z ∷ []
+  read_own = own_reads c.position c.w c.wire c.there (c.z ∷ c.items) c.pipe ∙ stanza_read own old.logins c.w.server (by_number c.w.wires) old.view (c.position + 1) c.z c.first c.session
+
+  pub unread_beside : (j : ℕ) → j ≢ mine → item_reads (Up c.position) c.w j ≡ []
+  unread_beside j apart = beside_unread c.position c.w c.wire c.there (c.z ∷ c.items) c.pipe j apart

@@ -16,7 +16,7 @@ use Rattle.base_io.specs.Names.{is_among}
 use Rattle.sim_3_items.specs.Downs.{down_stanza}
 use Rattle.sim_3_items.specs.Items.{stanzas_read}
 use Rattle.sim_3_items.specs.Ups.{up_stanza}
-use Rattle.sim_3_items.specs.ItemMoves.{takes_reported}
+use Rattle.sim_3_items.specs.ItemMoves.{Up, takes_reported}
 use Rattle.sim_2_links.specs.Views.{Row}
 use Rattle.sim_2_links.specs.Events.{seen}
 use Rattle.sim_2_events.specs.Lists.{IsDevice}
@@ -30,7 +30,7 @@ use Rattle.sim_5_moves.specs.Silent.{AreFlagsKept}
 use Rattle.sim_5_devices.proofs.Readings.{reading_given}
 use Rattle.cmd_schedule.specs.Contents.{Owned}
 use Rattle.sim_5_moves.proofs.Interleaved.{gives_after, heard_ends, takes_after}
-use Rattle.sim_5_moves.proofs.ServersComing.{Coming, accounts_are, acts, after, all_given, beside_is, elem, found_of, given_built, mine, old, other_given, own, own_given, row_session, run_of, server_state, session_is, speaker, step, step_is}
+use Rattle.sim_5_moves.proofs.ServersComing.{Coming, accounts_are, acts, after, all_given, beside_is, elem, found_of, given_built, mine, old, other_given, own, own_given, row_session, run_of, server_state, session_is, speaker, step, step_is, read_own, unread_beside}
 use Rattle.sim_5_moves.proofs.ServersFlags.{flags_follow, priority_kept}
 use Rattle.sim_5_moves.proofs.Links.{Stands, end, end_is, end_kept, interleaved, stands}
 use Rattle.sim_5_moves.proofs.Worlds.{HasOwner, IsHandled, IsSo, owner_of}
@@ -51,8 +51,9 @@ use Rattle.sim_5_moves.proofs.MessagesGiven.{message_given}
 use Rattle.sim_5_devices.proofs.Grown.{takes_grown}
 use Rattle.sim_5_moves.proofs.Kept.{kept_flags}
 use Rattle.sim_4_links_follow.specs.Steps.{IsGivenIn, takes_it, takes_nothing}
-use Rattle.sim_5_moves.specs.Running.{DeviceSimulates, IsOwned, history_for, keep_in, names_of}
+use Rattle.sim_5_moves.specs.Running.{DeviceSimulates, IsOwned, history_for, keep_in, names_of, DoesBy}
 use Rattle.xml_writer.specs.Items.{ItemOut}
+use Rattle.sim_5_moves.proofs.ReadStanzas.{given_does, taken_does}
 
 -- ---- who hears of a take is counted
 
@@ -164,11 +165,11 @@ module _ (c : Coming) (m : Submission) (reads : up_stanza c.z ≡ Message m) (ex
       hears_it : IsToldOf t (last_of all r.device.account) j r.device last
       hears_it = beside stanzas_read t (last_of all r.device.account) j r.device last g.given interleaved_so counted heard
 
-      other_stands : Stands c.schedule (after c) all j p (record r.device { sessions = last }) r.view
+      other_stands : Stands c.schedule (after c) all j p (record r.device { sessions = last }) r.view (DoesBy (Up c.position) c.w j)
       other_stands =
           let b = gives_after g.given r.device.sessions last interleaved_so in
           stands c.schedule c.w c.x j p r (after c) (gives_all g.given) g.follows all (gives_in_time r.device.sessions.now g.given (heard_ends (hears_of t j r.device) (last_of all r.device.account) (map down_stanza g.given) last heard))
-          (given_built p history g.given (all_given (IsDown p history) (acts c) g.given r.view.row g.follows.next.row g.are_given sent_built)) (built_taken c.schedule c.x.takes (t ∷ []) p (seen r.view) r.built) refl
+          (given_built p history g.given (all_given (IsDown p history) (acts c) g.given r.view.row g.follows.next.row g.are_given sent_built)) (built_taken c.schedule c.x.takes (t ∷ []) p (seen r.view) r.built) refl (DoesBy (Up c.position) c.w j) (given_does c.position c.w j g.given (unread_beside c j apart))
           (record r.device { sessions = last }) r.account (end_is c.schedule c.w c.x j p r (after c) (gives_all g.given) g.follows) b.ups log_so refl
           (flags_follow (identity_at c.schedule j p) r.logins (step c).server_state g.follows.next (end_kept c.schedule c.w c.x j p r (after c) (gives_all g.given) g.follows) g.follows.represents.server last
           (end_is c.schedule c.w c.x j p r (after c) (gives_all g.given) g.follows) r.device.sessions ((flags_kept (identity_at c.schedule j p).account p.device).shown r.device.sessions r.flags) b priority)
@@ -207,14 +208,14 @@ module _ (c : Coming) (m : Submission) (reads : up_stanza c.z ≡ Message m) (ex
   ends_none : EndsFor c.z given
   ends_none = (let none = heard_ends (hears_of t (mine c) (old c).device) (last_of all (old c).device.account) (map down_stanza given) own_last own_heard in omega (arith, none))
 
-  own_stands : Stands c.schedule (after c) all (mine c) c.o (record (old c).device { sessions = own_last }) (old c).view
+  own_stands : Stands c.schedule (after c) all (mine c) c.o (record (old c).device { sessions = own_last }) (old c).view (DoesBy (Up c.position) c.w (mine c))
   own_stands =
       let b = takes_after c.z given (old c).device.sessions own_last own_interleaved in
       let mine_history = history_for c.schedule all c.o in
       stands c.schedule c.w c.x (mine c) c.o (old c) (after c) (Takes c.z ∷ gives_all given) own_gives.follows all
       (takes_in_time (old c).device c.z given (device_paged c.schedule c.b c.says c.w c.x c.runs (mine c) (old c).device (old c).there) ends_none)
       (given_built c.o mine_history given (all_given (IsDown c.o mine_history) (acts c) given (old c).view.row own_gives.follows.next.row own_gives.are_given (sent_built (mine c) c.o c.owned)))
-      (built_taken c.schedule c.x.takes (t ∷ []) c.o (seen (old c).view) (old c).built) refl (record (old c).device { sessions = own_last }) (old c).account own_end b.ups (log_so (mine c) c.o c.owned) refl
+      (built_taken c.schedule c.x.takes (t ∷ []) c.o (seen (old c).view) (old c).built) refl (DoesBy (Up c.position) c.w (mine c)) (taken_does c.position c.w (mine c) c.z given (read_own c)) (record (old c).device { sessions = own_last }) (old c).account own_end b.ups (log_so (mine c) c.o c.owned) refl
       (flags_follow (own c) (old c).logins (step c).server_state own_gives.follows.next (end_kept c.schedule c.w c.x (mine c) c.o (old c) (after c) (Takes c.z ∷ gives_all given) own_gives.follows) own_gives.follows.represents.server own_last own_end
       (old c).device.sessions ((flags_kept (own c).account c.o.device).shown (old c).device.sessions (old c).flags) b (priority (mine c) c.o c.owned))
 

@@ -12,7 +12,7 @@ use Rattle.sim_5_moves.proofs.Gone.{device_paged}
 use Rattle.sim_3_items.specs.Downs.{down_stanza}
 use Rattle.sim_3_items.specs.Items.{stanzas_read}
 use Rattle.sim_3_items.specs.Ups.{up_stanza}
-use Rattle.sim_3_items.specs.ItemMoves.{takes_reported}
+use Rattle.sim_3_items.specs.ItemMoves.{Up as UpMove, takes_reported}
 use Rattle.sim_2_links.specs.Events.{seen}
 use Rattle.sim_2_links.specs.Paging.{many}
 use Rattle.sim_2_links.specs.Views.{Row}
@@ -25,7 +25,7 @@ use Rattle.sim_5_moves.specs.Silent.{AreFlagsKept}
 use Rattle.sim_5_devices.proofs.Readings.{reading_given}
 use Rattle.cmd_schedule.specs.Contents.{Owned}
 use Rattle.sim_5_moves.proofs.Interleaved.{ends_for, flagged_after, flagged_device, flagged_ups, gives_after, takes_after}
-use Rattle.sim_5_moves.proofs.ServersComing.{Coming, acts, after, all_given, found_of, given_built, mine, old, other_given, other_number, own, own_given, row_session, run_of, server_state, session_is, session_row, speaker, step, unnamed}
+use Rattle.sim_5_moves.proofs.ServersComing.{Coming, acts, after, all_given, found_of, given_built, mine, old, other_given, other_number, own, own_given, row_session, run_of, server_state, session_is, session_row, speaker, step, unnamed, read_own, unread_beside}
 use Rattle.sim_5_moves.proofs.ServersFlags.{flags_follow, priority_kept}
 use Rattle.sim_5_moves.proofs.Links.{Stands, end, end_is, end_kept, interleaved, stands}
 use Rattle.sim_5_moves.proofs.Worlds.{HasOwner, IsHandled, IsSo, owner_of}
@@ -47,8 +47,9 @@ use Rattle.sim_5_moves.proofs.GivenHere.{nothing, replied}
 use Rattle.sim_5_devices.proofs.Served.{acts_read}
 use Rattle.sim_5_moves.proofs.Kept.{kept_flags}
 use Rattle.sim_4_links_follow.specs.Steps.{IsGivenIn, takes_it, takes_nothing}
-use Rattle.sim_5_moves.specs.Running.{DeviceSimulates, IsOwned, history_for, keep_in, names_of}
+use Rattle.sim_5_moves.specs.Running.{DeviceSimulates, IsOwned, history_for, keep_in, names_of, DoesBy}
 use Rattle.xml_writer.specs.Items.{ItemOut}
+use Rattle.sim_5_moves.proofs.ReadStanzas.{given_does, taken_does}
 
 -- ---- what the server does on it
 
@@ -152,11 +153,11 @@ module _ (c : Coming) (y : Up) (is : IsReply c y) where
     flags_kept : AreFlagsKept (identity_at c.schedule j p).account p.device (server_state c) (step c).server_state
     flags_kept = kept_flags (identity_at c.schedule j p).account p.device (server_state c) (step c).server_state (is.spares (identity_at c.schedule j p).account p.device (unnamed c j p at apart))
 
-    other_stands : Stands c.schedule (after c) takes j p (record r.device { sessions = last }) r.view
+    other_stands : Stands c.schedule (after c) takes j p (record r.device { sessions = last }) r.view (DoesBy (UpMove c.position) c.w j)
     other_stands =
         let b = gives_after g.given r.device.sessions last others_interleaved in
         stands c.schedule c.w c.x j p r (after c) (gives_all g.given) g.follows takes (gives_in_time r.device.sessions.now g.given (ap (λ zs. many is_end (map down_stanza zs)) nothing_given))
-        (given_built p history g.given (subst (AllByRecursion (IsDown p history)) (sym nothing_given) tt)) r.built refl (record r.device { sessions = last }) r.account
+        (given_built p history g.given (subst (AllByRecursion (IsDown p history)) (sym nothing_given) tt)) r.built refl (DoesBy (UpMove c.position) c.w j) (given_does c.position c.w j g.given (unread_beside c j apart)) (record r.device { sessions = last }) r.account
         (end_is c.schedule c.w c.x j p r (after c) (gives_all g.given) g.follows) b.ups r.log refl
         (flags_follow (identity_at c.schedule j p) r.logins (step c).server_state g.follows.next (end_kept c.schedule c.w c.x j p r (after c) (gives_all g.given) g.follows) g.follows.represents.server last
         (end_is c.schedule c.w c.x j p r (after c) (gives_all g.given) g.follows) r.device.sessions (flags_kept.shown r.device.sessions r.flags) b
@@ -214,13 +215,13 @@ module _ (c : Coming) (y : Up) (is : IsReply c y) where
       (flagged y (own_last c)) (flagged_device y (seen (own_gives c).follows.next) (own_last c) (own_end c)) (flagged y d) represents back
       (λ s found. (represents (λ none. let bad : Present ≡ NoRow = sym (is_here c) ∙ none in let no_way : ⊥ = cc in no_way) s found).2)
 
-  own_stands : Stands c.schedule (after c) takes (mine c) c.o following (old c).view
+  own_stands : Stands c.schedule (after c) takes (mine c) c.o following (old c).view (DoesBy (UpMove c.position) c.w (mine c))
   own_stands =
       let b = takes_after c.z (given c) (old c).device.sessions (own_last c) (own_interleaved c) in
       let history = history_for c.schedule takes c.o in
       stands c.schedule c.w c.x (mine c) c.o (old c) (after c) (Takes c.z ∷ gives_all (given c)) (own_gives c).follows takes
       (takes_in_time (old c).device c.z (given c) (device_paged c.schedule c.b c.says c.w c.x c.runs (mine c) (old c).device (old c).there) ends_few)
-      (given_built c.o history (given c) (all_given (IsDown c.o history) (acts c) (given c) (old c).view.row (own_gives c).follows.next.row (own_gives c).are_given sent_built)) (old c).built refl following (old c).account
+      (given_built c.o history (given c) (all_given (IsDown c.o history) (acts c) (given c) (old c).view.row (own_gives c).follows.next.row (own_gives c).are_given sent_built)) (old c).built refl (DoesBy (UpMove c.position) c.w (mine c)) (taken_does c.position c.w (mine c) c.z (given c) (read_own c)) following (old c).account
       (flagged_device y (seen (own_gives c).follows.next) (own_last c) (own_end c)) (flagged_ups y (old c).device.sessions (own_last c) b.ups) log_so (same_asked a y (old c).device.reading) flags_so
 
   pub reply_is_handled : IsHandled c takes

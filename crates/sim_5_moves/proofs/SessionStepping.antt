@@ -44,7 +44,7 @@ use Rattle.sim_1_applications.specs.Histories.{Spoken, spoken_in}
 use Rattle.sim_1_applications.specs.Stanzas.{answers}
 use Rattle.sim_5_moves.proofs.BuiltAlong.{built_along}
 use Rattle.sim_5_moves.specs.Going.{ArePutBuilt}
-use Rattle.sim_5_moves.specs.Running.{Bounds, DeviceSimulates, IsAskedBy, IsOwned, MoveSimulates, RunsOn, WorldSimulates, history_for, keep_in, spoken_by_move}
+use Rattle.sim_5_moves.specs.Running.{Bounds, DeviceSimulates, IsAskedBy, IsOwned, MoveSimulates, RunsOn, WorldSimulates, history_for, keep_in, spoken_by_move, DoesBy}
 
 -- nor asks, and nothing comes to the client
 abbrev pub IsStill : Device → Device → Type 0
@@ -70,6 +70,7 @@ module _ (schedule : WireView) (b : Bounds) (says : ℕ) (m : ItemMove) (w : Ite
     pub others : (j : ℕ) (p : Owned) (q : IsOwned schedule j p) → j ≢ i → Represents (identity_at schedule j p) (runs.devices j p q).logins after (runs.devices j p q).view
     pub silent : spoken_by_move m w ≡ []
     pub asked : (j : ℕ) (d e : Device) → IsStill d e → IsAskedBy m w j d e
+    pub nothing : (j : ℕ) → DoesBy m w j []
 
   module _ (after : ItemWorld) (c : IsSessionStep after) where
     abbrev f : WorldFollows who old.logins after old.view []
@@ -150,7 +151,8 @@ module _ (schedule : WireView) (b : Bounds) (says : ℕ) (m : ItemMove) (w : Ite
       said = subst (λ (l : List Spoken). says + length l ≤ b.says) (sym silent) (let said = runs.said in omega (arith, said));
       asked = runs.asked i old.device old.there;
       device = device_runs;
-      leads = (f.moves, f.leads);
+      done = [];
+      leads = (f.moves, f.leads, f.does);
       others = c.others;
     }
 
@@ -169,10 +171,11 @@ module _ (schedule : WireView) (b : Bounds) (says : ℕ) (m : ItemMove) (w : Ite
             let apart : j ≢ i = (λ e. let same : (j == i) ≡ true = (Decides-eqb j i).1 e in absurd (let no_way : ⊥ = cc in no_way)) in
             subst (IsStill d) (same_Some d e (sym there ∙ sym (set_elsewhere x.devices i j new apart) ∙ following)) (refl, λ none. none)
 
-    on : RunsOn schedule b says w x runs (says + length (spoken_by_move m w)) (moved m w) next
+    on : RunsOn schedule b says w x runs (DoesBy m w) (says + length (spoken_by_move m w)) (moved m w) next
     on =
-        subst (λ v. RunsOn schedule b says w x runs (says + length (spoken_by_move m w)) v next) (sym c.is)
-        (subst (λ (l : List Spoken). RunsOn schedule b says w x runs (says + length l) after next) (silent ∙ sym c.silent) (acted_on schedule b says w x runs i o after new acts))
+        subst (λ v. RunsOn schedule b says w x runs (DoesBy m w) (says + length (spoken_by_move m w)) v next) (sym c.is)
+        (subst (λ (l : List Spoken). RunsOn schedule b says w x runs (DoesBy m w) (says + length l) after next) (silent ∙ sym c.silent)
+        (acted_on schedule b says w x runs i o after new acts (DoesBy m w) (c.nothing i) (λ j other. c.nothing j)))
 
     pub session_step_runs : MoveSimulates schedule b says m w x runs
     session_step_runs = record {

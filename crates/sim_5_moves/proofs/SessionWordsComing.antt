@@ -53,8 +53,9 @@ use Rattle.sim_1_applications.specs.Histories.{spoken_in}
 use Rattle.sim_5_devices.proofs.Served.{same_told}
 use Rattle.sim_5_moves.proofs.BuiltAlong.{built_along}
 use Rattle.sim_5_moves.specs.Going.{ArePutBuilt}
-use Rattle.sim_5_moves.specs.Running.{Bounds, DeviceSimulates, IsInBounds, IsOwned, MoveSimulates, RunsOn, WorldSimulates, history_for, keep_in}
+use Rattle.sim_5_moves.specs.Running.{Bounds, DeviceSimulates, IsInBounds, IsOwned, MoveSimulates, RunsOn, WorldSimulates, history_for, keep_in, DoesBy}
 use Rattle.xml_writer.specs.Items.{ItemOut}
+use Rattle.sim_5_moves.proofs.Doing.{heard_beside, heard_does}
 
 -- ---- what comes
 
@@ -215,16 +216,18 @@ module _ (schedule : WireView) (b : Bounds) (says : ℕ) (w : ItemWorld) (x : Ap
       said = subst (λ l. says + length l ≤ b.says) (sym h.silent) (let said = c.runs.said in omega (arith, said));
       asked = asked_still;
       device = device_runs;
-      leads = (follows.moves, follows.leads);
+      done = noted t.out.notes;
+      leads = (follows.moves, follows.leads, follows.does);
       others = λ j q is other.
           subst (λ v. Represents (identity_at schedule j q) (c.runs.devices j q is).logins v (c.runs.devices j q is).view) (moved_so w c.position d c.wire c.z c.item)
           (down_leaves (identity_at schedule j q) (c.runs.devices j q is).logins w (c.runs.devices j q is).view (c.runs.devices j q is).represents c.position c.wire c.item.there (λ same. other (sym same)));
     }
 
-    world_runs : RunsOn schedule b says w x c.runs (says + 0) (moved (Down c.position) w) next_world
+    world_runs : RunsOn schedule b says w x c.runs (DoesBy (Down c.position) w) (says + 0) (moved (Down c.position) w) next_world
     world_runs =
-        subst (λ v. RunsOn schedule b says w x c.runs (says + 0) v next_world) (sym (moved_so w c.position d c.wire c.z c.item))
-        (subst (λ l. RunsOn schedule b says w x c.runs (says + length l) after next_world) h.silent (acted_on schedule b says w x c.runs i c.o after next acts))
+        subst (λ v. RunsOn schedule b says w x c.runs (DoesBy (Down c.position) w) (says + 0) v next_world) (sym (moved_so w c.position d c.wire c.z c.item))
+        (subst (λ l. RunsOn schedule b says w x c.runs (DoesBy (Down c.position) w) (says + length l) after next_world) h.silent
+        (acted_on schedule b says w x c.runs i c.o after next acts (DoesBy (Down c.position) w) (heard_does c.position i w d c.wire c.z c.item) (heard_beside c.position i w d c.wire c.z c.item)))
 
     elsewhere : (j : ℕ) (e f : Device) → slice_get x.devices j ≡ Some e → slice_get next_world.devices j ≡ Some f → (u : ItemWire) → slice_get w.wires c.position ≡ Some u → u.device ≢ j
         → (f.reading.asked ≡ e.reading.asked) × (IsUnanswered e → IsUnanswered f)

@@ -31,6 +31,7 @@ use Rattle.sim_1_applications.specs.Devices.{AppWorld}
 use Rattle.sim_4_links_follow.proofs.Changes.{under_position}
 use Rattle.sim_5_moves.specs.Running.{Bounds, DeviceSimulates, IsOwned, MoveSimulates, WorldSimulates}
 use Rattle.xml_writer.specs.Items.{ItemOut}
+use Rattle.sim_5_moves.proofs.Doing.{heard_nothing}
 
 module _ (schedule : WireView) (b : Bounds) (says : ℕ) (w : ItemWorld) (x : AppWorld) (runs : WorldSimulates schedule b says w x) (position : ℕ) (wire : ItemWire) (o : Owned) (owned : IsOwned schedule wire.device o) where
   abbrev i : ℕ
@@ -65,6 +66,7 @@ module _ (schedule : WireView) (b : Bounds) (says : ℕ) (w : ItemWorld) (x : Ap
             (down_leaves (identity_at schedule j p) (runs.devices j p q).logins w (runs.devices j p q).view (runs.devices j p q).represents position wire n.there (λ same. other (sym same)));
         silent = refl;
         asked = λ j e f same. ((λ none. (same.0, same.1 none), inl same.0), λ u there apart. same);
+        nothing = heard_nothing position i w d wire z n calm.notes;
       })
 
   pub quiet_word_runs : (word : DownWord ItemOut) → IsSilentWord word → (p : IsNextDown who old.logins d (by_number w.wires) old.view (position + 1) word)

@@ -94,7 +94,7 @@ module _ (schedule : WireView) (b : Bounds) (says : ℕ) (w : ItemWorld) (x : Ap
     g = record {
       logins = r.logins;
       view = follows.next;
-      leads = (follows.moves, follows.leads);
+      leads = (follows.moves, follows.leads, follows.does);
       reached = reached_along follows.moves r.view follows.next reached follows.leads;
       in_time = paging_stays follows.moves r.view follows.next r.device.sessions r.in_time follows.leads follows.prompt r.sessions (subst (λ ds. AreInTime ds r.device.sessions.now) (sym follows.does) timely);
       prompt = prompt_stays follows.moves r.view follows.next r.prompt follows.leads follows.prompt;

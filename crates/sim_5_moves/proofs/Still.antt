@@ -14,7 +14,9 @@ use Rattle.sim_3_items.specs.ItemPipes.{ItemWire, is_end_due}
 use Rattle.sim_3_items.specs.ItemWorlds.{ItemDevice, ItemWorld, silent_client_step}
 use Rattle.cmd_schedule.specs.Schedules.{WireView}
 use Rattle.sim_1_applications.specs.Devices.{AppWorld, Device}
-use Rattle.sim_5_moves.specs.Running.{Bounds, IsAskedBy, MoveSimulates, RunsOn, WorldSimulates, said_at, spoken_by_move, spoken_where}
+use Rattle.sim_5_moves.specs.Running.{Bounds, IsAskedBy, MoveSimulates, RunsOn, WorldSimulates, said_at, spoken_by_move, spoken_where, DoesBy}
+use Rattle.sim_5_moves.proofs.Doing.{nobody_does, none_does, refused_does, unasked_does}
+use Rattle.sim_5_moves.proofs.ReadStanzas.{nothing_read, unread_does}
 
 more_or_none : (b : Bool) (n : ℕ) → n ≤ n + (if b then 1 else 0)
 more_or_none true n = omega arith
@@ -35,8 +37,8 @@ asked_same (DownEnd position) w i d = refl
 asked_same (Cut position up down) w i d = refl
 
 module _ (schedule : WireView) (b : Bounds) (says : ℕ) (w : ItemWorld) (x : AppWorld) (runs : WorldSimulates schedule b says w x) where
-  pub still_runs : (m : ItemMove) → moved m w ≡ w → spoken_by_move m w ≡ [] → MoveSimulates schedule b says m w x runs
-  still_runs m same silent = record {
+  pub still_runs : (m : ItemMove) → moved m w ≡ w → spoken_by_move m w ≡ [] → ((i : ℕ) → DoesBy m w i []) → MoveSimulates schedule b says m w x runs
+  still_runs m same silent nothing = record {
     events = [];
     next = x;
     reaches = refl;
@@ -46,10 +48,10 @@ module _ (schedule : WireView) (b : Bounds) (says : ℕ) (w : ItemWorld) (x : Ap
     links = on.links;
   }
     where
-      on : RunsOn schedule b says w x runs (says + length (spoken_by_move m w)) (moved m w) x
+      on : RunsOn schedule b says w x runs (DoesBy m w) (says + length (spoken_by_move m w)) (moved m w) x
       on =
-          subst (λ n. RunsOn schedule b says w x runs n (moved m w) x) (let none = ap length silent in let e : says ≡ says + length (spoken_by_move m w) = omega arith in e)
-          (subst (λ v. RunsOn schedule b says w x runs says v x) (sym same) (record { runs = runs; links = λ i o is. ([], refl) }))
+          subst (λ n. RunsOn schedule b says w x runs (DoesBy m w) n (moved m w) x) (let none = ap length silent in let e : says ≡ says + length (spoken_by_move m w) = omega arith in e)
+          (subst (λ v. RunsOn schedule b says w x runs (DoesBy m w) says v x) (sym same) (record { runs = runs; links = λ i o is. ([], refl, nothing i) }))
 
   -- ---- of nobody
 
@@ -67,18 +69,18 @@ module _ (schedule : WireView) (b : Bounds) (says : ℕ) (w : ItemWorld) (x : Ap
   nobody_speaks (Cut position up down) none = refl
 
   pub nobody_runs : (m : ItemMove) → IsOfNobody m w → MoveSimulates schedule b says m w x runs
-  nobody_runs m none = still_runs m (of_nobody m w none) (nobody_speaks m none)
+  nobody_runs m none = still_runs m (of_nobody m w none) (nobody_speaks m none) (nobody_does m w none)
 
   -- ---- nothing to hand over
 
   pub up_runs : (position : ℕ) (wire : ItemWire) → slice_get w.wires position ≡ Some wire → wire.up.items ≡ [] → MoveSimulates schedule b says (Up position) w x runs
-  up_runs position wire there none = still_runs (Up position) (nothing_up w position wire there none) refl
+  up_runs position wire there none = still_runs (Up position) (nothing_up w position wire there none) refl (λ i. unread_does position w i (nothing_read position w wire there none i))
 
   pub told_runs : (position : ℕ) (wire : ItemWire) → slice_get w.wires position ≡ Some wire → is_end_due wire.up ≡ false → MoveSimulates schedule b says (UpEnd position) w x runs
-  told_runs position wire there due = still_runs (UpEnd position) (not_over w position wire there due) refl
+  told_runs position wire there due = still_runs (UpEnd position) (not_over w position wire there due) refl (λ i. refl)
 
   pub down_runs : (position : ℕ) (wire : ItemWire) → slice_get w.wires position ≡ Some wire → IsOnNone position wire w → MoveSimulates schedule b says (Down position) w x runs
-  down_runs position wire there none = still_runs (Down position) (nothing_down w position wire there none) refl
+  down_runs position wire there none = still_runs (Down position) (nothing_down w position wire there none) refl (none_does position wire w there none)
 
   -- ---- refused
 
@@ -87,8 +89,9 @@ module _ (schedule : WireView) (b : Bounds) (says : ℕ) (w : ItemWorld) (x : Ap
       still_runs (Say position to text private)
       (ap (λ o. said_by position to text private o w) there ∙ ap (λ r. said_in r position d (says_client_step in_items (silent_client_step d.client) to text private) w) answer)
       (ap (said_at position to text private) there ∙ ap (λ r. spoken_where r (record { device = position; to = local_part_of to; text = text; private = private })) answer)
+      (refused_does w position to text private d fault there answer)
 
   pub asks_refused : (position most : ℕ) (d : ItemDevice) (fault : CatchUpStart) → slice_get w.devices position ≡ Some d → catch_up_answer d.client ≡ Err fault → MoveSimulates schedule b says (CatchUp position most) w x runs
   asks_refused position most d fault there answer =
       still_runs (CatchUp position most)
-      (ap (λ o. caught_up_by position most o w) there ∙ ap (λ r. said_in r position d (catches_up in_items (silent_client_step d.client) most) w) answer) refl
+      (ap (λ o. caught_up_by position most o w) there ∙ ap (λ r. said_in r position d (catches_up in_items (silent_client_step d.client) most) w) answer) refl (unasked_does w position most d fault there answer)

@@ -50,6 +50,7 @@ use Rattle.sim_4_links_follow.proofs.Downs.{say_in}
 use Rattle.sim_5_moves.specs.Going.{DeviceGoes}
 use Rattle.sim_5_moves.specs.Running.{AreSmall, Bounds, DeviceSimulates, IsInBounds, IsOwned, MoveSimulates, WorldSimulates, history_for, keep_in, said_at, spoken_by_move, spoken_where}
 use Rattle.xml_writer.specs.Items.{ItemOut}
+use Rattle.sim_5_moves.proofs.Doing.{said_does, says_beside}
 
 module _ (schedule : WireView) (right : IsLineList schedule) (b : Bounds) (small : AreSmall b) (says : ℕ) (w : ItemWorld) (x : AppWorld) (runs : WorldSimulates schedule b says w x) (i : ℕ) (o : Owned) (owned : IsOwned schedule i o) (name text : List ℕ) (private : Bool)
     (named : is_name name ≡ true) (plain : is_text text ≡ true) (more : says + 1 ≤ b.says) (n : ℕ) (taken : say_answer (runs.devices i o owned).represents.device.client text ≡ Ok n) where
@@ -184,6 +185,8 @@ module _ (schedule : WireView) (right : IsLineList schedule) (b : Bounds) (small
         within = runs.asked i r.device r.there;
         asked = refl;
         others_asked = λ j d other. refl;
+        does = said_does w i (bare_address name) text private c n r.represents.there taken (Says z ∷ []) (says_put o c.client r.device.sessions name text private before);
+        others_do = says_beside w i (bare_address name) text private;
       })
 
 -- whatever the address is

@@ -21,7 +21,7 @@ pub tick_runs : (schedule : WireView) (b : Bounds) (says milliseconds : ℕ) (w 
 tick_runs schedule b says milliseconds w x runs =
     let later = w.moment + milliseconds in
     let after : ItemWorld = moved (Tick milliseconds) w in
-    quiet_move schedule b says w x runs (Tick milliseconds) milliseconds refl (λ i d e same. same) (record {
+    quiet_move schedule b says w x runs (Tick milliseconds) milliseconds refl (λ i d e same. same) (λ i. refl) (record {
       devices = λ i o is old.
           quiet_device schedule w x after i o old refl (tick_in (identity_at schedule i o) old.logins w old.view milliseconds old.represents)
           (inl (kept_flags (identity_at schedule i o).account o.device w.server after.server (λ d represents. moment_flags w.server (identity_at schedule i o).account o.device d runs.within.ordered.sessions represents later)));

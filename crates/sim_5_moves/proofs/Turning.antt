@@ -25,7 +25,7 @@ use Rattle.sim_1_applications.specs.Events.{Act, AppEvent, At, May, around, own,
 use Rattle.sim_1_applications.specs.Histories.{Spoken, spoken_in}
 use Rattle.xml_writer.specs.Items.{ItemOut}
 use Rattle.sim_5_moves.specs.Going.{DeviceGoes}
-use Rattle.sim_5_moves.specs.Running.{Bounds, DeviceSimulates, IsAskedBy, IsOwned, MoveSimulates, RunsOn, WorldSimulates, history_for, keep_in, spoken_by_move}
+use Rattle.sim_5_moves.specs.Running.{Bounds, DeviceSimulates, IsAskedBy, IsOwned, MoveSimulates, RunsOn, WorldSimulates, history_for, keep_in, spoken_by_move, DoesBy}
 
 module _ (schedule : WireView) (b : Bounds) (says : ℕ) (m : ItemMove) (w : ItemWorld) (x : AppWorld) (runs : WorldSimulates schedule b says w x) (i : ℕ) (o : Owned) (owned : IsOwned schedule i o) where
   abbrev pub device_at : DeviceSimulates schedule w x i o
@@ -56,6 +56,8 @@ module _ (schedule : WireView) (b : Bounds) (says : ℕ) (m : ItemMove) (w : Ite
     pub within : (acted_by act there).reading.asked ≤ b.pages + 1
     pub asked : IsAskedBy m w i old (acted_by act there)
     pub others_asked : (j : ℕ) (d : Device) → j ≢ i → IsAskedBy m w j d d
+    pub does : DoesBy m w i done
+    pub others_do : (j : ℕ) → j ≢ i → DoesBy m w j []
 
   module _ (alone : IsOneDevice i w (moved m w)) (fits : FitsHere (moved m w)) (others : (j : ℕ) (p : Owned) (is : IsOwned schedule j p) → j ≢ i → Represents (identity_at schedule j p) (runs.devices j p is).logins (moved m w) (runs.devices j p is).view)
       (done : List (Label ItemOut)) (g : DeviceGoes schedule (moved m w) i o (history_for schedule x.takes o) done old.sessions device_at.view) (xs : List SessionStep) (there : Sessions) (session_steps : SessionSteps xs old.sessions there) (act : Act) (t : IsClientStep done g act there) where
@@ -95,12 +97,15 @@ module _ (schedule : WireView) (b : Bounds) (says : ℕ) (m : ItemMove) (w : Ite
         pages = t.pages;
         flags = subst (λ h. FlagsRepresent (identity_at schedule i o).account o.device h new.sessions) (sym alone.server) t.flags;
       };
+      done = done;
       leads = g.leads;
       others = others;
     }
 
-    on : RunsOn schedule b says w x runs (says + length (spoken_by_move m w)) (moved m w) (with_device i new x)
-    on = subst (λ (l : List Spoken). RunsOn schedule b says w x runs (says + length l) (moved m w) (with_device i new x)) all_spoken (acted_on schedule b says w x runs i o (moved m w) new acts)
+    on : RunsOn schedule b says w x runs (DoesBy m w) (says + length (spoken_by_move m w)) (moved m w) (with_device i new x)
+    on =
+        subst (λ (l : List Spoken). RunsOn schedule b says w x runs (DoesBy m w) (says + length l) (moved m w) (with_device i new x)) all_spoken
+        (acted_on schedule b says w x runs i o (moved m w) new acts (DoesBy m w) t.does t.others_do)
 
     pub move_runs : MoveSimulates schedule b says m w x runs
     move_runs = record {

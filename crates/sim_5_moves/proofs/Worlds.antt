@@ -33,17 +33,17 @@ use Rattle.sim_5_moves.proofs.Wires.{at_same, emitted_same, same_twice}
 use Rattle.cmd_network.specs.Positions.{changed_at}
 use Rattle.sim_4_links_follow.proofs.Headers.{item_may_go_up}
 use Rattle.sim_4_links_follow.proofs.StandMoves.{move_stands}
-use Rattle.sim_5_moves.specs.Running.{DeviceSimulates, IsOwned, Leads, MoveSimulates, RunsOn, WorldSimulates, keep_in, names_of}
+use Rattle.sim_5_moves.specs.Running.{DeviceSimulates, IsOwned, Leads, MoveSimulates, RunsOn, WorldSimulates, keep_in, names_of, DoesBy}
 
 -- another device, with these sessions
 abbrev pub IsSo : Coming → List Take → ℕ → Device → Sessions → Type 0
-IsSo c takes j e last = (p : Owned) × (is : IsOwned c.schedule j p) × Stands c.schedule (after c) takes j p (record e { sessions = last }) (c.runs.devices j p is).view
+IsSo c takes j e last = (p : Owned) × (is : IsOwned c.schedule j p) × Stands c.schedule (after c) takes j p (record e { sessions = last }) (c.runs.devices j p is).view (DoesBy (Up c.position) c.w j)
 
 -- the device whose stanza it is, the others, and the server
 pub record IsHandled (c : Coming) (takes : List Take) : Type 0 where
   pub following : Device
   pub handled : AreHandled (IsSo c takes) c.x (mine c) following takes
-  pub stands : Stands c.schedule (after c) takes (mine c) c.o following (old c).view
+  pub stands : Stands c.schedule (after c) takes (mine c) c.o following (old c).view (DoesBy (Up c.position) c.w (mine c))
   pub asked : following.reading.asked ≡ (old c).device.reading.asked
   pub server : ServerSimulates (keep_in c.schedule) (owned_of c.schedule) (names_of c.schedule) takes (step c).server_state
   pub told : c.w.takes ++ takes_reported c.w.moment (step c).outs ≡ map (take_reported (owned_of c.schedule)) takes
@@ -69,17 +69,17 @@ module _ (c : Coming) (takes : List Take) (n : IsHandled c takes) where
   -- ---- devices
 
   abbrev Comes : (j : ℕ) (p : Owned) → IsOwned c.schedule j p → Type 0
-  Comes j p is = (e : DeviceSimulates c.schedule (after c) next j p) × Leads (c.runs.devices j p is).view e.view
+  Comes j p is = (e : DeviceSimulates c.schedule (after c) next j p) × Leads (DoesBy (Up c.position) c.w j) (c.runs.devices j p is).view e.view
 
   device_comes : (j : ℕ) (p : Owned) (is : IsOwned c.schedule j p) → Comes j p is
   device_comes j p is = elim (cases_eq (mine c) j) [
     | inl same ↦
         subst (λ k. (q : Owned) (at : IsOwned c.schedule k q) → Comes k q at) same
-        (of_owner c.schedule (mine c) (Comes (mine c)) c.o c.owned (stands_run c.schedule (after c) next (mine c) c.o n.following (old c).view n.stands n.handled.here, n.stands.leads)) p is
+        (of_owner c.schedule (mine c) (Comes (mine c)) c.o c.owned (stands_run c.schedule (after c) next (mine c) c.o n.following (old c).view (DoesBy (Up c.position) c.w (mine c)) n.stands n.handled.here, n.stands.leads)) p is
     | inr apart ↦
         let r = c.runs.devices j p is in
         let it = n.handled.each j r.device r.there (λ same. apart (sym same)) in
-        of_owner c.schedule j (Comes j) it.1.0 it.1.1 (stands_run c.schedule (after c) next j it.1.0 (record r.device { sessions = it.0 }) (c.runs.devices j it.1.0 it.1.1).view it.1.2 it.2, it.1.2.leads) p is
+        of_owner c.schedule j (Comes j) it.1.0 it.1.1 (stands_run c.schedule (after c) next j it.1.0 (record r.device { sessions = it.0 }) (c.runs.devices j it.1.0 it.1.1).view (DoesBy (Up c.position) c.w j) it.1.2 it.2, it.1.2.leads) p is
   ]
 
   after_it : (j : ℕ) (e : Device) → slice_get c.x.devices j ≡ Some e → (f : Device) × (slice_get next.devices j ≡ Some f) × (f.reading.asked ≡ e.reading.asked)
@@ -154,10 +154,10 @@ module _ (c : Coming) (takes : List Take) (n : IsHandled c takes) where
     within = subst (λ k. IsWithin k (step c).server_state) (sym many_wires) step_within;
   }
 
-  on : RunsOn c.schedule c.b c.says c.w c.x c.runs (c.says + 0) (moved (Up c.position) c.w) next
+  on : RunsOn c.schedule c.b c.says c.w c.x c.runs (DoesBy (Up c.position) c.w) (c.says + 0) (moved (Up c.position) c.w) next
   on =
-      subst (λ k. RunsOn c.schedule c.b c.says c.w c.x c.runs k (moved (Up c.position) c.w) next) (let same : c.says ≡ c.says + 0 = omega arith in same)
-      (subst (λ (a : ItemWorld). RunsOn c.schedule c.b c.says c.w c.x c.runs c.says a next) (sym (is_after c)) (record { runs = world_runs; links = λ j p is. (device_comes j p is).1 }))
+      subst (λ k. RunsOn c.schedule c.b c.says c.w c.x c.runs (DoesBy (Up c.position) c.w) k (moved (Up c.position) c.w) next) (let same : c.says ≡ c.says + 0 = omega arith in same)
+      (subst (λ (a : ItemWorld). RunsOn c.schedule c.b c.says c.w c.x c.runs (DoesBy (Up c.position) c.w) c.says a next) (sym (is_after c)) (record { runs = world_runs; links = λ j p is. (device_comes j p is).1 }))
 
   pub handled_runs : MoveSimulates c.schedule c.b c.says (Up c.position) c.w c.x c.runs
   handled_runs = record {

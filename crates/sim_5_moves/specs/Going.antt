@@ -37,7 +37,7 @@ AllBuilt o history s = (q : ℕ) (t : SeenSession ItemOut) → s.sessions q ≡ 
 pub record DeviceGoes (schedule : WireView) (w : ItemWorld) (i : ℕ) (o : Owned) (history : List EntryView) (done : List (Label ItemOut)) (was : Sessions) (from : View ItemOut) : Type 0 where
   pub logins : ℕ → Login
   pub view : View ItemOut
-  pub leads : Leads from view
+  pub leads : Leads (λ ds. ds ≡ done) from view
   pub reached : LinkReached view
   pub in_time : PagingReached paging_here view
   pub prompt : PromptReached awaits view

@@ -1,17 +1,20 @@
 -- A world of items beside the world of the two applications over sessions: of each device the links, whose stanzas are those
 -- of its sessions, and what its client has; and what the server has.
-use Rattle.std.specs.Prelude.{◌≡◌, ◌≢◌, ◌⊎◌, ℕ, ◌+◌, ◌*◌, ◌≤◌, ◌<◌, ◌^◌, ◌==◌, All, Bool, List, [], ◌∷◌, Option, None, Some, Result, Ok, Err, if◌then◌else◌, length, map, slice_get}
+use Rattle.std.specs.Prelude.{◌≡◌, ◌≢◌, ◌⊎◌, ℕ, ◌+◌, ◌*◌, ◌≤◌, ◌<◌, ◌^◌, ◌==◌, ◌++◌, All, Bool, List, [], ◌∷◌, Option, None, Some, Result, Ok, Err, if◌then◌else◌, length, map, slice_get}
 use Rattle.mam_archive.specs.Entries.{EntryView}
 use Rattle.sim_3_images.specs.Devices.{identity_at}
-use Rattle.sim_3_items.specs.Labels.{awaits}
+use Rattle.sim_3_items.specs.Labels.{Drops, Label, Takes, awaits, gives_all, labels_of}
 use Rattle.sim_3_items.specs.Identities.{Login}
 use Rattle.sim_3_items.specs.Represents.{Represents}
 use Rattle.sim_3_images.specs.Stands.{ServerStateStands}
 use Rattle.sim_3_images.specs.Fitting.{FitsHere}
+use Rattle.sim_3_images.specs.Notes.{item_notes}
+use Rattle.sim_3_images.specs.Reads.{item_reads}
+use Rattle.sim_3_items.specs.Reading.{noted}
 use Rattle.sim_3_items.specs.Items.{stanzas_read}
 use Rattle.sim_3_items.specs.ItemPipes.{ItemWire}
 use Rattle.sim_3_items.specs.Told.{local_part_of}
-use Rattle.sim_3_items.specs.ItemMoves.{CatchUp, Dial, Down, ItemMove, Say, moved}
+use Rattle.sim_3_items.specs.ItemMoves.{CatchUp, Close, Dial, Down, Forget, ItemMove, Say, Up, moved}
 use Rattle.sim_3_items.specs.ItemWorlds.{ItemDevice, ItemWorld}
 use Rattle.cl_core.specs.UserCalls.{say_answer}
 use Rattle.sim_1_applications.specs.Counts.{IsUnanswered}
@@ -121,14 +124,15 @@ pub record WorldSimulates (schedule : WireView) (b : Bounds) (says : ℕ) (w : I
   pub stands : ServerStateStands (length w.wires) w.server
   pub within : IsWithin (length w.wires) w.server
 
--- Moves of the links lead from the one to the other.
-abbrev pub Leads : View ItemOut → View ItemOut → Type 0
-Leads v next = (moves : List (LinkMove ItemOut)) × LinkReaches moves v next
+-- Moves of the links lead from the one to the other, and their labels are as is said.
+abbrev pub Leads : (List (Label ItemOut) → Type 0) → View ItemOut → View ItemOut → Type 0
+Leads Does v next = (moves : List (LinkMove ItemOut)) × LinkReaches moves v next × Does (labels_of moves)
 
--- A world that is beside one of the applications, to which another one came: for each device moves of its links led there.
-pub record RunsOn (schedule : WireView) (b : Bounds) (says : ℕ) (w : ItemWorld) (x : AppWorld) (before : WorldSimulates schedule b says w x) (more : ℕ) (after : ItemWorld) (next : AppWorld) : Type 0 where
+-- A world that is beside one of the applications, to which another one came: for each device moves of its links led there,
+-- with such labels.
+pub record RunsOn (schedule : WireView) (b : Bounds) (says : ℕ) (w : ItemWorld) (x : AppWorld) (before : WorldSimulates schedule b says w x) (Does : ℕ → List (Label ItemOut) → Type 0) (more : ℕ) (after : ItemWorld) (next : AppWorld) : Type 0 where
   pub runs : WorldSimulates schedule b more after next
-  pub links : (i : ℕ) (o : Owned) (is : IsOwned schedule i o) → Leads (before.devices i o is).view (runs.devices i o is).view
+  pub links : (i : ℕ) (o : Owned) (is : IsOwned schedule i o) → Leads (Does i) (before.devices i o is).view (runs.devices i o is).view
 
 -- ---- a move
 
@@ -165,7 +169,16 @@ IsInBounds b says (Down position) w x =
 IsInBounds b says (Dial position mine yours) w x = length w.wires + 1 ≤ b.dials
 IsInBounds b says m w x = Unit {0}
 
--- Behind the move the worlds are related still, by these events; and for each device moves of its links led there.
+-- The labels of a device by a move. Its client does what it notes down, or gives its session up; or the server handles the
+-- stanza of it that it reads, and then puts some for it.
+abbrev pub DoesBy : ItemMove → ItemWorld → ℕ → List (Label ItemOut) → Type 0
+DoesBy (Up position) w i done = (given : List ItemOut) × (done ≡ map Takes (item_reads (Up position) w i) ++ gives_all given)
+DoesBy (Forget position) w i done = (done ≡ []) ⊎ (done ≡ Drops ∷ [])
+DoesBy (Close position) w i done = (done ≡ []) ⊎ (done ≡ Drops ∷ [])
+DoesBy m w i done = done ≡ noted (item_notes m w i)
+
+-- Behind the move the worlds are related still, by these events; and for each device moves of its links led there, with its
+-- labels.
 pub record MoveSimulates (schedule : WireView) (b : Bounds) (says : ℕ) (m : ItemMove) (w : ItemWorld) (x : AppWorld) (before : WorldSimulates schedule b says w x) : Type 0 where
   pub events : List AppEvent
   pub next : AppWorld
@@ -173,4 +186,4 @@ pub record MoveSimulates (schedule : WireView) (b : Bounds) (says : ℕ) (m : It
   pub spoken : spoken_in events ≡ spoken_by_move m w
   pub asked : (i : ℕ) (d e : Device) → slice_get x.devices i ≡ Some d → slice_get next.devices i ≡ Some e → IsAskedBy m w i d e
   pub runs : WorldSimulates schedule b (says + length (spoken_by_move m w)) (moved m w) next
-  pub links : (i : ℕ) (o : Owned) (is : IsOwned schedule i o) → Leads (before.devices i o is).view (runs.devices i o is).view
+  pub links : (i : ℕ) (o : Owned) (is : IsOwned schedule i o) → Leads (DoesBy m w i) (before.devices i o is).view (runs.devices i o is).view

@@ -1,5 +1,5 @@
 -- A move of a world by which no device does anything with stanzas, and what it leaves as it was.
-use Rattle.std.specs.Prelude.{◌≡◌, ◌≢◌, ◌⊎◌, ℕ, ◌+◌, ◌≤◌, false, List, [], None, Some, length, pos, slice_get}
+use Rattle.std.specs.Prelude.{◌≡◌, ◌⊎◌, ℕ, ◌+◌, ◌≤◌, false, List, [], None, Some, length, pos, slice_get}
 use Rattle.cl_handlers.specs.Clients.{ClientView}
 use Rattle.sim_4_links_follow.specs.Following.{WorldFollows}
 use Rattle.srv_state.specs.State.{ServerState}
@@ -67,11 +67,11 @@ pub record SilentWorld (schedule : WireView) (b : Bounds) (w : ItemWorld) (x : A
   pub stands : ServerStateStands (length after.wires) after.server
   pub within : IsWithin (length after.wires) after.server
 
--- behind the move the worlds are related, by these events and by moves of the links
+-- behind the move the worlds are related, by these events and by moves of the links without a label
 pub record SilentSimulates (schedule : WireView) (b : Bounds) (says : ℕ) (w : ItemWorld) (x : AppWorld) (before : WorldSimulates schedule b says w x) (after : ItemWorld) : Type 0 where
   pub events : List AppEvent
   pub next : AppWorld
   pub reaches : Reaches events x next
   pub silent : spoken_in events ≡ []
   pub asked : (i : ℕ) (d e : Device) → slice_get x.devices i ≡ Some d → slice_get next.devices i ≡ Some e → e.reading.asked ≡ d.reading.asked
-  pub on : RunsOn schedule b says w x before says after next
+  pub on : RunsOn schedule b says w x before (λ i ds. ds ≡ []) says after next

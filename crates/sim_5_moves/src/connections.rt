@@ -9,13 +9,13 @@ ghost use Rattle.sim_3_items.specs.ItemPipes.{ItemWire, is_end_due};
 ghost use Rattle.sim_3_items.specs.ItemWorlds.{ItemDevice, ItemWorld};
 ghost use Rattle.cmd_schedule.specs.Schedules.{WireView};
 ghost use Rattle.sim_1_applications.specs.Devices.{AppWorld};
-ghost use Rattle.sim_5_moves.specs.Running.{Bounds, MoveSimulates, WorldSimulates, spoken_by_move};
+ghost use Rattle.sim_5_moves.specs.Running.{Bounds, DoesBy, MoveSimulates, WorldSimulates, spoken_by_move};
 
-/// A law: where a move changes nothing, and nobody says anything by it, the worlds are related as they were
-/// (`still`). So it is of a move of a device, or on a connection, that isn't there (`nobody`), and where nothing is to be
-/// handed over or told (`up`, `told`, `down`).
+/// A law: where a move changes nothing, and by it nobody says anything and no device does anything, the worlds are related
+/// as they were (`still`). So it is of a move of a device, or on a connection, that isn't there (`nobody`), and where
+/// nothing is to be handed over or told (`up`, `told`, `down`).
 pub fn moves_that_do_nothing_run()
-    ensures still { (schedule : WireView) (b : Bounds) (says : ℕ) (m : ItemMove) (w : ItemWorld) (x : AppWorld) → (runs : WorldSimulates schedule b says w x) → moved m w ≡ w → spoken_by_move m w ≡ [] → MoveSimulates schedule b says m w x runs }
+    ensures still { (schedule : WireView) (b : Bounds) (says : ℕ) (m : ItemMove) (w : ItemWorld) (x : AppWorld) → (runs : WorldSimulates schedule b says w x) → moved m w ≡ w → spoken_by_move m w ≡ [] → ((i : ℕ) → DoesBy m w i []) → MoveSimulates schedule b says m w x runs }
     ensures nobody { (schedule : WireView) (b : Bounds) (says : ℕ) (m : ItemMove) (w : ItemWorld) (x : AppWorld) → (runs : WorldSimulates schedule b says w x) → IsOfNobody m w → MoveSimulates schedule b says m w x runs }
     ensures up { (schedule : WireView) (b : Bounds) (says position : ℕ) (w : ItemWorld) (x : AppWorld) (wire : ItemWire) → (runs : WorldSimulates schedule b says w x) → slice_get w.wires position ≡ Some wire → wire.up.items ≡ []
         → MoveSimulates schedule b says (Up position) w x runs }

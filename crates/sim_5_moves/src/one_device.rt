@@ -1,7 +1,7 @@
 //! One device of a world acts.
 ghost use Rattle.std.specs.Prelude.{◌≡◌, ℕ, ◌+◌, ◌++◌, ◌∷◌, List, [], Some, length, slice_get};
 ghost use Rattle.sim_3_items.specs.ItemWorlds.{ItemWorld};
-ghost use Rattle.sim_5_moves.specs.Moves.{ActsAlone};
+ghost use Rattle.sim_5_moves.specs.Moves.{ActsAlone, DoesAlone};
 ghost use Rattle.cmd_schedule.specs.Contents.{Owned};
 ghost use Rattle.cmd_schedule.specs.Schedules.{WireView};
 ghost use Rattle.sim_5_devices.specs.Labels.{SessionStep, SessionSteps, session_step_events, with_device};
@@ -12,10 +12,10 @@ ghost use Rattle.sim_5_moves.specs.Running.{Bounds, RunsOn, WorldSimulates};
 
 /// A law: one device of a world of items acts alone: the server, what it took and the moment stay, and the others are shown
 /// as they were. Where the device comes beside what events of it lead to, and its links by their moves, the worlds are
-/// related.
+/// related; and no other device does anything with stanzas.
 pub fn one_device_acts()
     ensures { (schedule : WireView) (b : Bounds) (says : ℕ) (w : ItemWorld) (x : AppWorld) (runs : WorldSimulates schedule b says w x) (i : ℕ) (o : Owned) (next : ItemWorld) (d : Device) (a : ActsAlone schedule b says w x runs i o next d)
-        → RunsOn schedule b says w x runs (says + length (spoken_in a.events)) next (with_device i d x) }
+        → RunsOn schedule b says w x runs (DoesAlone i a.done) (says + length (spoken_in a.events)) next (with_device i d x) }
 {}
 
 /// A law: a device takes session steps, and then acts so that no message is taken: these are events of the world of the

@@ -15,7 +15,7 @@ use Rattle.sim_1_applications.specs.Runs.{LineRun, begins}
 use Rattle.sim_1_applications.specs.Runs as lines
 use Rattle.sim_7_schedules.proofs.ByteMoves.{state_joined}
 use Rattle.sim_7_schedules.proofs.WholeRuns.{whole_run}
-use Rattle.sim_7_schedules.specs.Simulation.{AllLead, LinesSimulate, MovesSimulate, Simulates, SimulatesBy, Views, views_of}
+use Rattle.sim_7_schedules.specs.Simulation.{LinesSimulate, MovesSimulate, Simulates, SimulatesBy, Views, views_of}
 use Rattle.cmd_world.specs.Histories.{history_of, world_at_start, worlds_along, worlds_by}
 use Rattle.cmd_world.specs.Lines.{moves_of, stepped}
 use Rattle.cmd_world.specs.Moves.{Move, moved}
@@ -42,7 +42,7 @@ cut_at xs ys x last r =
 
 abbrev pub Chain : (s : WireView) → sessions.AppWorld → Views s → List ByteWorld → Type 0
 Chain s x views [] = Unit {0}
-Chain s x views (W ∷ Ws) = (y : sessions.AppWorld) × (es : List AppEvent) × Reaches es x y × (next : Views s) × SimulatesBy s W y next × AllLead s views next × Chain s y next Ws
+Chain s x views (W ∷ Ws) = (y : sessions.AppWorld) × (es : List AppEvent) × Reaches es x y × (next : Views s) × SimulatesBy s W y next × Chain s y next Ws
 
 abbrev joined : List (List AppEvent) → List AppEvent
 joined moves = flat_map (λ one. one) moves
@@ -59,7 +59,6 @@ chain_moves s (m ∷ ms) (es ∷ ess) views end W x more last Ws go reaches foll
       parts.0,
       go.0,
       go.1,
-      go.2,
       chain_moves s ms ess go.0 end (moved m W) (state_after x es) more last Ws go.3 parts.1 (subst (λ u. Reaches more u last → Chain s u end Ws) (state_joined x es (joined ess)) following),
     )
 
@@ -83,7 +82,6 @@ chain_of s right =
       refl,
       first_views s right,
       record { beside = runs.first; shown = λ i o is. refl },
-      (λ i o is. ([], refl)),
       chain_lines s s.lines runs.runs (first_views s right) (world_at_start s) (begins s) runs.last runs.go runs.reaches,
     )
 
@@ -111,11 +109,11 @@ pick s (V ∷ Ws) x views zero W chain at =
       beside = by.beside;
       rest = Ws;
       views = chain.3;
-      chain = (chain.0, [], refl, chain.3, by, (λ i o is. ([], refl)), chain.6);
+      chain = (chain.0, [], refl, chain.3, by, chain.5);
       at = λ d n is. ap (λ u. slice_get (u ∷ Ws) d) (sym same) ∙ ap (λ k. slice_get (V ∷ Ws) k) (let equal : d ≡ n = omega (arith, is) in equal);
     }
 pick s (V ∷ Ws) x views (suc j) W chain at =
-    let p = pick s Ws chain.0 chain.3 j W chain.6 at in
+    let p = pick s Ws chain.0 chain.3 j W chain.5 at in
     record {
       world = p.world;
       events = chain.1 ++ p.events;

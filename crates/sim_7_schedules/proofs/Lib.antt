@@ -72,8 +72,12 @@ pub mod Chains
 pub mod BoundSessions
 pub mod TakenAfter
 pub mod HandledBinds
--- the sessions of a device along a history
+-- the sessions of a device along a history, and what its client notes down
+pub mod LabelledLists
+pub mod HistorySteps
+pub mod NotedPairs
 pub mod SessionCourses
+pub mod Worked
 pub mod Further
 -- which faults there are
 pub mod Reasons

@@ -1,14 +1,16 @@
 -- The connections that devices have: a move of a connection leaves those of other devices, and makes none.
-use Rattle.std.proofs.Common.{◌≡◌, ℕ, zero, suc, ◌+◌, Bool, true, false, cond, List, [], ◌∷◌, Option, None, Some, refl, sym, ap, ◌∙◌, inl, inr}
+use Rattle.std.proofs.Common.{◌≡◌, ℕ, zero, suc, ◌+◌, ◌==◌, Bool, true, false, cond, List, [], ◌∷◌, Option, None, Some, refl, sym, ap, ◌∙◌, inl, inr}
 use Rattle.std.proofs.lemmas.Bool.{cases_Bool, eqb-true}
 use Rattle.std.proofs.lemmas.Option.{same_Some}
 use Rattle.std.specs.List.{slice_get, slice_set}
 use Rattle.srv_state.specs.Moments.{at_moment, gone_at}
 use Rattle.cmd_network.specs.Positions.{changed_at}
-use Rattle.sim_3_items.specs.ItemMoves.{ItemMove, Down, DownEnd, Tick, Up, UpEnd, fed_of, has_wire, here_after, moved}
+use Rattle.sim_3_images.specs.Notes.{heard_at, heard_notes, heard_on, item_notes}
+use Rattle.sim_3_items.specs.ItemMoves.{Down, DownEnd, Tick, Up, UpEnd, has_wire, here_after, moved}
 use Rattle.sim_3_items.specs.ItemMoves as items
 use Rattle.sim_3_items.specs.ItemPipes.{ItemWire, is_end_due, up_end_reported}
 use Rattle.sim_3_items.specs.ItemWorlds.{ItemDevice, ItemWorld}
+use Rattle.sim_5_moves.proofs.Doing.{here_is}
 use Rattle.xml_writer.specs.Items.{ItemOut}
 
 abbrev pub here_of : Option ItemDevice → Option ℕ
@@ -104,14 +106,10 @@ down_end_makes position w = at_makes position (λ wire d. items.end_heard positi
 
 -- ---- whom a Down reaches
 
--- nobody; or the device whose connection it is
+-- nobody, and no client notes anything down; or the device whose connection it is
 pub data Reaches (position : ℕ) (w : ItemWorld) : Type 0 where
-  Nobody : moved (Down position) w ≡ w → Reaches position w
+  Nobody : moved (Down position) w ≡ w → ((i : ℕ) → item_notes (Down position) w i ≡ []) → Reaches position w
   Device : (wire : ItemWire) (d : ItemDevice) → slice_get w.wires position ≡ Some wire → slice_get w.devices wire.device ≡ Some d → d.here ≡ Some position → Reaches position w
-
-has_is : (position : ℕ) (o : Option ℕ) → has_wire position o ≡ true → o ≡ Some position
-has_is position None e = absurd (let no : ⊥ = cc in no)
-has_is position (Some h) e = ap Some (eqb-true h position e)
 
 pub reaches : (position : ℕ) (w : ItemWorld) → Reaches position w
 reaches position w = by (slice_get w.wires position) refl
@@ -119,14 +117,21 @@ reaches position w = by (slice_get w.wires position) refl
     f : ItemWire → ItemDevice → ItemWorld → ItemWorld
     f wire d = items.heard_first position wire.device wire.down.items d
 
+    silent : (wire : ItemWire) → slice_get w.wires position ≡ Some wire → (o : Option ItemDevice) → slice_get w.devices wire.device ≡ o → heard_at position wire.down.items o ≡ [] → (i : ℕ) → item_notes (Down position) w i ≡ []
+    silent wire at o found none i = ap (heard_on position i (slice_get w.devices i)) at ∙ of (wire.device == i) refl
+      where
+        of : (b : Bool) → (wire.device == i) ≡ b → cond b (heard_at position wire.down.items (slice_get w.devices i)) [] ≡ []
+        of true same = ap (λ k. heard_at position wire.down.items (slice_get w.devices k)) (sym (eqb-true wire.device i same)) ∙ ap (heard_at position wire.down.items) found ∙ none
+        of false other = refl
+
     of_device : (wire : ItemWire) → slice_get w.wires position ≡ Some wire → (o : Option ItemDevice) → slice_get w.devices wire.device ≡ o → Reaches position w
     of_device wire at None found =
-        Nobody (ap (λ o. items.at_wire position f o w) at ∙ ap (λ o. items.at_device position f wire o w) found)
+        Nobody (ap (λ o. items.at_wire position f o w) at ∙ ap (λ o. items.at_device position f wire o w) found) (silent wire at None found refl)
     of_device wire at (Some d) found = elim (cases_Bool (has_wire position d.here)) [
-      | inl is ↦ Device wire d at found (has_is position d.here is)
-      | inr not_is ↦ Nobody (ap (λ o. items.at_wire position f o w) at ∙ ap (λ o. items.at_device position f wire o w) found ∙ ap (λ b. cond b (f wire d w) w) not_is)
+      | inl is ↦ Device wire d at found (here_is position d.here is)
+      | inr not_is ↦ Nobody (ap (λ o. items.at_wire position f o w) at ∙ ap (λ o. items.at_device position f wire o w) found ∙ ap (λ b. cond b (f wire d w) w) not_is) (silent wire at (Some d) found (ap (λ b. cond b (heard_notes wire.down.items d) []) not_is))
     ]
 
     by : (o : Option ItemWire) → slice_get w.wires position ≡ o → Reaches position w
-    by None at = Nobody (ap (λ o. items.at_wire position f o w) at)
+    by None at = Nobody (ap (λ o. items.at_wire position f o w) at) (λ i. ap (heard_on position i (slice_get w.devices i)) at)
     by (Some wire) at = of_device wire at (slice_get w.devices wire.device) refl

@@ -1,15 +1,14 @@
 -- The pairs of each world of a history go on in the next.
-use Rattle.std.proofs.Common.{◌≡◌, ℕ, zero, suc, List, [], ◌∷◌, Option, None, Some, refl, sym, ap, ◌∙◌, subst, arith, inl, inr}
+use Rattle.std.proofs.Common.{◌≡◌, ℕ, suc, List, ◌∷◌, Option, None, Some, refl, sym, ap, ◌∙◌, subst, arith, inl, inr}
 use Rattle.std.proofs.lemmas.Bool.{cases_lt}
-use Rattle.std.proofs.lemmas.Option.{none-some, same_Some}
+use Rattle.std.proofs.lemmas.Option.{none-some}
 use Rattle.std.specs.List.{slice_get}
 use Rattle.std.specs.Option.{option_map}
 use Rattle.cmd_network.specs.Devices.{DeviceState}
 use Rattle.cmd_schedule.specs.Contents.{Owned}
 use Rattle.cmd_schedule.specs.Schedules.{WireView}
 use Rattle.cmd_schedule.specs.LineLists.{IsLineList}
-use Rattle.sim_1_applications.specs.Devices as sessions
-use Rattle.sim_1_applications.specs.Runs.{begins, owned_of}
+use Rattle.sim_1_applications.specs.Runs.{owned_of}
 use Rattle.sim_2_links.proofs.Onward.{moves_go}
 use Rattle.sim_2_links.proofs.WithPremises.{prompt_runs}
 use Rattle.sim_2_links.specs.Onward.{IsOnward}
@@ -19,39 +18,23 @@ use Rattle.sim_3_images.specs.Relayable.{ClientFits}
 use Rattle.sim_3_images.specs.WorldEncodings.{Both, DeviceEncodes}
 use Rattle.sim_3_items.specs.Labels.{awaits}
 use Rattle.sim_5_moves.specs.Running.{DeviceSimulates, Leads}
-use Rattle.sim_7_schedules.proofs.Chains.{Chain, chain_of, first_views}
+use Rattle.sim_7_schedules.proofs.HistorySteps.{HasViews, first_of, history_is, leads_between, move_there, moved_there, steps_in, world_at}
+use Rattle.sim_7_schedules.proofs.NotedPairs.{pairs_by, pairs_noted}
 use Rattle.sim_7_schedules.proofs.SessionMessages.{told_here}
-use Rattle.sim_7_schedules.proofs.SessionPairs.{found_pair, pair_of, pairs_are, pairs_here}
+use Rattle.sim_7_schedules.proofs.SessionPairs.{epoch_is, found_pair, pair_of, pairs_are, pairs_here}
 use Rattle.sim_7_schedules.proofs.WorldsSimulated.{kept_at}
-use Rattle.sim_7_schedules.specs.Simulation.{AllLead, SimulatesBy, Views}
-use Rattle.sim_7_schedules.specs.Courses.{AreNew, GoOn, GoesOn, HasCourse, IsNew}
+use Rattle.sim_7_schedules.specs.Simulation.{LabelsAreNotedIn}
+use Rattle.sim_7_schedules.specs.Courses.{AreNew, AreNoted, GoOn, GoesOn, HasCourse, IsNew, MayPut, moves_in}
 use Rattle.sim_7_schedules.specs.Messages.{AreTold}
-use Rattle.sim_7_schedules.specs.Pairs.{HasPairs, Pair}
-use Rattle.cmd_world.specs.Histories.{history_of}
+use Rattle.sim_7_schedules.specs.Pairs.{HasPairs}
+use Rattle.cmd_world.specs.Histories.{history_of, world_at_start, worlds_by}
+use Rattle.cmd_world.specs.Moves.{Move, moved}
+use Rattle.sim_3_images.specs.Notes.{notes_in}
+use Rattle.sim_3_images.specs.Reads.{read_in}
 use Rattle.cmd_world.specs.Worlds.{ByteWorld}
 use Rattle.xml_writer.specs.Items.{ItemOut}
 
--- ---- one world of a chain, and the next
-
-abbrev pub HasViews : WireView → ByteWorld → Type 0
-HasViews s W = (x : sessions.AppWorld) × (views : Views s) × SimulatesBy s W x views
-
-abbrev world_at : (s : WireView) (Ws : List ByteWorld) (x : sessions.AppWorld) (views : Views s) (j : ℕ) (W : ByteWorld) → Chain s x views Ws → slice_get Ws j ≡ Some W → HasViews s W
-world_at s [] x views j W chain at = absurd (none-some W at)
-world_at s (V ∷ Ws) x views zero W chain at = (chain.0, chain.3, subst (λ U. SimulatesBy s U chain.0 chain.3) (same_Some V W at) chain.4)
-world_at s (V ∷ Ws) x views (suc j) W chain at = world_at s Ws chain.0 chain.3 j W chain.6 at
-
-leads_between : (s : WireView) (Ws : List ByteWorld) (x : sessions.AppWorld) (views : Views s) (j : ℕ) (V W : ByteWorld) (chain : Chain s x views Ws) (one : slice_get Ws j ≡ Some V) (two : slice_get Ws (suc j) ≡ Some W) →
-    AllLead s (world_at s Ws x views j V chain one).1 (world_at s Ws x views (suc j) W chain two).1
-leads_between s [] x views j V W chain one two = absurd (none-some V one)
-leads_between s (U ∷ []) x views zero V W chain one two = absurd (none-some W two)
-leads_between s (U ∷ T ∷ Ws) x views zero V W chain one two = chain.6.5
-leads_between s (U ∷ Ws) x views (suc j) V W chain one two = leads_between s Ws chain.0 chain.3 j V W chain.6 one two
-
 -- ---- pairs
-
-abbrev pairs_by : View ItemOut → ℕ → Option Pair
-pairs_by v number = option_map pair_of (v.sessions number)
 
 goes_by : (t u : links.Session ItemOut) → IsOnward t u → GoesOn (pair_of t) (pair_of u)
 goes_by t u on = record { up = on.up; down = on.down; epoch = on.epoch }
@@ -88,8 +71,12 @@ left_of R (Some x) b both = (x, refl)
 -- ---- the course
 
 module _ (s : WireView) (right : IsLineList s) (i : ℕ) (o : Owned) (owned : slice_get (owned_of s) i ≡ Some o) where
+  -- it is a world behind some of the list's moves
+  abbrev stepped_at : (j : ℕ) (W : ByteWorld) → slice_get (history_of s) j ≡ Some W → slice_get (world_at_start s ∷ worlds_by (moves_in s) (world_at_start s)) j ≡ Some W
+  stepped_at j W at = ap (λ l. slice_get l j) (sym (history_is s)) ∙ at
+
   abbrev beside : (j : ℕ) (W : ByteWorld) → slice_get (history_of s) j ≡ Some W → HasViews s W
-  beside j W at = world_at s (history_of s) (begins s) (first_views s right) j W (chain_of s right) at
+  beside j W at = world_at s (world_at_start s) (first_of s right) (moves_in s) (steps_in s right) j W (stepped_at j W at)
 
   abbrev device : (j : ℕ) (W : ByteWorld) (at : slice_get (history_of s) j ≡ Some W) → DeviceSimulates s (beside j W at).2.beside.items (beside j W at).0 i o
   device j W at = (beside j W at).2.beside.runs.devices i o owned
@@ -102,13 +89,19 @@ module _ (s : WireView) (right : IsLineList s) (i : ℕ) (o : Owned) (owned : sl
       let b = beside j W at in
       subst (AreTold W i o) (sym (pairs_are s W b.0 b.2.beside i o owned)) (told_here s right W b.0 (kept_at s j W at) b.2.beside i o owned)
 
-  -- moves of the links lead from the one to the other
-  leads_at : (j : ℕ) (V W : ByteWorld) (one : slice_get (history_of s) j ≡ Some V) (two : slice_get (history_of s) (suc j) ≡ Some W) → Leads (device j V one).view (device (suc j) W two).view
+  -- the move between the one and the other
+  move_at : (j : ℕ) (W : ByteWorld) → slice_get (history_of s) (suc j) ≡ Some W → (m : Move) × (slice_get (moves_in s) j ≡ Some m)
+  move_at j W two = move_there (world_at_start s) (moves_in s) j W (stepped_at (suc j) W two)
+
+  -- moves of the links lead from the one to the other, in which the client does what it notes down then
+  leads_at : (j : ℕ) (V W : ByteWorld) (one : slice_get (history_of s) j ≡ Some V) (two : slice_get (history_of s) (suc j) ≡ Some W) → Leads (LabelsAreNotedIn (move_at j W two).0 V i) (device j V one).view (device (suc j) W two).view
   leads_at j V W one two =
       let a = beside j V one in
       let b = beside (suc j) W two in
-      subst (λ v. Leads v (device (suc j) W two).view) (sym (a.2.shown i o owned))
-      (subst (λ v. Leads (a.1 i o owned) v) (sym (b.2.shown i o owned)) (leads_between s (history_of s) (begins s) (first_views s right) j V W (chain_of s right) one two i o owned))
+      let m = move_at j W two in
+      subst (λ v. Leads (LabelsAreNotedIn m.0 V i) v (device (suc j) W two).view) (sym (a.2.shown i o owned))
+      (subst (λ v. Leads (LabelsAreNotedIn m.0 V i) (a.1 i o owned) v) (sym (b.2.shown i o owned))
+      (leads_between s (world_at_start s) (first_of s right) (moves_in s) (steps_in s right) j V W m.0 (stepped_at j V one) (stepped_at (suc j) W two) m.1 i o owned))
 
   goes_at : (j : ℕ) (V W : ByteWorld) (one : slice_get (history_of s) j ≡ Some V) (two : slice_get (history_of s) (suc j) ≡ Some W) → GoOn (pairs_at j V one).pairs (pairs_at (suc j) W two).pairs
   goes_at j V W one two =
@@ -119,6 +112,24 @@ module _ (s : WireView) (right : IsLineList s) (i : ℕ) (o : Owned) (owned : sl
       subst (GoOn (pairs_at j V one).pairs) (sym (pairs_are s W b.0 b.2.beside i o owned))
       (subst (λ f. GoOn f (pairs_by (device (suc j) W two).view)) (sym (pairs_are s V a.0 a.2.beside i o owned))
       (go_on_by old.view (device (suc j) W two).view (moves_go leads.0 old.view (device (suc j) W two).view (prompt_runs awaits old.view old.prompt) leads.1)))
+
+  noted_at : (j : ℕ) (V W : ByteWorld) (one : slice_get (history_of s) j ≡ Some V) (two : slice_get (history_of s) (suc j) ≡ Some W) (d : DeviceState) → slice_get V.devices i ≡ Some d →
+      (m : Move) × (slice_get (moves_in s) j ≡ Some m) × (W ≡ moved m V) × (given : List ItemOut) × MayPut m given × AreNoted d.client.client.epoch (notes_in m V i) (read_in m V i) given (pairs_at j V one).pairs (pairs_at (suc j) W two).pairs
+  noted_at j V W one two d here =
+      let a = beside j V one in
+      let b = beside (suc j) W two in
+      let old = device j V one in
+      let m = move_at j W two in
+      let noted = pairs_noted m.0 V i old.view (device (suc j) W two).view old.device.sessions (prompt_runs awaits old.view old.prompt) old.sessions (leads_at j V W one two) in (
+        m.0,
+        m.1,
+        moved_there (world_at_start s) (moves_in s) j V W m.0 (stepped_at j V one) (stepped_at (suc j) W two) m.1,
+        noted.0,
+        noted.1,
+        subst (λ e. AreNoted e (notes_in m.0 V i) (read_in m.0 V i) noted.0 (pairs_at j V one).pairs (pairs_at (suc j) W two).pairs) (sym (epoch_is s V a.0 a.2.beside i o owned d here))
+            (subst (AreNoted old.view.epoch (notes_in m.0 V i) (read_in m.0 V i) noted.0 (pairs_at j V one).pairs) (sym (pairs_are s W b.0 b.2.beside i o owned))
+            (subst (λ f. AreNoted old.view.epoch (notes_in m.0 V i) (read_in m.0 V i) noted.0 f (pairs_by (device (suc j) W two).view)) (sym (pairs_are s V a.0 a.2.beside i o owned)) noted.2)),
+      )
 
   there_at : (j : ℕ) (W : ByteWorld) → slice_get (history_of s) j ≡ Some W → (e : DeviceState) × (slice_get W.devices i ≡ Some e)
   there_at j W at =
@@ -132,4 +143,4 @@ module _ (s : WireView) (right : IsLineList s) (i : ℕ) (o : Owned) (owned : sl
       new_by s V W i o (pairs_at j V one) (pairs_at (suc j) W two) (goes_at j V W one two) d here e.0 e.1
 
   pub course : HasCourse s i o
-  course = record { pairs = pairs_at; told = info_at; goes = goes_at; new = new_at }
+  course = record { pairs = pairs_at; told = info_at; goes = goes_at; new = new_at; noted = noted_at }

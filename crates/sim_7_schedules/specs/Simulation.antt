@@ -1,10 +1,16 @@
 -- A wire schedule's history, beside events of the two applications.
-use Rattle.std.specs.Prelude.{◌≡◌, ℕ, List, [], ◌∷◌}
+use Rattle.std.specs.Prelude.{◌≡◌, ℕ, List, [], ◌∷◌, map}
 use Rattle.std.specs.List.{AllByRecursion, flat_map}
 use Rattle.sim_3_images.specs.Relayable.{ClientFits, DownFits, ServerFits, UpFits}
 use Rattle.sim_3_images.specs.Stands.{StandingServers}
 use Rattle.sim_3_images.specs.WorldEncodings.{WorldEncodes}
 use Rattle.sim_3_images.specs.Fitting.{MayItem}
+use Rattle.sim_3_images.specs.Notes.{notes_in}
+use Rattle.sim_3_images.specs.Reads.{read_in}
+use Rattle.sim_3_items.specs.Labels.{Gives, Label, Names, Reads, Says, Takes}
+use Rattle.sim_3_items.specs.Reading.{noted}
+use Rattle.cl_handlers.specs.Speech.{Note}
+use Rattle.law_client.specs.Rendered.{note_rendered}
 use Rattle.sim_2_links.specs.Views.{View}
 use Rattle.sim_3_items.specs.ItemMoves.{ItemMove}
 use Rattle.sim_3_items.specs.ItemWorlds.{ItemWorld}
@@ -22,8 +28,9 @@ use Rattle.cmd_world.specs.Lines.{moves_of, stepped}
 use Rattle.cmd_world.specs.Moves.{Move, moved}
 use Rattle.cmd_world.specs.WorldReports.{report_of}
 use Rattle.cmd_world.specs.Worlds as bytes
+use Rattle.sim_7_schedules.specs.Courses.{MayPut}
 use Rattle.sim_5_moves.specs.Running.{Bounds, IsInBounds, IsOwned, Leads, MoveSimulates, WorldSimulates}
-use Rattle.xml_writer.specs.Items.{ItemOut}
+use Rattle.xml_writer.specs.Items.{ItemOut, written_item}
 
 -- How much a list of lines can come to. Each line that is counted is one message at most, one page or one connection, and
 -- a pass or a run is as many pages at most as it has times. No page is asked for, and nothing said, at the others.
@@ -53,9 +60,37 @@ Views schedule = (i : ℕ) (o : Owned) → IsOwned schedule i o → View ItemOut
 abbrev pub views_of : {schedule : WireView} {b : Bounds} {says : ℕ} {w : ItemWorld} {x : AppWorld} → WorldSimulates schedule b says w x → Views schedule
 views_of runs i o is = (runs.devices i o is).view
 
--- moves of the links lead from the ones to the others
-abbrev pub AllLead : (schedule : WireView) → Views schedule → Views schedule → Type 0
-AllLead schedule views next = (i : ℕ) (o : Owned) (is : IsOwned schedule i o) → Leads (views i o is) (next i o is)
+-- moves of the links lead from the ones to the others, and of each device their labels are as is said
+abbrev pub AllLead : (schedule : WireView) → (ℕ → List (Label ItemOut) → Type 0) → Views schedule → Views schedule → Type 0
+AllLead schedule Does views next = (i : ℕ) (o : Owned) (is : IsOwned schedule i o) → Leads (Does i) (views i o is) (next i o is)
+
+-- of labels those of a client: what it puts and handles, and that a session was bound
+abbrev pub clients_of : List (Label ItemOut) → List (Label ItemOut)
+clients_of [] = []
+clients_of (Says z ∷ done) = Says z ∷ clients_of done
+clients_of (Reads z ∷ done) = Reads z ∷ clients_of done
+clients_of (Names ∷ done) = Names ∷ clients_of done
+clients_of (_ ∷ done) = clients_of done
+
+-- and the stanzas that the server handles
+abbrev pub takes_of : List (Label ItemOut) → List ItemOut
+takes_of [] = []
+takes_of (Takes z ∷ done) = z ∷ takes_of done
+takes_of (_ ∷ done) = takes_of done
+
+-- and those that it puts
+abbrev pub gives_of : List (Label ItemOut) → List ItemOut
+gives_of [] = []
+gives_of (Gives z ∷ done) = z ∷ gives_of done
+gives_of (_ ∷ done) = gives_of done
+
+-- the ones are those of what the client notes down, and the others those that the server reads
+abbrev pub LabelsAreNoted : List (Note ItemOut) → List ItemOut → List (Label ItemOut) → Type 0
+LabelsAreNoted notes read done = (clients_of done ≡ clients_of (noted notes)) × (takes_of done ≡ read)
+
+-- and so in a move of bytes; and the server puts none but where bytes are handed to it
+abbrev pub LabelsAreNotedIn : Move → bytes.ByteWorld → ℕ → List (Label ItemOut) → Type 0
+LabelsAreNotedIn m W i done = (notes : List (Note ItemOut)) × (notes_in m W i ≡ map (note_rendered written_item) notes) × LabelsAreNoted notes (read_in m W i) done × MayPut m (gives_of done)
 
 -- a world of bytes and one of the applications, with these links between them
 pub record SimulatesBy (schedule : WireView) (W : bytes.ByteWorld) (x : AppWorld) (views : Views schedule) : Type 0 where
@@ -63,11 +98,11 @@ pub record SimulatesBy (schedule : WireView) (W : bytes.ByteWorld) (x : AppWorld
   pub shown : (i : ℕ) (o : Owned) (is : IsOwned schedule i o) → (beside.runs.devices i o is).view ≡ views i o is
 
 -- Moves of bytes, and the events that each led to: behind each the worlds are related, and moves of the links led from those
--- before it to those behind it.
+-- before it to those behind it, in which each client did what it noted down, and the server handled what it read.
 abbrev pub MovesSimulate : (schedule : WireView) → List Move → List (List AppEvent) → Views schedule → Views schedule → bytes.ByteWorld → AppWorld → Type 0
 MovesSimulate schedule [] [] views last W x = last ≡ views
 MovesSimulate schedule (m ∷ ms) (es ∷ ess) views last W x =
-    (next : Views schedule) × SimulatesBy schedule (moved m W) (state_after x es) next × AllLead schedule views next × MovesSimulate schedule ms ess next last (moved m W) (state_after x es)
+    (next : Views schedule) × SimulatesBy schedule (moved m W) (state_after x es) next × AllLead schedule (LabelsAreNotedIn m W) views next × MovesSimulate schedule ms ess next last (moved m W) (state_after x es)
 MovesSimulate schedule _ _ views last W x = ⊥
 
 -- the same of lines, one after another

@@ -22,9 +22,14 @@ ghost use Rattle.cmd_world.specs.Worlds.{ByteWorld};
 /// its `take` lines; and each such line is of an epoch that has a pair. All worlds have one assignment of pairs to the
 /// numbers that the server gave: in the next world each pair is there under its number, each of its directions comes there
 /// by moves of acknowledged delivery, and an epoch stays. A pair that is new is unused, or its client read of it in that
-/// step (`pairs`). So what either end put and handled stays, stanza for stanza and in its order, and more may come behind
-/// (`further`). What an end handled is the front of what the other end put, and no more is acknowledged than was handled
-/// (`delivered`).
+/// step. What the client handled and put in that step are the very stanzas that it notes down, in the session of the epoch
+/// that it has then: of the bytes that are handed to it on the connection that it has, or as its user submits a message or
+/// asks for a page; in any other step it handles and puts none. What the server handled in that step are the very stanzas
+/// that it read in it, in the session of that epoch too: of the bytes that were handed to it on a connection of the device
+/// while that was open and a session on it. What it puts it puts in that session, and in a step in which bytes are handed
+/// to it on some connection (`pairs`). So what either end put and handled stays, stanza for stanza and in its order, and
+/// more may come behind (`further`). What an end handled is the front of what the other end put, and no more is
+/// acknowledged than was handled (`delivered`).
 pub fn sessions_are_pairs()
     ensures pairs { (s : WireView) → IsLineList s → (i : ℕ) (o : Owned) → slice_get (owned_of s) i ≡ Some o → HasCourse s i o }
     ensures further { (p q : Pair) → IsPair p → GoesOn p q → IsFurther p.up q.up × IsFurther p.down q.down }
