@@ -6,7 +6,7 @@ use Rattle.xml_trees.specs.Trees.{Elem}
 use Rattle.xml_writer.specs.Items.{Whole}
 
 module _ (one two : Elem) (written : List ℕ) where
-  notes : List (Note (List ℕ))
+  abbrev notes : List (Note (List ℕ))
   notes = Handled one ∷ Stated 1 ∷ Epoch 2 ∷ Counted ∷ Handled two ∷ Put written ∷ []
 
   -- in the session that it had
