@@ -1,5 +1,5 @@
 -- In a pass, and in each round of a run, a device asks for one page at most.
-use Rattle.std.proofs.Common.{◌≡◌, ◌⊎◌, ℕ, zero, suc, ◌+◌, ◌≤◌, Bool, true, false, List, [], ◌∷◌, ◌++◌, Some, length, refl, sym, ap, ◌∙◌, subst, arith, inl, inr}
+use Rattle.std.proofs.Common.{◌≡◌, ◌⊎◌, ℕ, zero, suc, ◌+◌, ◌≤◌, Bool, true, false, List, [], ◌++◌, Some, length, refl, sym, ap, ◌∙◌, subst, arith, inl, inr}
 use Rattle.std.proofs.lemmas.Bool.{cases_eq}
 use Rattle.std.proofs.lemmas.List.Concat.{flat_map-append}
 use Rattle.std.proofs.lemmas.Option.{same_Some}
@@ -23,6 +23,7 @@ use Rattle.sim_7_schedules.proofs.Positions.{MakesNone, here_at, here_of, up_mak
 use Rattle.law_payloads.specs.AsRead.{last_moment}
 use Rattle.sim_7_schedules.proofs.Wires.{down_moment}
 use Rattle.sim_7_schedules.proofs.Positions as positions
+use Rattle.sim_3_images.proofs.UpMoves.{moved_joined}
 
 -- ---- states
 
@@ -143,15 +144,10 @@ module _ (schedule : WireView) (each : EachMoveSimulates schedule) (from : Views
       (then schedule from says (moved (Tick 0) w) (all_moved (ups position some.0) (moved (Tick 0) w)) x (IsInRound top n p (moved (Tick 0) w)) _ (tick_goes says 0 w x top n p runs round)
       (λ y here mid. ups_go says position some.0 (moved (Tick 0) w) y top n p here mid))
 
-  -- moves, and then others
-  all_joined : (first second : List ItemMove) (w : ItemWorld) → all_moved (first ++ second) w ≡ all_moved second (all_moved first w)
-  all_joined [] second w = refl
-  all_joined (m ∷ first) second w = all_joined first second (moved m w)
-
   pub up_line : (says position : ℕ) (first : List ItemMove) (ended : Bool) (w : ItemWorld) (x : AppWorld) (top n p : ℕ) → AreServedUps position first → WorldFrom schedule from says w x → IsInRound top n p w x →
       Goes schedule from says (all_moved (first ++ moved_where (UpEnd position) ended) w) x (IsInRound top n p (all_moved (first ++ moved_where (UpEnd position) ended) w))
   up_line says position first ended w x top n p is runs round =
-      subst (λ v. Goes schedule from says v x (IsInRound top n p v)) (sym (all_joined first (moved_where (UpEnd position) ended) w))
+      subst (λ v. Goes schedule from says v x (IsInRound top n p v)) (sym (moved_joined first (moved_where (UpEnd position) ended) w))
       (then schedule from says (all_moved first w) (all_moved (moved_where (UpEnd position) ended) (all_moved first w)) x (IsInRound top n p (all_moved first w)) _ (served_goes says position first w x top n p is runs round)
       (λ y here mid. by ended (all_moved first w) y here mid))
     where
@@ -219,7 +215,7 @@ module _ (schedule : WireView) (each : EachMoveSimulates schedule) (from : Views
   pub down_line : (says position count : ℕ) (ended : Bool) (w : ItemWorld) (x : AppWorld) (n : ℕ) → n ≤ 10100000 → w.moment ≤ last_moment → WorldFrom schedule from says w x → IsInRound (n + 1) n position w x →
       Goes schedule from says (all_moved (downs position count ++ moved_where (DownEnd position) ended) w) x (IsInRound (n + 1) n (position + 1) (all_moved (downs position count ++ moved_where (DownEnd position) ended) w))
   down_line says position count ended w x n few timely runs round =
-      subst (λ v. Goes schedule from says v x (IsInRound (n + 1) n (position + 1) v)) (sym (all_joined (downs position count) (moved_where (DownEnd position) ended) w))
+      subst (λ v. Goes schedule from says v x (IsInRound (n + 1) n (position + 1) v)) (sym (moved_joined (downs position count) (moved_where (DownEnd position) ended) w))
       (then schedule from says (all_moved (downs position count) w) (all_moved (moved_where (DownEnd position) ended) (all_moved (downs position count) w)) x (AreHanded n position (all_moved (downs position count) w)) _
       (downs_go says position count w x n few timely runs (handed_of n position w x round))
       (λ y here mid. by ended (all_moved (downs position count) w) y here (round_after n position (all_moved (downs position count) w) y mid)))
