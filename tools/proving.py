@@ -2,7 +2,8 @@
 
 Words, sums and the store of what the gate has proved on this machine are those of `rt` itself, whose Python is loaded as
 a module: so a check here is given exactly what the gate would give it. One thing is changed. rt asks for the crates
-below a crate by walking every path through crates.txt, thousands of times; here each answer is remembered.
+below a crate by walking every path through crates.txt, thousands of times; here each answer is remembered. Some kits' rt
+has no such store: with these only what a tool here has built itself is known again.
 
 Nothing here writes into rt's store. Libraries stand in crates/NAME/out/rlib, where the gate leaves its own.
 """
@@ -10,6 +11,7 @@ import copy
 import hashlib
 import importlib.machinery
 import importlib.util
+import inspect
 import json
 import os
 import shutil
@@ -47,7 +49,13 @@ def load():
 
 def all_crates(tool):
     """The crates of crates.txt by name, lowest first."""
-    return {it.name: it for it in tool.crates_of(TOP)}
+    if len(inspect.signature(tool.crates_of).parameters) == 1:
+        found = tool.crates_of(TOP)
+    else:
+        # in this kit that call is the gate's own, and sets aside what was built
+        tool.rtlib.Crate = tool.Crate
+        found = sorted(tool.rtlib.crates_below(TOP), key=lambda it: len(it.below()))
+    return {it.name: it for it in found}
 
 
 def at_once(tool):
@@ -144,11 +152,42 @@ def files_of(folder):
             yield from (os.path.join(at, name) for name in sorted(names) if name.endswith((".rt", ".antt")))
 
 
+class Unkept:
+    """Stands in for rt's store where rt has none. A library is known by the sources of its crate and of all below, and by the
+    names, sizes and times of its files; nothing can be taken from here."""
+
+    def __init__(self, anew):
+        self.anew, self.rlibs, self.own, self.lock = anew, {}, {}, threading.Lock()
+
+    def key(self, crate):
+        with self.lock:
+            return sources_sum(crate, self.own)
+
+    def is_built(self, crate):
+        made = hashlib.sha256()
+        for at, folders, names in os.walk(f"{crate.folder}/out/rlib"):
+            folders.sort()
+            for path in (os.path.join(at, it) for it in sorted(names) if it != "made.sum"):
+                found = os.lstat(path)
+                made.update(f"{os.path.relpath(path, crate.folder)} {found.st_size} {found.st_mtime_ns}\n".encode())
+        self.rlibs[crate.name] = made.hexdigest()
+
+    def is_whole(self, crate, tests, made):
+        return made
+
+    def made(self, crate, tests):
+        return crate.is_program or os.path.exists(crate.rlib)
+
+    def place(self, crate, tests, key):
+        return os.devnull
+
+
 class Libraries:
     """The libraries in crates/NAME/out/rlib: which are of the sources as they are, and how those come about that aren't."""
 
     def __init__(self, tool, crates, anew=False):
-        self.tool, self.kept, self.lock = tool, tool.Kept(crates, anew), threading.Lock()
+        self.tool, self.lock = tool, threading.Lock()
+        self.kept = tool.Kept(crates, anew) if hasattr(tool, "Kept") else Unkept(anew)
 
     def note_of(self, crate):
         return f"{crate.folder}/out/rlib/made.sum"

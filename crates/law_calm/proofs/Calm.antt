@@ -1,21 +1,34 @@
--- Each move of a calm network leaves the device on its connection, and each connection going on.
-use Rattle.std.proofs.Common.{arith, ◌≡◌, ℕ, ◌-◌, [], ◌∷◌, drop, refl, ap, Option, Some}
+-- Each move that leaves a connection alone leaves the device on it, and the connection going on.
+use Rattle.std.proofs.Common.{arith, ◌≡◌, ◌≢◌, ℕ, ◌-◌, [], ◌∷◌, drop, refl, ap, ◌∙◌, Option, Some}
+use Rattle.sim_2_links.proofs.Entries.{at_other}
 use Rattle.sim_2_links.specs.Words.{TooHigh, ResumeAt, Bind, Enable, Up, St, Req, Ack, Failed, Bound, Enabled, Down, InFeatures2, InResume, InBind, InEnable, InOnline}
 use Rattle.sim_2_links.specs.Stages.{Conn, Errs, Closes}
-use Rattle.sim_2_links.specs.Views.{Table, View}
+use Rattle.sim_2_links.specs.Views.{Table, View, with_at}
 use Rattle.sim_2_links.specs.SessionMoves.{again, resumed_words}
 use Rattle.sim_2_links.specs.Machine.{LinkMove, Cuts, Dials, LetsGo, Foots, Forgets, Puts, Queues, Requests, ReadsHand, AsksToResume, AsksToBind, ReadsFailed, ReadsResumed, ReadsBound, ReadsEnabled, ReadsStanza, ReadsRequest, ReadsCount, TakesHand, TakesResume, TakesLateResume, TakesStrangeResume, TakesHighResume, TakesBind, TakesEnable, TakesStanza, TakesRequest, TakesCount, TakesFoot, Parks, Hears, HearsEarly, Detaches, Shuts, EndsRow, Serves, Keeps, Demands, LinkMoves}
 use Rattle.law_calm.proofs.Changes.{Changed, GoesOn, unmoved, at_one, at_none, taken_goes, put_goes, shut_goes, told_goes, say_goes, online_reads, hand_reads, step_reads}
-use Rattle.law_calm.specs.Rounds.{IsCalm}
+
+-- The connection isn't cut and not left, the client dials no other, and gives no session up.
+abbrev pub IsCalm : {A : Type 0} → ℕ → LinkMove A → Type 0
+IsCalm k (Cuts j a b) = j ≢ k
+IsCalm k (Dials j) = ⊥
+IsCalm k (LetsGo j) = ⊥
+IsCalm k (Foots j) = j ≢ k
+IsCalm k Forgets = ⊥
+IsCalm k move = Unit {0}
 
 abbrev conns_of : {A : Type 0} (v : View A) → Table (Conn A)
 conns_of v = v.conns
 
-pub goes_on : {A : Type 0} (move : LinkMove A) (v next : View A) (k : ℕ) (c : Conn A) → IsCalm move → LinkMoves move v next → v.conns k ≡ Some c → Changed GoesOn k c next
-goes_on (Cuts j a b) v next k c calm m is = absurd calm
+-- another connection is changed
+elsewhere : {A : Type 0} (j k : ℕ) (new c : Conn A) (v next : View A) → next.conns ≡ with_at j new v.conns → v.conns k ≡ Some c → j ≢ k → Changed GoesOn k c next
+elsewhere {A = A} j k new c v next gives is other = (c, ap (λ (t : Table (Conn A)). t k) gives ∙ at_other j new v.conns k other ∙ is, unmoved c)
+
+pub goes_on : {A : Type 0} (move : LinkMove A) (v next : View A) (k : ℕ) (c : Conn A) → IsCalm k move → LinkMoves move v next → v.conns k ≡ Some c → Changed GoesOn k c next
+goes_on (Cuts j a b) v next k c calm m is = elsewhere j k _ c v next (ap conns_of m.gives) is calm
 goes_on (Dials j) v next k c calm m is = absurd calm
 goes_on (LetsGo j) v next k c calm m is = absurd calm
-goes_on (Foots j) v next k c calm m is = absurd calm
+goes_on (Foots j) v next k c calm m is = elsewhere j k _ c v next (ap conns_of m.gives) is calm
 goes_on Forgets v next k c calm m is = absurd calm
 goes_on (Puts j z) v next k c calm m is = at_one GoesOn unmoved j k m.conn _ c v next (ap conns_of m.gives) m.is is (say_goes m.conn (Up (St z) ∷ []) m.own.number m.client)
 goes_on (Queues z) v next k c calm m is = at_none GoesOn unmoved k c v next (ap conns_of m.gives) is
@@ -54,42 +67,42 @@ goes_on (Demands j) v next k c calm m is = at_one GoesOn unmoved j k m.conn _ c 
 abbrev here_of : {A : Type 0} (v : View A) → Option ℕ
 here_of v = v.here
 
-pub stays_here : {A : Type 0} (move : LinkMove A) (v next : View A) → IsCalm move → LinkMoves move v next → next.here ≡ v.here
-stays_here (Cuts j a b) v next calm m = absurd calm
-stays_here (Dials j) v next calm m = absurd calm
-stays_here (LetsGo j) v next calm m = absurd calm
-stays_here (Foots j) v next calm m = absurd calm
-stays_here Forgets v next calm m = absurd calm
-stays_here (Puts j z) v next calm m = ap here_of m.gives
-stays_here (Queues z) v next calm m = ap here_of m.gives
-stays_here (Requests j) v next calm m = ap here_of m.gives
-stays_here (ReadsHand j) v next calm m = ap here_of m.gives
-stays_here (AsksToResume j) v next calm m = ap here_of m.gives
-stays_here (AsksToBind j) v next calm m = ap here_of m.gives
-stays_here (ReadsFailed j) v next calm m = ap here_of m.gives
-stays_here (ReadsResumed j) v next calm m = ap here_of m.gives
-stays_here (ReadsBound j n) v next calm m = ap here_of m.gives
-stays_here (ReadsEnabled j n) v next calm m = ap here_of m.gives
-stays_here (ReadsStanza j z) v next calm m = ap here_of m.gives
-stays_here (ReadsRequest j) v next calm m = ap here_of m.gives
-stays_here (ReadsCount j h) v next calm m = ap here_of m.gives
-stays_here (TakesHand j) v next calm m = ap here_of m.gives
-stays_here (TakesResume j) v next calm m = ap here_of m.gives
-stays_here (TakesLateResume j) v next calm m = ap here_of m.gives
-stays_here (TakesStrangeResume j) v next calm m = ap here_of m.gives
-stays_here (TakesHighResume j) v next calm m = ap here_of m.gives
-stays_here (TakesBind j n) v next calm m = ap here_of m.gives
-stays_here (TakesEnable j) v next calm m = ap here_of m.gives
-stays_here (TakesStanza j z) v next calm m = ap here_of m.gives
-stays_here (TakesRequest j) v next calm m = ap here_of m.gives
-stays_here (TakesCount j h) v next calm m = ap here_of m.gives
-stays_here (TakesFoot j) v next calm m = ap here_of m.gives
-stays_here (Parks j) v next calm m = ap here_of m.gives
-stays_here (Hears j) v next calm m = ap here_of m.gives
-stays_here (HearsEarly j) v next calm m = ap here_of m.gives
-stays_here (Detaches j ending) v next calm m = ap here_of m.gives
-stays_here (Shuts j ending) v next calm m = ap here_of m.gives
-stays_here EndsRow v next calm m = ap here_of m.gives
-stays_here (Serves j z) v next calm m = ap here_of m.gives
-stays_here (Keeps z) v next calm m = ap here_of m.gives
-stays_here (Demands j) v next calm m = ap here_of m.gives
+pub stays_here : {A : Type 0} (move : LinkMove A) (v next : View A) (k : ℕ) → IsCalm k move → LinkMoves move v next → next.here ≡ v.here
+stays_here (Cuts j a b) v next k calm m = ap here_of m.gives
+stays_here (Dials j) v next k calm m = absurd calm
+stays_here (LetsGo j) v next k calm m = absurd calm
+stays_here (Foots j) v next k calm m = ap here_of m.gives
+stays_here Forgets v next k calm m = absurd calm
+stays_here (Puts j z) v next k calm m = ap here_of m.gives
+stays_here (Queues z) v next k calm m = ap here_of m.gives
+stays_here (Requests j) v next k calm m = ap here_of m.gives
+stays_here (ReadsHand j) v next k calm m = ap here_of m.gives
+stays_here (AsksToResume j) v next k calm m = ap here_of m.gives
+stays_here (AsksToBind j) v next k calm m = ap here_of m.gives
+stays_here (ReadsFailed j) v next k calm m = ap here_of m.gives
+stays_here (ReadsResumed j) v next k calm m = ap here_of m.gives
+stays_here (ReadsBound j n) v next k calm m = ap here_of m.gives
+stays_here (ReadsEnabled j n) v next k calm m = ap here_of m.gives
+stays_here (ReadsStanza j z) v next k calm m = ap here_of m.gives
+stays_here (ReadsRequest j) v next k calm m = ap here_of m.gives
+stays_here (ReadsCount j h) v next k calm m = ap here_of m.gives
+stays_here (TakesHand j) v next k calm m = ap here_of m.gives
+stays_here (TakesResume j) v next k calm m = ap here_of m.gives
+stays_here (TakesLateResume j) v next k calm m = ap here_of m.gives
+stays_here (TakesStrangeResume j) v next k calm m = ap here_of m.gives
+stays_here (TakesHighResume j) v next k calm m = ap here_of m.gives
+stays_here (TakesBind j n) v next k calm m = ap here_of m.gives
+stays_here (TakesEnable j) v next k calm m = ap here_of m.gives
+stays_here (TakesStanza j z) v next k calm m = ap here_of m.gives
+stays_here (TakesRequest j) v next k calm m = ap here_of m.gives
+stays_here (TakesCount j h) v next k calm m = ap here_of m.gives
+stays_here (TakesFoot j) v next k calm m = ap here_of m.gives
+stays_here (Parks j) v next k calm m = ap here_of m.gives
+stays_here (Hears j) v next k calm m = ap here_of m.gives
+stays_here (HearsEarly j) v next k calm m = ap here_of m.gives
+stays_here (Detaches j ending) v next k calm m = ap here_of m.gives
+stays_here (Shuts j ending) v next k calm m = ap here_of m.gives
+stays_here EndsRow v next k calm m = ap here_of m.gives
+stays_here (Serves j z) v next k calm m = ap here_of m.gives
+stays_here (Keeps z) v next k calm m = ap here_of m.gives
+stays_here (Demands j) v next k calm m = ap here_of m.gives

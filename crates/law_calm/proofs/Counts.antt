@@ -1,14 +1,16 @@
 -- Where neither end puts anything of itself, a client that is online puts up counts alone, and a server that takes counts
 -- alone puts nothing down.
-use Rattle.std.proofs.Common.{arith, ◌≡◌, ℕ, ◌+◌, true, false, List, [], ◌∷◌, ◌++◌, refl, sym, ap, ◌∙◌, subst, Some}
+use Rattle.std.proofs.Common.{arith, ◌≡◌, ◌≢◌, ℕ, ◌+◌, true, false, List, [], ◌∷◌, ◌++◌, refl, sym, ap, ◌∙◌, subst, Some}
 use Rattle.std.proofs.lemmas.List.{append-nil}
 use Rattle.sim_2_links.proofs.Detached.{halted, halted_up}
+use Rattle.sim_2_links.proofs.Entries.{at_other}
 use Rattle.sim_2_links.specs.Words.{TooHigh, St, Req, Ack, UpWord, Hdr, Auth, Resp, ResumeAt, Bind, Enable, Up, Foot, DownWord, Down, Client, InHeader1, InFeatures1, InAuth, InResponse, InHeader2, InFeatures2, InResume, InBind, InEnable, InOnline, Phase, Start, Sasl, Challenge, Restart, Ready, AtSession}
 use Rattle.sim_2_links.specs.Wires.{Wires, Flow, Stop, is_flowing, up_words, down_words, send_up, send_down, left_up, left_down, halt}
 use Rattle.sim_2_links.specs.Stages.{Conn, Ending, Errs, Closes, IsEarly, Goes, server_hand, tail_of}
-use Rattle.sim_2_links.specs.Views.{Table, View}
+use Rattle.sim_2_links.specs.Views.{Table, View, with_at}
 use Rattle.sim_2_links.specs.SessionMoves.{shut}
 use Rattle.sim_2_links.specs.Machine.{LinkMove, Cuts, Dials, LetsGo, Foots, Forgets, Puts, Queues, Requests, ReadsHand, AsksToResume, AsksToBind, ReadsFailed, ReadsResumed, ReadsBound, ReadsEnabled, ReadsStanza, ReadsRequest, ReadsCount, TakesHand, TakesResume, TakesLateResume, TakesStrangeResume, TakesHighResume, TakesBind, TakesEnable, TakesStanza, TakesRequest, TakesCount, TakesFoot, Parks, Hears, HearsEarly, Detaches, Shuts, EndsRow, Serves, Keeps, Demands, LinkMoves}
+use Rattle.law_calm.proofs.Calm.{IsCalm}
 use Rattle.law_calm.proofs.Changes.{Changed, at_one, at_none}
 use Rattle.law_calm.specs.Rounds.{IsStill, rounds_to_go}
 
@@ -115,42 +117,45 @@ hand_quiet c d early z = absurd (go c.client early z)
 abbrev conns_of : {A : Type 0} (v : View A) → Table (Conn A)
 conns_of v = v.conns
 
-pub stays_quiet : {A : Type 0} (move : LinkMove A) (v next : View A) (k : ℕ) (c : Conn A) → IsStill move → LinkMoves move v next → v.conns k ≡ Some c → Changed StaysQuiet k c next
-stays_quiet (Cuts j a b) v next k c still m is = absurd still
-stays_quiet (Dials j) v next k c still m is = absurd still
-stays_quiet (LetsGo j) v next k c still m is = absurd still
-stays_quiet (Foots j) v next k c still m is = absurd still
-stays_quiet Forgets v next k c still m is = absurd still
-stays_quiet (Puts j z) v next k c still m is = absurd still
-stays_quiet (Requests j) v next k c still m is = absurd still
-stays_quiet (Serves j z) v next k c still m is = absurd still
-stays_quiet (Demands j) v next k c still m is = absurd still
-stays_quiet (Queues z) v next k c still m is = at_none StaysQuiet same_quiet k c v next (ap conns_of m.gives) is
-stays_quiet EndsRow v next k c still m is = at_none StaysQuiet same_quiet k c v next (ap conns_of m.gives) is
-stays_quiet (Keeps z) v next k c still m is = at_none StaysQuiet same_quiet k c v next (ap conns_of m.gives) is
-stays_quiet (ReadsHand j) v next k c still m is = at_one StaysQuiet same_quiet j k m.conn _ c v next (ap conns_of m.gives) m.is is (hand_quiet m.conn _ m.early)
-stays_quiet (AsksToResume j) v next k c still m is = at_one StaysQuiet same_quiet j k m.conn _ c v next (ap conns_of m.gives) m.is is (never_quiet m.conn _ 3 InFeatures2 m.client refl)
-stays_quiet (AsksToBind j) v next k c still m is = at_one StaysQuiet same_quiet j k m.conn _ c v next (ap conns_of m.gives) m.is is (never_quiet m.conn _ 3 InFeatures2 m.client refl)
-stays_quiet (ReadsFailed j) v next k c still m is = at_one StaysQuiet same_quiet j k m.conn _ c v next (ap conns_of m.gives) m.is is (never_quiet m.conn _ 2 (InResume m.p) m.client refl)
-stays_quiet (ReadsResumed j) v next k c still m is = at_one StaysQuiet same_quiet j k m.conn _ c v next (ap conns_of m.gives) m.is is (never_quiet m.conn _ 2 (InResume m.own.number) m.client refl)
-stays_quiet (ReadsBound j n) v next k c still m is = at_one StaysQuiet same_quiet j k m.conn _ c v next (ap conns_of m.gives) m.is is (never_quiet m.conn _ 1 InBind m.client refl)
-stays_quiet (ReadsEnabled j n) v next k c still m is = at_one StaysQuiet same_quiet j k m.conn _ c v next (ap conns_of m.gives) m.is is (never_quiet m.conn _ 0 InEnable m.client refl)
-stays_quiet (ReadsStanza j z) v next k c still m is = at_one StaysQuiet same_quiet j k m.conn _ c v next (ap conns_of m.gives) m.is is (read_quiet m.conn _ (Down (St z)) m.rest [] m.first refl tt)
-stays_quiet (ReadsRequest j) v next k c still m is = at_one StaysQuiet same_quiet j k m.conn _ c v next (ap conns_of m.gives) m.is is (read_quiet m.conn _ (Down Req) m.rest (Up (Ack m.own.handled) ∷ []) m.first refl (tt, tt))
-stays_quiet (ReadsCount j h) v next k c still m is = at_one StaysQuiet same_quiet j k m.conn _ c v next (ap conns_of m.gives) m.is is (read_quiet m.conn _ (Down (Ack h)) m.rest [] m.first refl tt)
-stays_quiet (TakesHand j) v next k c still m is = at_one StaysQuiet same_quiet j k m.conn _ c v next (ap conns_of m.gives) m.is is (taken_quiet m.conn _ m.word m.rest m.first (λ a. no_hand m.conn.phase m.phase m.word m.puts a m.hand))
-stays_quiet (TakesResume j) v next k c still m is = at_one StaysQuiet same_quiet j k m.conn _ c v next (ap conns_of m.gives) m.is is (taken_quiet m.conn _ (ResumeAt m.row.number m.h) m.rest m.first (λ a. a))
-stays_quiet (TakesLateResume j) v next k c still m is = at_one StaysQuiet same_quiet j k m.conn _ c v next (ap conns_of m.gives) m.is is (taken_quiet m.conn _ (ResumeAt m.row.number m.h) m.rest m.first (λ a. a))
-stays_quiet (TakesStrangeResume j) v next k c still m is = at_one StaysQuiet same_quiet j k m.conn _ c v next (ap conns_of m.gives) m.is is (taken_quiet m.conn _ (ResumeAt m.p m.h) m.rest m.first (λ a. a))
-stays_quiet (TakesBind j n) v next k c still m is = at_one StaysQuiet same_quiet j k m.conn _ c v next (ap conns_of m.gives) m.is is (taken_quiet m.conn _ Bind m.rest m.first (λ a. a))
-stays_quiet (TakesEnable j) v next k c still m is = at_one StaysQuiet same_quiet j k m.conn _ c v next (ap conns_of m.gives) m.is is (taken_quiet m.conn _ Enable m.rest m.first (λ a. a))
-stays_quiet (TakesStanza j z) v next k c still m is = at_one StaysQuiet same_quiet j k m.conn _ c v next (ap conns_of m.gives) m.is is (taken_quiet m.conn _ (Up (St z)) m.rest m.first (λ a. a))
-stays_quiet (TakesRequest j) v next k c still m is = at_one StaysQuiet same_quiet j k m.conn _ c v next (ap conns_of m.gives) m.is is (taken_quiet m.conn _ (Up Req) m.rest m.first (λ a. a))
-stays_quiet (TakesCount j h) v next k c still m is = at_one StaysQuiet same_quiet j k m.conn _ c v next (ap conns_of m.gives) m.is is (count_quiet m.conn _ (Up (Ack h)) m.rest m.first refl)
-stays_quiet (TakesHighResume j) v next k c still m is = at_one StaysQuiet same_quiet j k m.conn _ c v next (ap conns_of m.gives) m.is is (shut_quiet m.conn (Errs TooHigh))
-stays_quiet (TakesFoot j) v next k c still m is = at_one StaysQuiet same_quiet j k m.conn _ c v next (ap conns_of m.gives) m.is is (shut_quiet m.conn Closes)
-stays_quiet (Detaches j ending) v next k c still m is = at_one StaysQuiet same_quiet j k m.conn _ c v next (ap conns_of m.gives) m.is is (shut_quiet m.conn ending)
-stays_quiet (Shuts j ending) v next k c still m is = at_one StaysQuiet same_quiet j k m.conn _ c v next (ap conns_of m.gives) m.is is (shut_quiet m.conn ending)
-stays_quiet (Parks j) v next k c still m is = at_one StaysQuiet same_quiet j k m.conn _ c v next (ap conns_of m.gives) m.is is (gone_quiet m.conn)
-stays_quiet (Hears j) v next k c still m is = at_one StaysQuiet same_quiet j k m.conn _ c v next (ap conns_of m.gives) m.is is (gone_quiet m.conn)
-stays_quiet (HearsEarly j) v next k c still m is = at_one StaysQuiet same_quiet j k m.conn _ c v next (ap conns_of m.gives) m.is is (gone_quiet m.conn)
+elsewhere : {A : Type 0} (j k : ℕ) (new c : Conn A) (v next : View A) → next.conns ≡ with_at j new v.conns → v.conns k ≡ Some c → j ≢ k → Changed StaysQuiet k c next
+elsewhere {A = A} j k new c v next gives is other = (c, ap (λ (t : Table (Conn A)). t k) gives ∙ at_other j new v.conns k other ∙ is, same_quiet c)
+
+pub stays_quiet : {A : Type 0} (move : LinkMove A) (v next : View A) (k : ℕ) (c : Conn A) → IsCalm k move → IsStill move → LinkMoves move v next → v.conns k ≡ Some c → Changed StaysQuiet k c next
+stays_quiet (Cuts j a b) v next k c calm still m is = elsewhere j k _ c v next (ap conns_of m.gives) is calm
+stays_quiet (Dials j) v next k c calm still m is = absurd calm
+stays_quiet (LetsGo j) v next k c calm still m is = absurd calm
+stays_quiet (Foots j) v next k c calm still m is = elsewhere j k _ c v next (ap conns_of m.gives) is calm
+stays_quiet Forgets v next k c calm still m is = absurd calm
+stays_quiet (Puts j z) v next k c calm still m is = absurd still
+stays_quiet (Requests j) v next k c calm still m is = absurd still
+stays_quiet (Serves j z) v next k c calm still m is = absurd still
+stays_quiet (Demands j) v next k c calm still m is = absurd still
+stays_quiet (Queues z) v next k c calm still m is = at_none StaysQuiet same_quiet k c v next (ap conns_of m.gives) is
+stays_quiet EndsRow v next k c calm still m is = at_none StaysQuiet same_quiet k c v next (ap conns_of m.gives) is
+stays_quiet (Keeps z) v next k c calm still m is = at_none StaysQuiet same_quiet k c v next (ap conns_of m.gives) is
+stays_quiet (ReadsHand j) v next k c calm still m is = at_one StaysQuiet same_quiet j k m.conn _ c v next (ap conns_of m.gives) m.is is (hand_quiet m.conn _ m.early)
+stays_quiet (AsksToResume j) v next k c calm still m is = at_one StaysQuiet same_quiet j k m.conn _ c v next (ap conns_of m.gives) m.is is (never_quiet m.conn _ 3 InFeatures2 m.client refl)
+stays_quiet (AsksToBind j) v next k c calm still m is = at_one StaysQuiet same_quiet j k m.conn _ c v next (ap conns_of m.gives) m.is is (never_quiet m.conn _ 3 InFeatures2 m.client refl)
+stays_quiet (ReadsFailed j) v next k c calm still m is = at_one StaysQuiet same_quiet j k m.conn _ c v next (ap conns_of m.gives) m.is is (never_quiet m.conn _ 2 (InResume m.p) m.client refl)
+stays_quiet (ReadsResumed j) v next k c calm still m is = at_one StaysQuiet same_quiet j k m.conn _ c v next (ap conns_of m.gives) m.is is (never_quiet m.conn _ 2 (InResume m.own.number) m.client refl)
+stays_quiet (ReadsBound j n) v next k c calm still m is = at_one StaysQuiet same_quiet j k m.conn _ c v next (ap conns_of m.gives) m.is is (never_quiet m.conn _ 1 InBind m.client refl)
+stays_quiet (ReadsEnabled j n) v next k c calm still m is = at_one StaysQuiet same_quiet j k m.conn _ c v next (ap conns_of m.gives) m.is is (never_quiet m.conn _ 0 InEnable m.client refl)
+stays_quiet (ReadsStanza j z) v next k c calm still m is = at_one StaysQuiet same_quiet j k m.conn _ c v next (ap conns_of m.gives) m.is is (read_quiet m.conn _ (Down (St z)) m.rest [] m.first refl tt)
+stays_quiet (ReadsRequest j) v next k c calm still m is = at_one StaysQuiet same_quiet j k m.conn _ c v next (ap conns_of m.gives) m.is is (read_quiet m.conn _ (Down Req) m.rest (Up (Ack m.own.handled) ∷ []) m.first refl (tt, tt))
+stays_quiet (ReadsCount j h) v next k c calm still m is = at_one StaysQuiet same_quiet j k m.conn _ c v next (ap conns_of m.gives) m.is is (read_quiet m.conn _ (Down (Ack h)) m.rest [] m.first refl tt)
+stays_quiet (TakesHand j) v next k c calm still m is = at_one StaysQuiet same_quiet j k m.conn _ c v next (ap conns_of m.gives) m.is is (taken_quiet m.conn _ m.word m.rest m.first (λ a. no_hand m.conn.phase m.phase m.word m.puts a m.hand))
+stays_quiet (TakesResume j) v next k c calm still m is = at_one StaysQuiet same_quiet j k m.conn _ c v next (ap conns_of m.gives) m.is is (taken_quiet m.conn _ (ResumeAt m.row.number m.h) m.rest m.first (λ a. a))
+stays_quiet (TakesLateResume j) v next k c calm still m is = at_one StaysQuiet same_quiet j k m.conn _ c v next (ap conns_of m.gives) m.is is (taken_quiet m.conn _ (ResumeAt m.row.number m.h) m.rest m.first (λ a. a))
+stays_quiet (TakesStrangeResume j) v next k c calm still m is = at_one StaysQuiet same_quiet j k m.conn _ c v next (ap conns_of m.gives) m.is is (taken_quiet m.conn _ (ResumeAt m.p m.h) m.rest m.first (λ a. a))
+stays_quiet (TakesBind j n) v next k c calm still m is = at_one StaysQuiet same_quiet j k m.conn _ c v next (ap conns_of m.gives) m.is is (taken_quiet m.conn _ Bind m.rest m.first (λ a. a))
+stays_quiet (TakesEnable j) v next k c calm still m is = at_one StaysQuiet same_quiet j k m.conn _ c v next (ap conns_of m.gives) m.is is (taken_quiet m.conn _ Enable m.rest m.first (λ a. a))
+stays_quiet (TakesStanza j z) v next k c calm still m is = at_one StaysQuiet same_quiet j k m.conn _ c v next (ap conns_of m.gives) m.is is (taken_quiet m.conn _ (Up (St z)) m.rest m.first (λ a. a))
+stays_quiet (TakesRequest j) v next k c calm still m is = at_one StaysQuiet same_quiet j k m.conn _ c v next (ap conns_of m.gives) m.is is (taken_quiet m.conn _ (Up Req) m.rest m.first (λ a. a))
+stays_quiet (TakesCount j h) v next k c calm still m is = at_one StaysQuiet same_quiet j k m.conn _ c v next (ap conns_of m.gives) m.is is (count_quiet m.conn _ (Up (Ack h)) m.rest m.first refl)
+stays_quiet (TakesHighResume j) v next k c calm still m is = at_one StaysQuiet same_quiet j k m.conn _ c v next (ap conns_of m.gives) m.is is (shut_quiet m.conn (Errs TooHigh))
+stays_quiet (TakesFoot j) v next k c calm still m is = at_one StaysQuiet same_quiet j k m.conn _ c v next (ap conns_of m.gives) m.is is (shut_quiet m.conn Closes)
+stays_quiet (Detaches j ending) v next k c calm still m is = at_one StaysQuiet same_quiet j k m.conn _ c v next (ap conns_of m.gives) m.is is (shut_quiet m.conn ending)
+stays_quiet (Shuts j ending) v next k c calm still m is = at_one StaysQuiet same_quiet j k m.conn _ c v next (ap conns_of m.gives) m.is is (shut_quiet m.conn ending)
+stays_quiet (Parks j) v next k c calm still m is = at_one StaysQuiet same_quiet j k m.conn _ c v next (ap conns_of m.gives) m.is is (gone_quiet m.conn)
+stays_quiet (Hears j) v next k c calm still m is = at_one StaysQuiet same_quiet j k m.conn _ c v next (ap conns_of m.gives) m.is is (gone_quiet m.conn)
+stays_quiet (HearsEarly j) v next k c calm still m is = at_one StaysQuiet same_quiet j k m.conn _ c v next (ap conns_of m.gives) m.is is (gone_quiet m.conn)

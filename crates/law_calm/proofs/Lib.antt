@@ -1,9 +1,12 @@
 -- what moves leave
 pub mod Changes
 pub mod Calm
+pub mod Staying
+pub mod Spared
 -- rounds
 pub mod Online
 pub mod Counts
 pub mod Quiet
 pub mod Sparing
+pub mod Handled
 pub mod Settling

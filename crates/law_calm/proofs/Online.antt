@@ -11,8 +11,9 @@ use Rattle.sim_2_links.specs.Views.{View, has}
 use Rattle.sim_2_links.specs.Links.{ConnKept, LinkKept}
 use Rattle.sim_2_links.specs.Machine.{LinkMove, LinkMoves, LinkReached}
 use Rattle.law_calm.proofs.Changes.{GoesOn}
-use Rattle.law_calm.proofs.Calm.{goes_on, stays_here}
-use Rattle.law_calm.specs.Rounds.{IsCalm, Leads, Goes, IsRound, AreRounds, rounds_to_go}
+use Rattle.law_calm.proofs.Calm.{IsCalm, goes_on, stays_here}
+use Rattle.law_calm.proofs.Staying.{IsCalmAnd, calm_rounds, flows_along, flows_rounds}
+use Rattle.law_calm.specs.Rounds.{IsAny, Leads, Goes, IsRound, AreRounds, rounds_to_go}
 
 -- ---- what moves of a kind keep
 
@@ -106,15 +107,15 @@ nearer most c d some goes is =
       | inr more ↦ elim more [ inl near ↦ inl (elim is [ inl low ↦ omega arith | inr still ↦ let f = still.0 in omega arith ]) | inr done ↦ inl (let e = done.1 in omega arith) ]
     ]
 
-pub has_keeps : {A : Type 0} (k most : ℕ) (move : LinkMove A) (v next : View A) → IsCalm move → LinkMoves move v next → Has k most v → Has k most next
+pub has_keeps : {A : Type 0} (k most : ℕ) (move : LinkMove A) (v next : View A) → IsCalm k move → LinkMoves move v next → Has k most v → Has k most next
 has_keeps k most move v next calm made has =
     let on = goes_on move v next k has.conn calm made has.is in
-    record { here = stays_here move v next calm made ∙ has.here; conn = on.0; is = on.1; low = below most has.conn on.0 on.2 has.low }
+    record { here = stays_here move v next k calm made ∙ has.here; conn = on.0; is = on.1; low = below most has.conn on.0 on.2 has.low }
 
-nearer_keeps : {A : Type 0} (k most : ℕ) → 1 ≤ most → (move : LinkMove A) (v next : View A) → IsCalm move → LinkMoves move v next → HasNearer k most v → HasNearer k most next
+nearer_keeps : {A : Type 0} (k most : ℕ) → 1 ≤ most → (move : LinkMove A) (v next : View A) → IsCalm k move → LinkMoves move v next → HasNearer k most v → HasNearer k most next
 nearer_keeps k most some move v next calm made has =
     let on = goes_on move v next k has.conn calm made has.is in
-    record { here = stays_here move v next calm made ∙ has.here; conn = on.0; is = on.1; near = nearer most has.conn on.0 some on.2 has.near }
+    record { here = stays_here move v next k calm made ∙ has.here; conn = on.0; is = on.1; near = nearer most has.conn on.0 some on.2 has.near }
 
 -- behind a round
 pub record HasRound {A : Type 0} (k most : ℕ) (last : View A) : Type 0 where
@@ -122,26 +123,25 @@ pub record HasRound {A : Type 0} (k most : ℕ) (last : View A) : Type 0 where
   pub has : Has k most last
   pub nearer : is_flowing has.conn.wires ≡ true → (less : ℕ) → most ≤ less + 1 → rounds_to_go has.conn.client ≤ less
 
-pub round_brings : {A : Type 0} (kind : LinkMove A → Type 0) → ((move : LinkMove A) → kind move → IsCalm move) → (k most : ℕ) (v last : View A) → IsRound kind k v last → LinkKept v → Has k most v → HasRound k most last
-round_brings {A = A} kind into k zero v last round kept has = record { kept = end.0; has = end.1; nearer = λ flows less low. let e = end.1.low in omega arith }
+pub has_going : {A : Type 0} (kind : LinkMove A → Type 0) (k most : ℕ) → ((move : LinkMove A) → kind move → IsCalm k move) → (v last : View A) → Goes kind v last → LinkKept v → Has k most v → LinkKept last × Has k most last
+has_going {A = A} kind k most into v last goes kept has = kept_going kind (Has k most) keeps v last goes kept has
   where
-    keeps : (move : LinkMove A) (x next : View A) → kind move → LinkMoves move x next → LinkKept x → Has k 0 x → Has k 0 next
-    keeps move x next is made old it = has_keeps k 0 move x next (into move is) made it
+    keeps : (move : LinkMove A) (x next : View A) → kind move → LinkMoves move x next → LinkKept x → Has k most x → Has k most next
+    keeps move x next is made old it = has_keeps k most move x next (into move is) made it
 
+round_brings : {A : Type 0} (kind : LinkMove A → Type 0) (k most : ℕ) → ((move : LinkMove A) → kind move → IsCalm k move) → (v last : View A) → IsRound kind k v last → LinkKept v → Has k most v → HasRound k most last
+round_brings {A = A} kind k zero into v last round kept has = record { kept = end.0; has = end.1; nearer = λ flows less low. let e = end.1.low in omega arith }
+  where
     mid : LinkKept round.taken × Has k 0 round.taken
-    mid = kept_going kind (Has k 0) keeps v round.taken round.up kept has
+    mid = has_going kind k 0 into v round.taken round.up kept has
+
+    then : LinkKept round.read × Has k 0 round.read
+    then = has_going kind k 0 into round.taken round.read round.down mid.0 mid.1
 
     end : LinkKept last × Has k 0 last
-    end = kept_going kind (Has k 0) keeps round.taken last round.down mid.0 mid.1
-round_brings {A = A} kind into k (suc less) v last round kept has = record {
-  kept = end.0;
-  has = record { here = end.1.here; conn = end.1.conn; is = end.1.is; low = elim end.1.near [ inl less_now ↦ omega arith | inr still ↦ still.0 ] };
-  nearer = λ flows fewer low. elim end.1.near [ inl less_now ↦ omega arith | inr still ↦ online flows still.1 fewer ];
-}
+    end = has_going kind k 0 into round.read last round.rest then.0 then.1
+round_brings {A = A} kind k (suc less) into v last round kept has = record { kept = end.0; has = end.1; nearer = nearer_in_the_end }
   where
-    keeps : (move : LinkMove A) (x next : View A) → kind move → LinkMoves move x next → LinkKept x → Has k (suc less) x → Has k (suc less) next
-    keeps move x next is made old it = has_keeps k (suc less) move x next (into move is) made it
-
     some : 1 ≤ suc less
     some = omega arith
 
@@ -149,96 +149,80 @@ round_brings {A = A} kind into k (suc less) v last round kept has = record {
     nears move x next is made old it = nearer_keeps k (suc less) some move x next (into move is) made it
 
     mid : LinkKept round.taken × Has k (suc less) round.taken
-    mid = kept_going kind (Has k (suc less)) keeps v round.taken round.up kept has
+    mid = has_going kind k (suc less) into v round.taken round.up kept has
 
     near : HasNearer k (suc less) round.taken
     near =
         let one : round.up_empty.0 ≡ mid.1.conn = some_one (round.taken.conns k) round.up_empty.0 mid.1.conn round.up_empty.1 mid.1.is in
         record { here = mid.1.here; conn = mid.1.conn; is = mid.1.is; near = inr (mid.1.low, subst (λ (x : Conn A). up_words x.wires ≡ []) one round.up_empty.2) }
 
-    end : LinkKept last × HasNearer k (suc less) last
-    end = kept_going kind (HasNearer k (suc less)) nears round.taken last round.down mid.0 near
+    then : LinkKept round.read × HasNearer k (suc less) round.read
+    then = kept_going kind (HasNearer k (suc less)) nears round.taken round.read round.down mid.0 near
 
-    online : is_flowing end.1.conn.wires ≡ true → up_words end.1.conn.wires ≡ [] → (fewer : ℕ) → rounds_to_go end.1.conn.client ≤ fewer
+    has_then : Has k (suc less) round.read
+    has_then = record { here = then.1.here; conn = then.1.conn; is = then.1.is; low = elim then.1.near [ inl less_now ↦ omega arith | inr still ↦ still.0 ] }
+
+    online : is_flowing then.1.conn.wires ≡ true → up_words then.1.conn.wires ≡ [] → (fewer : ℕ) → rounds_to_go then.1.conn.client ≤ fewer
     online flows no_up fewer =
-        let one : round.down_empty.0 ≡ end.1.conn = some_one (last.conns k) round.down_empty.0 end.1.conn round.down_empty.1 end.1.is in
-        let it = idle_online last k end.1.conn end.0 end.1.here end.1.is flows no_up (subst (λ (x : Conn A). down_words x.wires ≡ []) one round.down_empty.2) in
-        let e : rounds_to_go end.1.conn.client ≡ 0 = ap rounds_to_go it.1 in
+        let one : round.down_empty.0 ≡ then.1.conn = some_one (round.read.conns k) round.down_empty.0 then.1.conn round.down_empty.1 then.1.is in
+        let it = idle_online round.read k then.1.conn then.0 then.1.here then.1.is flows no_up (subst (λ (x : Conn A). down_words x.wires ≡ []) one round.down_empty.2) in
+        let e : rounds_to_go then.1.conn.client ≡ 0 = ap rounds_to_go it.1 in
         omega arith
 
--- ---- what flows did so before
+    end : LinkKept last × Has k (suc less) last
+    end = has_going kind k (suc less) into round.read last round.rest then.0 has_then
 
-flows_along : {A : Type 0} (kind : LinkMove A → Type 0) → ((move : LinkMove A) → kind move → IsCalm move) → (moves : List (LinkMove A)) (v last : View A) (k : ℕ) (c d : Conn A) → Leads kind moves v last → v.conns k ≡ Some c → last.conns k ≡ Some d → is_flowing d.wires ≡ true → is_flowing c.wires ≡ true
-flows_along {A = A} kind into [] v last k c d same is at flows =
-    let one : d ≡ c = some_one (v.conns k) d c (subst (λ (x : View A). x.conns k ≡ Some d) same at) is in
-    subst (λ (x : Conn A). is_flowing x.wires ≡ true) one flows
-flows_along {A = A} kind into (move ∷ moves) v last k c d (next, ok, made, more) is at flows =
-    let on = goes_on move v next k c (into move ok) made is in
-    on.2.flows (flows_along kind into moves next last k on.0 d more on.1 at flows)
-
-conn_along : {A : Type 0} (kind : LinkMove A → Type 0) → ((move : LinkMove A) → kind move → IsCalm move) → (moves : List (LinkMove A)) (v last : View A) (k : ℕ) (c : Conn A) → Leads kind moves v last → v.conns k ≡ Some c → (d : Conn A) × (last.conns k ≡ Some d)
-conn_along {A = A} kind into [] v last k c same is = (c, subst (λ (x : View A). x.conns k ≡ Some c) (sym same) is)
-conn_along {A = A} kind into (move ∷ moves) v last k c (next, ok, made, more) is =
-    let on = goes_on move v next k c (into move ok) made is in
-    conn_along kind into moves next last k on.0 more on.1
-
-pub flows_round : {A : Type 0} (kind : LinkMove A → Type 0) → ((move : LinkMove A) → kind move → IsCalm move) → (v last : View A) (k : ℕ) (c d : Conn A) → IsRound kind k v last → v.conns k ≡ Some c → last.conns k ≡ Some d → is_flowing d.wires ≡ true → is_flowing c.wires ≡ true
-flows_round kind into v last k c d round is at flows =
-    let mid = conn_along kind into round.up.moves v round.taken k c round.up.leads is in
-    flows_along kind into round.up.moves v round.taken k c mid.0 round.up.leads is mid.1
-    (flows_along kind into round.down.moves round.taken last k mid.0 d round.down.leads mid.1 at flows)
-
-pub flows_rounds : {A : Type 0} (kind : LinkMove A → Type 0) → ((move : LinkMove A) → kind move → IsCalm move) → (n : ℕ) (v last : View A) (k : ℕ) (c d : Conn A) → AreRounds kind k n v last → v.conns k ≡ Some c → last.conns k ≡ Some d → is_flowing d.wires ≡ true → is_flowing c.wires ≡ true
-flows_rounds {A = A} kind into zero v last k c d same is at flows =
-    let one : d ≡ c = some_one (v.conns k) d c (subst (λ (x : View A). x.conns k ≡ Some d) same at) is in
-    subst (λ (x : Conn A). is_flowing x.wires ≡ true) one flows
-flows_rounds {A = A} kind into (suc n) v last k c d (next, round, more) is at flows =
-    let mid = conn_along kind into round.up.moves v round.taken k c round.up.leads is in
-    let then = conn_along kind into round.down.moves round.taken next k mid.0 round.down.leads mid.1 in
-    flows_round kind into v next k c then.0 round is then.1 (flows_rounds kind into n next last k then.0 d more then.1 at flows)
+    nearer_in_the_end : is_flowing end.1.conn.wires ≡ true → (fewer : ℕ) → suc less ≤ fewer + 1 → rounds_to_go end.1.conn.client ≤ fewer
+    nearer_in_the_end flows fewer low =
+        let flowed : is_flowing then.1.conn.wires ≡ true = flows_along kind round.rest.moves round.read last k then.1.conn end.1.conn round.rest.leads then.1.is end.1.is flows in
+        let now : rounds_to_go then.1.conn.client ≤ fewer = elim then.1.near [ inl less_now ↦ omega arith | inr still ↦ online flowed still.1 fewer ] in
+        let last_has : LinkKept last × Has k fewer last = has_going kind k fewer into round.read last round.rest then.0 (record { here = then.1.here; conn = then.1.conn; is = then.1.is; low = now }) in
+        let one : last_has.1.conn ≡ end.1.conn = some_one (last.conns k) last_has.1.conn end.1.conn last_has.1.is end.1.is in
+        subst (λ (x : Conn A). rounds_to_go x.client ≤ fewer) one last_has.1.low
 
 -- ---- rounds
 
 -- where the connection flows in the end, so many fewer are to go
-pub rounds_bring : {A : Type 0} (kind : LinkMove A → Type 0) → ((move : LinkMove A) → kind move → IsCalm move) → (k n less most : ℕ) (v last : View A) (d : Conn A) → AreRounds kind k n v last → LinkKept v → Has k most v → most ≤ n + less → last.conns k ≡ Some d → is_flowing d.wires ≡ true → rounds_to_go d.client ≤ less
-rounds_bring {A = A} kind into k zero less most v last d same kept has low at flows =
+pub rounds_bring : {A : Type 0} (kind : LinkMove A → Type 0) (k n less most : ℕ) → ((move : LinkMove A) → kind move → IsCalm k move) → (v last : View A) (d : Conn A) → AreRounds kind k n v last → LinkKept v → Has k most v → most ≤ n + less → last.conns k ≡ Some d → is_flowing d.wires ≡ true → rounds_to_go d.client ≤ less
+rounds_bring {A = A} kind k zero less most into v last d same kept has low at flows =
     let one : has.conn ≡ d = some_one (v.conns k) has.conn d has.is (subst (λ (x : View A). x.conns k ≡ Some d) same at) in
     subst (λ (x : Conn A). rounds_to_go x.client ≤ less) one (let e = has.low in omega arith)
-rounds_bring {A = A} kind into k (suc n) less most v last d (next, round, more) kept has low at flows =
-    let one : HasRound k most next = round_brings kind into k most v next round kept has in
-    let there : is_flowing one.has.conn.wires ≡ true = flows_rounds kind into n next last k one.has.conn d more one.has.is at flows in
+rounds_bring {A = A} kind k (suc n) less most into v last d (next, round, more) kept has low at flows =
+    let one : HasRound k most next = round_brings kind k most into v next round kept has in
+    let there : is_flowing one.has.conn.wires ≡ true = flows_rounds kind n next last k one.has.conn d more one.has.is at flows in
     let near : rounds_to_go one.has.conn.client ≤ n + less = one.nearer there (n + less) (omega arith) in
     let now : Has k (n + less) next = record { here = one.has.here; conn = one.has.conn; is = one.has.is; low = near } in
     let same : n + less ≤ n + less = omega arith in
-    rounds_bring kind into k n less (n + less) next last d more one.kept now same at flows
+    rounds_bring kind k n less (n + less) into next last d more one.kept now same at flows
 
 -- and the device stays on the connection
-pub rounds_keep : {A : Type 0} (kind : LinkMove A → Type 0) → ((move : LinkMove A) → kind move → IsCalm move) → (k n most : ℕ) (v last : View A) → AreRounds kind k n v last → LinkKept v → Has k most v → LinkKept last × Has k most last
-rounds_keep kind into k zero most v last same kept has = subst (λ x. LinkKept x × Has k most x) (sym same) (kept, has)
-rounds_keep kind into k (suc n) most v last (next, round, more) kept has =
-    let one = round_brings kind into k most v next round kept has in
-    rounds_keep kind into k n most next last more one.kept one.has
+pub rounds_keep : {A : Type 0} (kind : LinkMove A → Type 0) (k n most : ℕ) → ((move : LinkMove A) → kind move → IsCalm k move) → (v last : View A) → AreRounds kind k n v last → LinkKept v → Has k most v → LinkKept last × Has k most last
+rounds_keep kind k zero most into v last same kept has = subst (λ x. LinkKept x × Has k most x) (sym same) (kept, has)
+rounds_keep kind k (suc n) most into v last (next, round, more) kept has =
+    let one = round_brings kind k most into v next round kept has in
+    rounds_keep kind k n most into next last more one.kept one.has
 
 pub has_now : {A : Type 0} (v : View A) (k : ℕ) (c : Conn A) → v.here ≡ Some k → v.conns k ≡ Some c → Has k (rounds_to_go c.client) v
 has_now v k c here is = record { here = here; conn = c; is = is; low = omega arith }
 
+pub is_calm : {A : Type 0} (kind : LinkMove A → Type 0) (k : ℕ) (move : LinkMove A) → IsCalmAnd kind k move → IsCalm k move
+is_calm kind k move both = both.1
+
 -- ---- the law
 
-pub falls : {A : Type 0} (v next : View A) (k : ℕ) (c d : Conn A) → LinkReached v → v.here ≡ Some k → v.conns k ≡ Some c → IsRound IsCalm k v next → next.conns k ≡ Some d → is_flowing d.wires ≡ true → (rounds_to_go d.client < rounds_to_go c.client) ⊎ ((p : ℕ) × (d.client ≡ InOnline p))
+pub low_then : {A : Type 0} (v last : View A) (k n less : ℕ) (c d : Conn A) → LinkReached v → v.here ≡ Some k → v.conns k ≡ Some c → AreRounds IsAny k n v last → rounds_to_go c.client ≤ n + less → last.conns k ≡ Some d → is_flowing d.wires ≡ true → rounds_to_go d.client ≤ less
+low_then {A = A} v last k n less c d reached here is rounds low at flows =
+    rounds_bring (IsCalmAnd IsAny k) k n less (rounds_to_go c.client) (is_calm IsAny k) v last d (calm_rounds IsAny n v last k c d rounds here is at flows).0 (link_kept v reached) (has_now v k c here is) low at flows
+
+pub falls : {A : Type 0} (v next : View A) (k : ℕ) (c d : Conn A) → LinkReached v → v.here ≡ Some k → v.conns k ≡ Some c → IsRound IsAny k v next → next.conns k ≡ Some d → is_flowing d.wires ≡ true → (rounds_to_go d.client < rounds_to_go c.client) ⊎ ((p : ℕ) × (d.client ≡ InOnline p))
 falls {A = A} v next k c d reached here is round at flows = go (rounds_to_go c.client) refl
   where
-    r : HasRound k (rounds_to_go c.client) next
-    r = round_brings IsCalm (λ move calm. calm) k (rounds_to_go c.client) v next round (link_kept v reached) (has_now v k c here is)
-
-    near : (less : ℕ) → rounds_to_go c.client ≤ less + 1 → rounds_to_go d.client ≤ less
-    near less low =
-        let one : r.has.conn ≡ d = some_one (next.conns k) r.has.conn d r.has.is at in
-        subst (λ (x : Conn A). rounds_to_go x.client ≤ less) one (r.nearer (subst (λ (x : Conn A). is_flowing x.wires ≡ true) (sym one) flows) less low)
+    near : (less : ℕ) → rounds_to_go c.client ≤ 1 + less → rounds_to_go d.client ≤ less
+    near less low = low_then v next k 1 less c d reached here is (next, round, refl) low at flows
 
     go : (n : ℕ) → rounds_to_go c.client ≡ n → (rounds_to_go d.client < rounds_to_go c.client) ⊎ ((p : ℕ) × (d.client ≡ InOnline p))
     go zero e = inr (nothing_to_go d.client (near 0 (omega arith)))
     go (suc less) e = inl (let f = near less (omega arith) in omega arith)
 
-pub online_then : {A : Type 0} (v last : View A) (k n : ℕ) (c d : Conn A) → LinkReached v → v.here ≡ Some k → v.conns k ≡ Some c → AreRounds IsCalm k n v last → rounds_to_go c.client ≤ n → last.conns k ≡ Some d → is_flowing d.wires ≡ true → (p : ℕ) × (d.client ≡ InOnline p)
-online_then {A = A} v last k n c d reached here is rounds low at flows =
-    nothing_to_go d.client (rounds_bring IsCalm (λ move calm. calm) k n 0 (rounds_to_go c.client) v last d rounds (link_kept v reached) (has_now v k c here is) (omega arith) at flows)
+pub online_then : {A : Type 0} (v last : View A) (k n : ℕ) (c d : Conn A) → LinkReached v → v.here ≡ Some k → v.conns k ≡ Some c → AreRounds IsAny k n v last → rounds_to_go c.client ≤ n → last.conns k ≡ Some d → is_flowing d.wires ≡ true → (p : ℕ) × (d.client ≡ InOnline p)
+online_then {A = A} v last k n c d reached here is rounds low at flows = nothing_to_go d.client (low_then v last k n 0 c d reached here is rounds (omega arith) at flows)

@@ -9,11 +9,12 @@ use Rattle.sim_2_links.specs.Views.{View}
 use Rattle.sim_2_links.specs.Links.{LinkKept}
 use Rattle.sim_2_links.specs.Machine.{LinkReached}
 use Rattle.sim_2_links.specs.Covers.{PromptReached, IsSettled}
-use Rattle.law_calm.proofs.Online.{Has, has_now, flows_rounds, rounds_bring, rounds_keep}
-use Rattle.law_calm.proofs.Quiet.{Emptied, still_calm, two_rounds}
-use Rattle.law_calm.specs.Rounds.{IsCalm, IsStill, AreRounds, rounds_to_go}
+use Rattle.law_calm.proofs.Online.{Has, has_now, is_calm, low_then, rounds_keep}
+use Rattle.law_calm.proofs.Staying.{IsCalmAnd, calm_rounds, conn_rounds, flows_rounds}
+use Rattle.law_calm.proofs.Quiet.{Emptied, two_rounds}
+use Rattle.law_calm.specs.Rounds.{IsAny, IsStill, AreRounds, rounds_to_go}
 
-pub settles : {A : Type 0} (asks : A → Bool) (v mid last : View A) (k n : ℕ) (c d : Conn A) → LinkReached v → PromptReached asks last → v.here ≡ Some k → v.conns k ≡ Some c → rounds_to_go c.client ≤ n → AreRounds IsCalm k n v mid → AreRounds IsStill k 2 mid last → last.conns k ≡ Some d → is_flowing d.wires ≡ true → IsSettled asks last k d
+pub settles : {A : Type 0} (asks : A → Bool) (v mid last : View A) (k n : ℕ) (c d : Conn A) → LinkReached v → PromptReached asks last → v.here ≡ Some k → v.conns k ≡ Some c → rounds_to_go c.client ≤ n → AreRounds IsAny k n v mid → AreRounds IsStill k 2 mid last → last.conns k ≡ Some d → is_flowing d.wires ≡ true → IsSettled asks last k d
 settles {A = A} asks v mid last k n c d reached prompt here is low calm still at flows = done
   where
     kept : LinkKept v
@@ -22,17 +23,26 @@ settles {A = A} asks v mid last k n c d reached prompt here is low calm still at
     begins : Has k (rounds_to_go c.client) v
     begins = has_now v k c here is
 
-    then : LinkKept mid × Has k (rounds_to_go c.client) mid
-    then = rounds_keep IsCalm (λ move calm. calm) k n (rounds_to_go c.client) v mid calm kept begins
+    there : Conn A
+    there = (conn_rounds IsAny n v mid k c calm is).0
 
-    there : is_flowing then.1.conn.wires ≡ true
-    there = flows_rounds IsStill still_calm 2 mid last k then.1.conn d still then.1.is at flows
+    at_mid : mid.conns k ≡ Some there
+    at_mid = (conn_rounds IsAny n v mid k c calm is).1
 
-    online : rounds_to_go then.1.conn.client ≤ 0
-    online = rounds_bring IsCalm (λ move calm. calm) k n 0 (rounds_to_go c.client) v mid then.1.conn calm kept begins (omega arith) then.1.is there
+    flowed : is_flowing there.wires ≡ true
+    flowed = flows_rounds IsStill 2 mid last k there d still at_mid at flows
+
+    first : AreRounds (IsCalmAnd IsAny k) k n v mid × (mid.here ≡ Some k)
+    first = calm_rounds IsAny n v mid k c there calm here is at_mid flowed
+
+    online : rounds_to_go there.client ≤ 0
+    online = low_then v mid k n 0 c there reached here is calm (omega arith) at_mid flowed
+
+    kept_mid : LinkKept mid
+    kept_mid = (rounds_keep (IsCalmAnd IsAny k) k n (rounds_to_go c.client) (is_calm IsAny k) v mid first.0 kept begins).0
 
     end : LinkKept last × Emptied k last
-    end = two_rounds k mid last still then.0 (record { here = then.1.here; conn = then.1.conn; is = then.1.is; low = online })
+    end = two_rounds k mid last (calm_rounds IsStill 2 mid last k there d still first.1 at_mid at flows).0 kept_mid (record { here = first.1; conn = there; is = at_mid; low = online })
 
     one : end.1.has.conn ≡ d
     one = some_one (last.conns k) end.1.has.conn d end.1.has.is at

@@ -12,8 +12,10 @@ use Rattle.sim_2_links.specs.Links.{FitsOwn, IsOwn, LinkKept}
 use Rattle.sim_2_links.specs.Machine.{LinkMove, Cuts, Dials, LetsGo, Foots, Forgets, Puts, Queues, Requests, ReadsHand, AsksToResume, AsksToBind, ReadsFailed, ReadsResumed, ReadsBound, ReadsEnabled, ReadsStanza, ReadsRequest, ReadsCount, TakesHand, TakesResume, TakesLateResume, TakesStrangeResume, TakesHighResume, TakesBind, TakesEnable, TakesStanza, TakesRequest, TakesCount, TakesFoot, Parks, Hears, HearsEarly, Detaches, Shuts, EndsRow, Serves, Keeps, Demands, LinkMoves, LinkReached}
 use Rattle.law_calm.proofs.Changes.{Changed, at_one, at_none}
 use Rattle.law_calm.proofs.Calm.{stays_here}
-use Rattle.law_calm.proofs.Online.{kept_going, rounds_bring, has_now}
-use Rattle.law_calm.specs.Rounds.{IsCalm, IsSparing, IsRound, AreRounds, rounds_to_go}
+use Rattle.law_calm.proofs.Online.{kept_going, low_then}
+use Rattle.law_calm.proofs.Spared.{IsSparing, RowIs, spared_rounds}
+use Rattle.law_calm.proofs.Staying.{calm_rounds}
+use Rattle.law_calm.specs.Rounds.{IsAny, Goes as GoesBy, IsRound, AreRounds, rounds_to_go}
 
 -- ---- what is on its way down has no refusal
 
@@ -117,11 +119,11 @@ own_enable own epoch sessions (AsksEnable m) e fits = fits.0
 own_enable own epoch sessions (Enables m downs) e fits = fits.0
 own_enable own epoch sessions _ e fits = absurd (let no_way : ⊥ = cc in no_way)
 
-own_online : {A : Type 0} (own : Option (Own A)) (epoch : ℕ) (sessions : Table (Session A)) (s : Stage A) (p : ℕ) → client_of s ≡ InOnline p → FitsOwn own epoch sessions s → IsOwn own p
+pub own_online : {A : Type 0} (own : Option (Own A)) (epoch : ℕ) (sessions : Table (Session A)) (s : Stage A) (p : ℕ) → client_of s ≡ InOnline p → FitsOwn own epoch sessions s → IsOwn own p
 own_online own epoch sessions (Runs q ups downs) p e fits = let same : q ≡ p = cc in subst (IsOwn own) same fits
 own_online own epoch sessions _ p e fits = absurd (let no_way : ⊥ = cc in no_way)
 
-fits_of : {A : Type 0} (v : View A) (k : ℕ) (c : Conn A) → LinkKept v → v.here ≡ Some k → (is : v.conns k ≡ Some c) → (s : Stage A) × (c.client ≡ client_of s) × FitsOwn v.own v.epoch v.sessions s × (up_whole c.wires ≡ up_of s ++ foot_of c.footed) × (down_whole c.wires ≡ down_of s ++ tail_of c.ending)
+pub fits_of : {A : Type 0} (v : View A) (k : ℕ) (c : Conn A) → LinkKept v → v.here ≡ Some k → (is : v.conns k ≡ Some c) → (s : Stage A) × (c.client ≡ client_of s) × FitsOwn v.own v.epoch v.sessions s × (up_whole c.wires ≡ up_of s ++ foot_of c.footed) × (down_whole c.wires ≡ down_of s ++ tail_of c.ending)
 fits_of v k c kept here is =
     let old = kept.conns k c is in
     (old.stage, old.at.client, old.fits (is_has v.here k here), old.at.up, old.at.down)
@@ -176,9 +178,6 @@ epoch_of v = v.epoch
 abbrev OwnIs : {A : Type 0} → ℕ → View A → Type 0
 OwnIs {A = A} number v = (o : Own A) × (v.own ≡ Some o) × (o.number ≡ number)
 
-abbrev RowIs : {A : Type 0} → ℕ → View A → Type 0
-RowIs {A = A} number v = (r : Row A) × (v.row ≡ Some r) × (r.number ≡ number)
-
 same_own : {A : Type 0} (k number epoch : ℕ) (v next : View A) → Has k number epoch v → next.own ≡ v.own → OwnIs number next
 same_own k number epoch v next h same = (h.own, same ∙ h.is_own, h.own_number)
 
@@ -229,67 +228,58 @@ refuses_elsewhere {A = A} k number epoch j v c p g rest kept h is first no_row s
 elsewhere : {A : Type 0} (j k : ℕ) (new c : Conn A) (v next : View A) → next.conns ≡ with_at j new v.conns → v.conns k ≡ Some c → (j ≡ k → ⊥) → Changed StaysFree k c next
 elsewhere {A = A} j k new c v next gives is never = (c, ap (λ (t : Table (Conn A)). t k) gives ∙ at_other j new v.conns k never ∙ is, same_free c)
 
-pub has_keeps : {A : Type 0} (k number epoch : ℕ) (move : LinkMove A) (v next : View A) → IsSparing move → LinkMoves move v next → LinkKept v → Has k number epoch v → Has k number epoch next
-has_keeps k number epoch (Cuts j a b) v next spare m kept h = absurd spare
+pub has_keeps : {A : Type 0} (k number epoch : ℕ) (move : LinkMove A) (v next : View A) → IsSparing k move → LinkMoves move v next → LinkKept v → Has k number epoch v → Has k number epoch next
+has_keeps k number epoch (Cuts j a b) v next spare m kept h = has_next k number epoch v next h (stays_here (Cuts j a b) v next k spare m) (elsewhere j k _ h.conn v next (ap conns_of m.gives) h.is spare) (same_own k number epoch v next h (ap own_of m.gives)) (same_row k number epoch v next h (ap row_of m.gives)) (ap epoch_of m.gives)
 has_keeps k number epoch (Dials j) v next spare m kept h = absurd spare
 has_keeps k number epoch (LetsGo j) v next spare m kept h = absurd spare
-has_keeps k number epoch (Foots j) v next spare m kept h = absurd spare
+has_keeps k number epoch (Foots j) v next spare m kept h = has_next k number epoch v next h (stays_here (Foots j) v next k spare m) (elsewhere j k _ h.conn v next (ap conns_of m.gives) h.is spare) (same_own k number epoch v next h (ap own_of m.gives)) (same_row k number epoch v next h (ap row_of m.gives)) (ap epoch_of m.gives)
 has_keeps k number epoch Forgets v next spare m kept h = absurd spare
 has_keeps k number epoch (TakesBind j n) v next spare m kept h = absurd spare
 has_keeps k number epoch (TakesHighResume j) v next spare m kept h = absurd spare
 has_keeps k number epoch (HearsEarly j) v next spare m kept h = absurd spare
 has_keeps k number epoch (Shuts j ending) v next spare m kept h = absurd spare
 has_keeps k number epoch EndsRow v next spare m kept h = absurd spare
-has_keeps k number epoch (Puts j z) v next spare m kept h = has_next k number epoch v next h (stays_here (Puts j z) v next tt m) (at_one StaysFree same_free j k m.conn _ h.conn v next (ap conns_of m.gives) m.is h.is (record { free = λ a. said_wires (Up (St z) ∷ []) m.conn.wires a })) (new_own k number epoch v next m.own _ h m.is_own (ap own_of m.gives) refl) (same_row k number epoch v next h (ap row_of m.gives)) (ap epoch_of m.gives)
-has_keeps k number epoch (Queues z) v next spare m kept h = has_next k number epoch v next h (stays_here (Queues z) v next tt m) (at_none StaysFree same_free k h.conn v next (ap conns_of m.gives) h.is) (new_own k number epoch v next m.own _ h m.is_own (ap own_of m.gives) refl) (same_row k number epoch v next h (ap row_of m.gives)) (ap epoch_of m.gives)
-has_keeps k number epoch (Requests j) v next spare m kept h = has_next k number epoch v next h (stays_here (Requests j) v next tt m) (at_one StaysFree same_free j k m.conn _ h.conn v next (ap conns_of m.gives) m.is h.is (record { free = λ a. said_wires (Up Req ∷ []) m.conn.wires a })) (same_own k number epoch v next h (ap own_of m.gives)) (same_row k number epoch v next h (ap row_of m.gives)) (ap epoch_of m.gives)
-has_keeps k number epoch (ReadsHand j) v next spare m kept h = has_next k number epoch v next h (stays_here (ReadsHand j) v next tt m) (at_one StaysFree same_free j k m.conn _ h.conn v next (ap conns_of m.gives) m.is h.is (record { free = λ a. read_free m.conn m.word m.rest m.puts m.first a })) (same_own k number epoch v next h (ap own_of m.gives)) (same_row k number epoch v next h (ap row_of m.gives)) (ap epoch_of m.gives)
-has_keeps k number epoch (AsksToResume j) v next spare m kept h = has_next k number epoch v next h (stays_here (AsksToResume j) v next tt m) (at_one StaysFree same_free j k m.conn _ h.conn v next (ap conns_of m.gives) m.is h.is (record { free = λ a. read_free m.conn Feat m.rest (ResumeAt m.own.number m.own.handled ∷ []) m.first a })) (same_own k number epoch v next h (ap own_of m.gives)) (same_row k number epoch v next h (ap row_of m.gives)) (ap epoch_of m.gives)
-has_keeps k number epoch (AsksToBind j) v next spare m kept h = has_next k number epoch v next h (stays_here (AsksToBind j) v next tt m) (at_one StaysFree same_free j k m.conn _ h.conn v next (ap conns_of m.gives) m.is h.is (record { free = λ a. read_free m.conn Feat m.rest (Bind ∷ []) m.first a })) (same_own k number epoch v next h (ap own_of m.gives)) (same_row k number epoch v next h (ap row_of m.gives)) (ap epoch_of m.gives)
+has_keeps k number epoch (Puts j z) v next spare m kept h = has_next k number epoch v next h (stays_here (Puts j z) v next k tt m) (at_one StaysFree same_free j k m.conn _ h.conn v next (ap conns_of m.gives) m.is h.is (record { free = λ a. said_wires (Up (St z) ∷ []) m.conn.wires a })) (new_own k number epoch v next m.own _ h m.is_own (ap own_of m.gives) refl) (same_row k number epoch v next h (ap row_of m.gives)) (ap epoch_of m.gives)
+has_keeps k number epoch (Queues z) v next spare m kept h = has_next k number epoch v next h (stays_here (Queues z) v next k tt m) (at_none StaysFree same_free k h.conn v next (ap conns_of m.gives) h.is) (new_own k number epoch v next m.own _ h m.is_own (ap own_of m.gives) refl) (same_row k number epoch v next h (ap row_of m.gives)) (ap epoch_of m.gives)
+has_keeps k number epoch (Requests j) v next spare m kept h = has_next k number epoch v next h (stays_here (Requests j) v next k tt m) (at_one StaysFree same_free j k m.conn _ h.conn v next (ap conns_of m.gives) m.is h.is (record { free = λ a. said_wires (Up Req ∷ []) m.conn.wires a })) (same_own k number epoch v next h (ap own_of m.gives)) (same_row k number epoch v next h (ap row_of m.gives)) (ap epoch_of m.gives)
+has_keeps k number epoch (ReadsHand j) v next spare m kept h = has_next k number epoch v next h (stays_here (ReadsHand j) v next k tt m) (at_one StaysFree same_free j k m.conn _ h.conn v next (ap conns_of m.gives) m.is h.is (record { free = λ a. read_free m.conn m.word m.rest m.puts m.first a })) (same_own k number epoch v next h (ap own_of m.gives)) (same_row k number epoch v next h (ap row_of m.gives)) (ap epoch_of m.gives)
+has_keeps k number epoch (AsksToResume j) v next spare m kept h = has_next k number epoch v next h (stays_here (AsksToResume j) v next k tt m) (at_one StaysFree same_free j k m.conn _ h.conn v next (ap conns_of m.gives) m.is h.is (record { free = λ a. read_free m.conn Feat m.rest (ResumeAt m.own.number m.own.handled ∷ []) m.first a })) (same_own k number epoch v next h (ap own_of m.gives)) (same_row k number epoch v next h (ap row_of m.gives)) (ap epoch_of m.gives)
+has_keeps k number epoch (AsksToBind j) v next spare m kept h = has_next k number epoch v next h (stays_here (AsksToBind j) v next k tt m) (at_one StaysFree same_free j k m.conn _ h.conn v next (ap conns_of m.gives) m.is h.is (record { free = λ a. read_free m.conn Feat m.rest (Bind ∷ []) m.first a })) (same_own k number epoch v next h (ap own_of m.gives)) (same_row k number epoch v next h (ap row_of m.gives)) (ap epoch_of m.gives)
 has_keeps k number epoch (ReadsFailed j) v next spare m kept h = absurd (no_refusal k number epoch j v m.conn m.rest h m.here m.is m.first)
-has_keeps k number epoch (ReadsResumed j) v next spare m kept h = has_next k number epoch v next h (stays_here (ReadsResumed j) v next tt m) (at_one StaysFree same_free j k m.conn _ h.conn v next (ap conns_of m.gives) m.is h.is (record { free = λ a. read_free m.conn (Resumed m.own.number m.h) m.rest (again (drop (m.h - m.own.acked) m.own.queue)) m.first a })) (new_own k number epoch v next m.own _ h m.is_own (ap own_of m.gives) refl) (same_row k number epoch v next h (ap row_of m.gives)) (ap epoch_of m.gives)
+has_keeps k number epoch (ReadsResumed j) v next spare m kept h = has_next k number epoch v next h (stays_here (ReadsResumed j) v next k tt m) (at_one StaysFree same_free j k m.conn _ h.conn v next (ap conns_of m.gives) m.is h.is (record { free = λ a. read_free m.conn (Resumed m.own.number m.h) m.rest (again (drop (m.h - m.own.acked) m.own.queue)) m.first a })) (new_own k number epoch v next m.own _ h m.is_own (ap own_of m.gives) refl) (same_row k number epoch v next h (ap row_of m.gives)) (ap epoch_of m.gives)
 has_keeps k number epoch (ReadsBound j n) v next spare m kept h = absurd (no_bind v j m.conn h.own kept m.here m.is h.is_own m.client)
 has_keeps k number epoch (ReadsEnabled j n) v next spare m kept h = absurd (no_enable v j m.conn h.own kept m.here m.is h.is_own m.client)
-has_keeps k number epoch (ReadsStanza j z) v next spare m kept h = has_next k number epoch v next h (stays_here (ReadsStanza j z) v next tt m) (at_one StaysFree same_free j k m.conn _ h.conn v next (ap conns_of m.gives) m.is h.is (record { free = λ a. read_free m.conn (Down (St z)) m.rest [] m.first a })) (new_own k number epoch v next m.own _ h m.is_own (ap own_of m.gives) refl) (same_row k number epoch v next h (ap row_of m.gives)) (ap epoch_of m.gives)
-has_keeps k number epoch (ReadsRequest j) v next spare m kept h = has_next k number epoch v next h (stays_here (ReadsRequest j) v next tt m) (at_one StaysFree same_free j k m.conn _ h.conn v next (ap conns_of m.gives) m.is h.is (record { free = λ a. read_free m.conn (Down Req) m.rest (Up (Ack m.own.handled) ∷ []) m.first a })) (same_own k number epoch v next h (ap own_of m.gives)) (same_row k number epoch v next h (ap row_of m.gives)) (ap epoch_of m.gives)
-has_keeps k number epoch (ReadsCount j g) v next spare m kept h = has_next k number epoch v next h (stays_here (ReadsCount j g) v next tt m) (at_one StaysFree same_free j k m.conn _ h.conn v next (ap conns_of m.gives) m.is h.is (record { free = λ a. read_free m.conn (Down (Ack g)) m.rest [] m.first a })) (new_own k number epoch v next m.own _ h m.is_own (ap own_of m.gives) refl) (same_row k number epoch v next h (ap row_of m.gives)) (ap epoch_of m.gives)
-has_keeps k number epoch (TakesHand j) v next spare m kept h = has_next k number epoch v next h (stays_here (TakesHand j) v next tt m) (at_one StaysFree same_free j k m.conn _ h.conn v next (ap conns_of m.gives) m.is h.is (record { free = λ a. taken_wires m.puts m.rest m.conn.wires (hand_free m.conn.phase m.phase m.word m.puts m.hand) a })) (same_own k number epoch v next h (ap own_of m.gives)) (same_row k number epoch v next h (ap row_of m.gives)) (ap epoch_of m.gives)
-has_keeps k number epoch (TakesResume j) v next spare m kept h = has_next k number epoch v next h (stays_here (TakesResume j) v next tt m) (at_one StaysFree same_free j k m.conn _ h.conn v next (ap conns_of m.gives) m.is h.is (record { free = λ a. taken_wires (resumed_words m.row m.h) m.rest m.conn.wires (tt, traffic_free (map St (drop (m.h - m.row.acked) m.row.queue))) a })) (same_own k number epoch v next h (ap own_of m.gives)) (new_row k number epoch v next m.row _ h m.is_row (ap row_of m.gives) refl) (ap epoch_of m.gives)
-has_keeps k number epoch (TakesLateResume j) v next spare m kept h = has_next k number epoch v next h (stays_here (TakesLateResume j) v next tt m) (at_one StaysFree same_free j k m.conn _ h.conn v next (ap conns_of m.gives) m.is h.is (record { free = λ a. taken_wires (resumed_words m.row m.h) m.rest m.conn.wires (tt, traffic_free (map St (drop (m.h - m.row.acked) m.row.queue))) a })) (same_own k number epoch v next h (ap own_of m.gives)) (new_row k number epoch v next m.row _ h m.is_row (ap row_of m.gives) refl) (ap epoch_of m.gives)
-has_keeps k number epoch (TakesStrangeResume j) v next spare m kept h = has_next k number epoch v next h (stays_here (TakesStrangeResume j) v next tt m) (elsewhere j k _ h.conn v next (ap conns_of m.gives) h.is (refuses_elsewhere k number epoch j v m.conn m.p m.h m.rest kept h m.is m.first m.no_row)) (same_own k number epoch v next h (ap own_of m.gives)) (same_row k number epoch v next h (ap row_of m.gives)) (ap epoch_of m.gives)
-has_keeps k number epoch (TakesEnable j) v next spare m kept h = has_next k number epoch v next h (stays_here (TakesEnable j) v next tt m) (at_one StaysFree same_free j k m.conn _ h.conn v next (ap conns_of m.gives) m.is h.is (record { free = λ a. taken_wires (Enabled m.row.number ∷ []) m.rest m.conn.wires (tt, tt) a })) (same_own k number epoch v next h (ap own_of m.gives)) (new_row k number epoch v next m.row _ h m.is_row (ap row_of m.gives) refl) (ap epoch_of m.gives)
-has_keeps k number epoch (TakesStanza j z) v next spare m kept h = has_next k number epoch v next h (stays_here (TakesStanza j z) v next tt m) (at_one StaysFree same_free j k m.conn _ h.conn v next (ap conns_of m.gives) m.is h.is (record { free = λ a. taken_wires [] m.rest m.conn.wires tt a })) (same_own k number epoch v next h (ap own_of m.gives)) (new_row k number epoch v next m.row _ h m.is_row (ap row_of m.gives) refl) (ap epoch_of m.gives)
-has_keeps k number epoch (TakesRequest j) v next spare m kept h = has_next k number epoch v next h (stays_here (TakesRequest j) v next tt m) (at_one StaysFree same_free j k m.conn _ h.conn v next (ap conns_of m.gives) m.is h.is (record { free = λ a. taken_wires (Down (Ack m.row.handled) ∷ []) m.rest m.conn.wires (tt, tt) a })) (same_own k number epoch v next h (ap own_of m.gives)) (same_row k number epoch v next h (ap row_of m.gives)) (ap epoch_of m.gives)
-has_keeps k number epoch (TakesCount j g) v next spare m kept h = has_next k number epoch v next h (stays_here (TakesCount j g) v next tt m) (at_one StaysFree same_free j k m.conn _ h.conn v next (ap conns_of m.gives) m.is h.is (record { free = λ a. taken_wires [] m.rest m.conn.wires tt a })) (same_own k number epoch v next h (ap own_of m.gives)) (new_row k number epoch v next m.row _ h m.is_row (ap row_of m.gives) refl) (ap epoch_of m.gives)
-has_keeps k number epoch (TakesFoot j) v next spare m kept h = has_next k number epoch v next h (stays_here (TakesFoot j) v next tt m) (at_one StaysFree same_free j k m.conn _ h.conn v next (ap conns_of m.gives) m.is h.is (record { free = λ a. shut_wires (tail_of Closes) m.conn.wires (tt, tt) a })) (same_own k number epoch v next h (ap own_of m.gives)) (same_row k number epoch v next h (ap row_of m.gives)) (ap epoch_of m.gives)
-has_keeps k number epoch (Parks j) v next spare m kept h = has_next k number epoch v next h (stays_here (Parks j) v next tt m) (at_one StaysFree same_free j k m.conn _ h.conn v next (ap conns_of m.gives) m.is h.is (record { free = λ a. a })) (same_own k number epoch v next h (ap own_of m.gives)) (new_row k number epoch v next m.row _ h m.is_row (ap row_of m.gives) refl) (ap epoch_of m.gives)
-has_keeps k number epoch (Hears j) v next spare m kept h = has_next k number epoch v next h (stays_here (Hears j) v next tt m) (at_one StaysFree same_free j k m.conn _ h.conn v next (ap conns_of m.gives) m.is h.is (record { free = λ a. a })) (same_own k number epoch v next h (ap own_of m.gives)) (same_row k number epoch v next h (ap row_of m.gives)) (ap epoch_of m.gives)
-has_keeps k number epoch (Detaches j ending) v next spare m kept h = has_next k number epoch v next h (stays_here (Detaches j ending) v next tt m) (at_one StaysFree same_free j k m.conn _ h.conn v next (ap conns_of m.gives) m.is h.is (record { free = λ a. shut_wires (tail_of ending) m.conn.wires (tail_free _ ending) a })) (same_own k number epoch v next h (ap own_of m.gives)) (new_row k number epoch v next m.row _ h m.is_row (ap row_of m.gives) refl) (ap epoch_of m.gives)
-has_keeps k number epoch (Serves j z) v next spare m kept h = has_next k number epoch v next h (stays_here (Serves j z) v next tt m) (at_one StaysFree same_free j k m.conn _ h.conn v next (ap conns_of m.gives) m.is h.is (record { free = λ a. put_wires (Down (St z) ∷ []) m.conn.wires (tt, tt) a })) (same_own k number epoch v next h (ap own_of m.gives)) (new_row k number epoch v next m.row _ h m.is_row (ap row_of m.gives) refl) (ap epoch_of m.gives)
-has_keeps k number epoch (Keeps z) v next spare m kept h = has_next k number epoch v next h (stays_here (Keeps z) v next tt m) (at_none StaysFree same_free k h.conn v next (ap conns_of m.gives) h.is) (same_own k number epoch v next h (ap own_of m.gives)) (new_row k number epoch v next m.row _ h m.is_row (ap row_of m.gives) refl) (ap epoch_of m.gives)
-has_keeps k number epoch (Demands j) v next spare m kept h = has_next k number epoch v next h (stays_here (Demands j) v next tt m) (at_one StaysFree same_free j k m.conn _ h.conn v next (ap conns_of m.gives) m.is h.is (record { free = λ a. put_wires (Down Req ∷ []) m.conn.wires (tt, tt) a })) (same_own k number epoch v next h (ap own_of m.gives)) (same_row k number epoch v next h (ap row_of m.gives)) (ap epoch_of m.gives)
-
-sparing_calm : {A : Type 0} (move : LinkMove A) → IsSparing move → IsCalm move
-sparing_calm (TakesBind k m) spare = tt
-sparing_calm (TakesHighResume k) spare = tt
-sparing_calm (HearsEarly k) spare = tt
-sparing_calm (Shuts k ending) spare = tt
-sparing_calm EndsRow spare = tt
-sparing_calm (Cuts k i j) spare = absurd spare
-sparing_calm (Dials k) spare = absurd spare
-sparing_calm (LetsGo k) spare = absurd spare
-sparing_calm (Foots k) spare = absurd spare
-sparing_calm Forgets spare = absurd spare
-sparing_calm _ spare = tt
+has_keeps k number epoch (ReadsStanza j z) v next spare m kept h = has_next k number epoch v next h (stays_here (ReadsStanza j z) v next k tt m) (at_one StaysFree same_free j k m.conn _ h.conn v next (ap conns_of m.gives) m.is h.is (record { free = λ a. read_free m.conn (Down (St z)) m.rest [] m.first a })) (new_own k number epoch v next m.own _ h m.is_own (ap own_of m.gives) refl) (same_row k number epoch v next h (ap row_of m.gives)) (ap epoch_of m.gives)
+has_keeps k number epoch (ReadsRequest j) v next spare m kept h = has_next k number epoch v next h (stays_here (ReadsRequest j) v next k tt m) (at_one StaysFree same_free j k m.conn _ h.conn v next (ap conns_of m.gives) m.is h.is (record { free = λ a. read_free m.conn (Down Req) m.rest (Up (Ack m.own.handled) ∷ []) m.first a })) (same_own k number epoch v next h (ap own_of m.gives)) (same_row k number epoch v next h (ap row_of m.gives)) (ap epoch_of m.gives)
+has_keeps k number epoch (ReadsCount j g) v next spare m kept h = has_next k number epoch v next h (stays_here (ReadsCount j g) v next k tt m) (at_one StaysFree same_free j k m.conn _ h.conn v next (ap conns_of m.gives) m.is h.is (record { free = λ a. read_free m.conn (Down (Ack g)) m.rest [] m.first a })) (new_own k number epoch v next m.own _ h m.is_own (ap own_of m.gives) refl) (same_row k number epoch v next h (ap row_of m.gives)) (ap epoch_of m.gives)
+has_keeps k number epoch (TakesHand j) v next spare m kept h = has_next k number epoch v next h (stays_here (TakesHand j) v next k tt m) (at_one StaysFree same_free j k m.conn _ h.conn v next (ap conns_of m.gives) m.is h.is (record { free = λ a. taken_wires m.puts m.rest m.conn.wires (hand_free m.conn.phase m.phase m.word m.puts m.hand) a })) (same_own k number epoch v next h (ap own_of m.gives)) (same_row k number epoch v next h (ap row_of m.gives)) (ap epoch_of m.gives)
+has_keeps k number epoch (TakesResume j) v next spare m kept h = has_next k number epoch v next h (stays_here (TakesResume j) v next k tt m) (at_one StaysFree same_free j k m.conn _ h.conn v next (ap conns_of m.gives) m.is h.is (record { free = λ a. taken_wires (resumed_words m.row m.h) m.rest m.conn.wires (tt, traffic_free (map St (drop (m.h - m.row.acked) m.row.queue))) a })) (same_own k number epoch v next h (ap own_of m.gives)) (new_row k number epoch v next m.row _ h m.is_row (ap row_of m.gives) refl) (ap epoch_of m.gives)
+has_keeps k number epoch (TakesLateResume j) v next spare m kept h = has_next k number epoch v next h (stays_here (TakesLateResume j) v next k tt m) (at_one StaysFree same_free j k m.conn _ h.conn v next (ap conns_of m.gives) m.is h.is (record { free = λ a. taken_wires (resumed_words m.row m.h) m.rest m.conn.wires (tt, traffic_free (map St (drop (m.h - m.row.acked) m.row.queue))) a })) (same_own k number epoch v next h (ap own_of m.gives)) (new_row k number epoch v next m.row _ h m.is_row (ap row_of m.gives) refl) (ap epoch_of m.gives)
+has_keeps k number epoch (TakesStrangeResume j) v next spare m kept h = has_next k number epoch v next h (stays_here (TakesStrangeResume j) v next k tt m) (elsewhere j k _ h.conn v next (ap conns_of m.gives) h.is (refuses_elsewhere k number epoch j v m.conn m.p m.h m.rest kept h m.is m.first m.no_row)) (same_own k number epoch v next h (ap own_of m.gives)) (same_row k number epoch v next h (ap row_of m.gives)) (ap epoch_of m.gives)
+has_keeps k number epoch (TakesEnable j) v next spare m kept h = has_next k number epoch v next h (stays_here (TakesEnable j) v next k tt m) (at_one StaysFree same_free j k m.conn _ h.conn v next (ap conns_of m.gives) m.is h.is (record { free = λ a. taken_wires (Enabled m.row.number ∷ []) m.rest m.conn.wires (tt, tt) a })) (same_own k number epoch v next h (ap own_of m.gives)) (new_row k number epoch v next m.row _ h m.is_row (ap row_of m.gives) refl) (ap epoch_of m.gives)
+has_keeps k number epoch (TakesStanza j z) v next spare m kept h = has_next k number epoch v next h (stays_here (TakesStanza j z) v next k tt m) (at_one StaysFree same_free j k m.conn _ h.conn v next (ap conns_of m.gives) m.is h.is (record { free = λ a. taken_wires [] m.rest m.conn.wires tt a })) (same_own k number epoch v next h (ap own_of m.gives)) (new_row k number epoch v next m.row _ h m.is_row (ap row_of m.gives) refl) (ap epoch_of m.gives)
+has_keeps k number epoch (TakesRequest j) v next spare m kept h = has_next k number epoch v next h (stays_here (TakesRequest j) v next k tt m) (at_one StaysFree same_free j k m.conn _ h.conn v next (ap conns_of m.gives) m.is h.is (record { free = λ a. taken_wires (Down (Ack m.row.handled) ∷ []) m.rest m.conn.wires (tt, tt) a })) (same_own k number epoch v next h (ap own_of m.gives)) (same_row k number epoch v next h (ap row_of m.gives)) (ap epoch_of m.gives)
+has_keeps k number epoch (TakesCount j g) v next spare m kept h = has_next k number epoch v next h (stays_here (TakesCount j g) v next k tt m) (at_one StaysFree same_free j k m.conn _ h.conn v next (ap conns_of m.gives) m.is h.is (record { free = λ a. taken_wires [] m.rest m.conn.wires tt a })) (same_own k number epoch v next h (ap own_of m.gives)) (new_row k number epoch v next m.row _ h m.is_row (ap row_of m.gives) refl) (ap epoch_of m.gives)
+has_keeps k number epoch (TakesFoot j) v next spare m kept h = has_next k number epoch v next h (stays_here (TakesFoot j) v next k tt m) (at_one StaysFree same_free j k m.conn _ h.conn v next (ap conns_of m.gives) m.is h.is (record { free = λ a. shut_wires (tail_of Closes) m.conn.wires (tt, tt) a })) (same_own k number epoch v next h (ap own_of m.gives)) (same_row k number epoch v next h (ap row_of m.gives)) (ap epoch_of m.gives)
+has_keeps k number epoch (Parks j) v next spare m kept h = has_next k number epoch v next h (stays_here (Parks j) v next k tt m) (at_one StaysFree same_free j k m.conn _ h.conn v next (ap conns_of m.gives) m.is h.is (record { free = λ a. a })) (same_own k number epoch v next h (ap own_of m.gives)) (new_row k number epoch v next m.row _ h m.is_row (ap row_of m.gives) refl) (ap epoch_of m.gives)
+has_keeps k number epoch (Hears j) v next spare m kept h = has_next k number epoch v next h (stays_here (Hears j) v next k tt m) (at_one StaysFree same_free j k m.conn _ h.conn v next (ap conns_of m.gives) m.is h.is (record { free = λ a. a })) (same_own k number epoch v next h (ap own_of m.gives)) (same_row k number epoch v next h (ap row_of m.gives)) (ap epoch_of m.gives)
+has_keeps k number epoch (Detaches j ending) v next spare m kept h = has_next k number epoch v next h (stays_here (Detaches j ending) v next k tt m) (at_one StaysFree same_free j k m.conn _ h.conn v next (ap conns_of m.gives) m.is h.is (record { free = λ a. shut_wires (tail_of ending) m.conn.wires (tail_free _ ending) a })) (same_own k number epoch v next h (ap own_of m.gives)) (new_row k number epoch v next m.row _ h m.is_row (ap row_of m.gives) refl) (ap epoch_of m.gives)
+has_keeps k number epoch (Serves j z) v next spare m kept h = has_next k number epoch v next h (stays_here (Serves j z) v next k tt m) (at_one StaysFree same_free j k m.conn _ h.conn v next (ap conns_of m.gives) m.is h.is (record { free = λ a. put_wires (Down (St z) ∷ []) m.conn.wires (tt, tt) a })) (same_own k number epoch v next h (ap own_of m.gives)) (new_row k number epoch v next m.row _ h m.is_row (ap row_of m.gives) refl) (ap epoch_of m.gives)
+has_keeps k number epoch (Keeps z) v next spare m kept h = has_next k number epoch v next h (stays_here (Keeps z) v next k tt m) (at_none StaysFree same_free k h.conn v next (ap conns_of m.gives) h.is) (same_own k number epoch v next h (ap own_of m.gives)) (new_row k number epoch v next m.row _ h m.is_row (ap row_of m.gives) refl) (ap epoch_of m.gives)
+has_keeps k number epoch (Demands j) v next spare m kept h = has_next k number epoch v next h (stays_here (Demands j) v next k tt m) (at_one StaysFree same_free j k m.conn _ h.conn v next (ap conns_of m.gives) m.is h.is (record { free = λ a. put_wires (Down Req ∷ []) m.conn.wires (tt, tt) a })) (same_own k number epoch v next h (ap own_of m.gives)) (same_row k number epoch v next h (ap row_of m.gives)) (ap epoch_of m.gives)
 
 -- ---- rounds
 
-round_keeps : {A : Type 0} (k number epoch : ℕ) (v last : View A) → IsRound IsSparing k v last → LinkKept v → Has k number epoch v → LinkKept last × Has k number epoch last
-round_keeps {A = A} k number epoch v last round kept h =
-    let mid : LinkKept round.taken × Has k number epoch round.taken = kept_going IsSparing (Has k number epoch) (has_keeps k number epoch) v round.taken round.up kept h in
-    kept_going IsSparing (Has k number epoch) (has_keeps k number epoch) round.taken last round.down mid.0 mid.1
+goes_keeps : {A : Type 0} (k number epoch : ℕ) (v last : View A) → GoesBy (IsSparing k) v last → LinkKept v → Has k number epoch v → LinkKept last × Has k number epoch last
+goes_keeps k number epoch v last goes kept h = kept_going (IsSparing k) (Has k number epoch) (has_keeps k number epoch) v last goes kept h
 
-rounds_keep : {A : Type 0} (k number epoch n : ℕ) (v last : View A) → AreRounds IsSparing k n v last → LinkKept v → Has k number epoch v → LinkKept last × Has k number epoch last
+round_keeps : {A : Type 0} (k number epoch : ℕ) (v last : View A) → IsRound (IsSparing k) k v last → LinkKept v → Has k number epoch v → LinkKept last × Has k number epoch last
+round_keeps {A = A} k number epoch v last round kept h =
+    let mid = goes_keeps k number epoch v round.taken round.up kept h in
+    let then = goes_keeps k number epoch round.taken round.read round.down mid.0 mid.1 in
+    goes_keeps k number epoch round.read last round.rest then.0 then.1
+
+rounds_keep : {A : Type 0} (k number epoch n : ℕ) (v last : View A) → AreRounds (IsSparing k) k n v last → LinkKept v → Has k number epoch v → LinkKept last × Has k number epoch last
 rounds_keep k number epoch zero v last same kept h = subst (λ x. LinkKept x × Has k number epoch x) (sym same) (kept, h)
 rounds_keep k number epoch (suc n) v last (next, round, more) kept h =
     let one = round_keeps k number epoch v next round kept h in
@@ -312,8 +302,8 @@ soon_online {A = A} v k c o kept here is own InHeader2 client low = absurd (omeg
 soon_online {A = A} v k c o kept here is own InFeatures2 client low = absurd (omega arith)
 soon_online {A = A} v k c o kept here is own (InResume p) client low = absurd (omega arith)
 
-pub resumed_then : {A : Type 0} (v last : View A) (k n : ℕ) (c d : Conn A) (own : Own A) (row : Row A) → LinkReached v → v.here ≡ Some k → v.conns k ≡ Some c → v.own ≡ Some own → v.row ≡ Some row → row.number ≡ own.number → c.client ≡ InHeader1 → AreRounds IsSparing k n v last → 5 ≤ n → last.conns k ≡ Some d → is_flowing d.wires ≡ true → (d.client ≡ InOnline own.number) × (last.epoch ≡ v.epoch)
-resumed_then {A = A} v last k n c d own row reached here is is_own is_row same client rounds low at flows = (online, end.1.epoch_is)
+pub resumed_then : {A : Type 0} (v last : View A) (k n : ℕ) (c d : Conn A) (own : Own A) (row ended : Row A) → LinkReached v → v.here ≡ Some k → v.conns k ≡ Some c → v.own ≡ Some own → v.row ≡ Some row → row.number ≡ own.number → c.client ≡ InHeader1 → AreRounds IsAny k n v last → 5 ≤ n → last.conns k ≡ Some d → is_flowing d.wires ≡ true → last.row ≡ Some ended → ended.number ≡ row.number → (d.client ≡ InOnline own.number) × (last.epoch ≡ v.epoch)
+resumed_then {A = A} v last k n c d own row ended reached here is is_own is_row same client rounds low at flows is_ended still = (online, end.1.epoch_is)
   where
     kept : LinkKept v
     kept = link_kept v reached
@@ -324,13 +314,16 @@ resumed_then {A = A} v last k n c d own row reached here is is_own is_row same c
         let whole : AreNoRefusals (down_whole c.wires) = subst (λ (ws : List (DownWord A)). AreNoRefusals ws) (sym it.4) (more_free (down_of it.0) (tail_of c.ending) (first_free it.0 (sym it.1 ∙ client)) (tail_free _ c.ending)) in
         record { here = here; conn = c; is = is; free = words_free c.wires whole; own = own; is_own = is_own; own_number = refl; row = row; is_row = is_row; row_number = same; epoch_is = refl }
 
+    spared : AreRounds (IsSparing k) k n v last
+    spared = spared_rounds k own.number n v last (calm_rounds IsAny n v last k c d rounds here is at flows).0 kept (row, is_row, same) (ended, is_ended, still ∙ same)
+
     end : LinkKept last × Has k own.number v.epoch last
-    end = rounds_keep k own.number v.epoch n v last rounds kept begins
+    end = rounds_keep k own.number v.epoch n v last spared kept begins
 
     near : rounds_to_go d.client ≤ 2
     near =
         let first : rounds_to_go c.client ≡ 7 = ap rounds_to_go client in
-        rounds_bring IsSparing sparing_calm k n 2 (rounds_to_go c.client) v last d rounds kept (has_now v k c here is) (omega arith) at flows
+        low_then v last k n 2 c d reached here is rounds (omega arith) at flows
 
     online : d.client ≡ InOnline own.number
     online = soon_online last k d end.1.own end.0 end.1.here at end.1.is_own d.client refl near ∙ ap InOnline end.1.own_number

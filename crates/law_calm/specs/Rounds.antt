@@ -1,40 +1,25 @@
--- Rounds of a calm network, on the links of one device: in each round what is under way on the connection on which its
--- client works is handed over, first to the server and then to the client.
+-- Rounds on the links of one device: in each round what is under way on a connection is handed over, first to the server and
+-- then to the client.
 use Rattle.std.specs.Prelude.{◌≡◌, ℕ, zero, suc, List, [], ◌∷◌, Some}
 use Rattle.sim_2_links.specs.Words.{Client, InHeader1, InFeatures1, InAuth, InResponse, InHeader2, InFeatures2, InResume, InBind, InEnable, InOnline}
 use Rattle.sim_2_links.specs.Wires.{up_words, down_words}
 use Rattle.sim_2_links.specs.Stages.{Conn}
 use Rattle.sim_2_links.specs.Views.{View}
-use Rattle.sim_2_links.specs.Machine.{LinkMove, Cuts, Dials, LetsGo, Foots, Forgets, Puts, Requests, Serves, Demands, TakesBind, TakesHighResume, HearsEarly, Shuts, EndsRow, LinkMoves}
+use Rattle.sim_2_links.specs.Machine.{LinkMove, Puts, Requests, Serves, Demands, LinkMoves}
 
 -- ---- which moves there are
 
--- The network cuts no connection, and the client dials none, leaves none and gives no session up.
-abbrev pub IsCalm : {A : Type 0} → LinkMove A → Type 0
-IsCalm (Cuts k i j) = ⊥
-IsCalm (Dials k) = ⊥
-IsCalm (LetsGo k) = ⊥
-IsCalm (Foots k) = ⊥
-IsCalm Forgets = ⊥
-IsCalm _ = Unit {0}
+-- all that the links have
+abbrev pub IsAny : {A : Type 0} → LinkMove A → Type 0
+IsAny move = Unit {0}
 
--- Besides, neither end puts a stanza or a request of itself.
+-- neither end puts a stanza or a request of itself
 abbrev pub IsStill : {A : Type 0} → LinkMove A → Type 0
 IsStill (Puts k z) = ⊥
 IsStill (Requests k) = ⊥
 IsStill (Serves k z) = ⊥
 IsStill (Demands k) = ⊥
-IsStill move = IsCalm move
-
--- Or besides, the server ends no session of the device: none expires, none has a full queue, and it takes no late word by
--- which one ends.
-abbrev pub IsSparing : {A : Type 0} → LinkMove A → Type 0
-IsSparing (TakesBind k m) = ⊥
-IsSparing (TakesHighResume k) = ⊥
-IsSparing (HearsEarly k) = ⊥
-IsSparing (Shuts k ending) = ⊥
-IsSparing EndsRow = ⊥
-IsSparing move = IsCalm move
+IsStill move = Unit {0}
 
 -- moves of one of these kinds lead, one after another, from the one view to the other
 abbrev pub Leads : {A : Type 0} → (LinkMove A → Type 0) → List (LinkMove A) → View A → View A → Type 0
@@ -54,14 +39,16 @@ IsUpEmpty {A = A} k v = (c : Conn A) × (v.conns k ≡ Some c) × (up_words c.wi
 abbrev pub IsDownEmpty : {A : Type 0} → ℕ → View A → Type 0
 IsDownEmpty {A = A} k v = (c : Conn A) × (v.conns k ≡ Some c) × (down_words c.wires ≡ [])
 
--- A round on the connection: at one time nothing is on its way to the server, and later, at the end, nothing is on its way
--- to the client. What else happens meanwhile, there and on other connections, is left open, but for its kind.
+-- A round on the connection: at one time nothing is on its way to the server, and later nothing is on its way to the client.
+-- What else happens before, between and behind, there and on other connections, is left open, but for its kind.
 pub record IsRound {A : Type 0} (kind : LinkMove A → Type 0) (k : ℕ) (v last : View A) : Type 0 where
   pub taken : View A
   pub up : Goes kind v taken
   pub up_empty : IsUpEmpty k taken
-  pub down : Goes kind taken last
-  pub down_empty : IsDownEmpty k last
+  pub read : View A
+  pub down : Goes kind taken read
+  pub down_empty : IsDownEmpty k read
+  pub rest : Goes kind read last
 
 -- so many, one after another
 abbrev pub AreRounds : {A : Type 0} → (LinkMove A → Type 0) → ℕ → ℕ → View A → View A → Type 0

@@ -1,0 +1,3 @@
+pub use Rattle.base_io.specs.Listed
+-- ---- machine
+pub mod Headings
