@@ -1,5 +1,5 @@
 -- What a server says of a login, and its header (RFC 6120, sections 4.7 and 6.4).
-use Rattle.std.proofs.Common.{◌≡◌, ℕ, zero, suc, ◌+◌, ◌*◌, ◌/◌, ◌%◌, ◌<◌, ◌≤◌, nat_lt, Bool, true, ◌&&◌, List, [], ◌∷◌, ◌++◌, Some, codes, drop, length, replicate, refl, arith, ltb-true, length-append}
+use Rattle.std.proofs.Common.{◌≡◌, ℕ, zero, suc, ◌+◌, ◌*◌, ◌/◌, ◌%◌, ◌<◌, ◌≤◌, nat_lt, Bool, true, ◌&&◌, List, [], ◌∷◌, ◌++◌, Some, codes, drop, length, replicate, refl, arith, ltb-true, length-append, subst}
 use Rattle.std.proofs.lemmas.Bool.{and_from, and_parts}
 use Rattle.std.proofs.lemmas.Bool.Decides.{nat_tests}
 use Rattle.std.proofs.lemmas.List.Sums.{AllPass-from_list_all}
@@ -17,7 +17,6 @@ use Rattle.xml_names.specs.Grammar.{IsShort}
 use Rattle.im_payload.specs.Names.{sasl}
 use Rattle.law_limits.proofs.PutParts.{bounded_bare, bounded_element, no_attributes, other_space, reads, said_bounded, space, word}
 use Rattle.law_limits.proofs.PutReplies.{bounded_around}
-use Rattle.law_limits.proofs.Requests.{stays_tree}
 use Rattle.law_limits.specs.Bounded.{ClientReads, IsWord}
 use Rattle.im_replies.specs.Streams.{hex_of, server_header, stream_id}
 use Rattle.im_login.specs.Payloads.{base64_of}
@@ -32,7 +31,7 @@ use Rattle.im_payload.proofs.Written.{after_text}
 use Rattle.xml_tokens.specs.Spelling.{text_byte, value_byte}
 use Rattle.xml_trees.proofs.TidyLaws.{tidied_IsTree}
 use Rattle.xml_trees.specs.Tidied.{text_node}
-use Rattle.xml_trees.specs.Trees.{element, no_nodes}
+use Rattle.xml_trees.specs.Trees.{element, no_nodes, IsTree}
 use Rattle.xml_writer.specs.Canon.{written_given, written_header}
 
 -- ---- base64
@@ -93,7 +92,7 @@ carrier_read name payload w bytes short =
     let given = encode_of standard payload in
     let long = base64_short payload in
     let said = said_printable 2500000 given (base64_printable payload bytes) (omega (arith, long, short)) in
-    reads (carrier name payload) 1 (0 + 2500000 + 400) (stays_tree (carrier name payload) (λ i. element sasl name [] (after_text given i)))
+    reads (carrier name payload) 1 (0 + 2500000 + 400) (subst IsTree (λ i. element sasl name [] (after_text given i)) (tidied_IsTree (carrier name payload)))
     (bounded_element client_ns sasl name [] (text_node given) 0 0 0 2500000 (space sasl refl) w no_attributes (omega arith) (said_bounded _ given 2500000 said)) (other_space sasl name refl) (omega arith) (omega arith)
 
 pub failure_read : (condition : List ℕ) → IsWord condition → ClientReads (failure_of condition)

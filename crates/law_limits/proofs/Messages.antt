@@ -51,7 +51,7 @@ escaped_byte_short b = either (b == 44) (codes "=2C") _ (omega arith) (either (b
     either true x y here there = here
     either false x y here there = there
 
-escaped_short : (name : List ℕ) → length (escaped name) ≤ 3 * length name
+pub escaped_short : (name : List ℕ) → length (escaped name) ≤ 3 * length name
 escaped_short [] = omega arith
 escaped_short (b ∷ bs) = omega (arith, length-append (escaped_byte b) (escaped bs), escaped_byte_short b, escaped_short bs)
 

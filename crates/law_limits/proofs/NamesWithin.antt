@@ -71,7 +71,7 @@ no_slash c h = grind (arith, nat_tests)
 no_at : (c : ℕ) → (is_lower c || is_digit c) ≡ true → is_at c ≡ false
 no_at c h = grind (arith, nat_tests)
 
-domain_is : (account : List ℕ) → is_name account ≡ true → domain_of (bare_address account) ≡ domain
+pub domain_is : (account : List ℕ) → is_name account ≡ true → domain_of (bare_address account) ≡ domain
 domain_is account h =
     let n = name_short account h in
     let whole = cut_bare (bare_address account) (none_in is_slash no_slash account (64 ∷ domain) n.named refl) in

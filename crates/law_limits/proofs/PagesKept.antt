@@ -47,7 +47,7 @@ requested_within t s item kind h within fit =
     all_put_within (queues in_items t s item kind) _ (queues_within t s item kind h within fit)
     (fit_either (is_online t.client.phase) ((t.out.put ++ item ∷ []) ++ request_item ∷ []) t.out.put (append_each (OutFits server_limits) (t.out.put ++ item ∷ []) (request_item ∷ []) one (fitted.request, tt)) h.put)
 
-last_within : (entries : List LogEntry) → AllByRecursion IsEntryWithin entries → IfSome (last_id entries) (IsTextWithin most_id)
+pub last_within : (entries : List LogEntry) → AllByRecursion IsEntryWithin entries → IfSome (last_id entries) (IsTextWithin most_id)
 last_within [] h = tt
 last_within (e ∷ []) h = h.0
 last_within (e ∷ f ∷ es) h = last_within (f ∷ es) h.1
@@ -76,7 +76,7 @@ gone_on_within t (Some s) max h within low = within_either (is_full s.waiting) _
 
 -- ---- the end of a page
 
-after_within : (log : LogView) (fin : Fin) → IsLogWithin log → IsLogWithin (after_fin log fin)
+pub after_within : (log : LogView) (fin : Fin) → IsLogWithin log → IsLogWithin (after_fin log fin)
 after_within log fin h = by_case log.page h.page
   where
     by_case : (o : Option OpenPage) → IfSome o IsPageWithin → IsLogWithin (elim o as (λ _. LogView) [ None ↦ log | Some page ↦ with_page log page fin ])
@@ -128,7 +128,7 @@ answered_within t q page iq.Error h of = error_of_within t page (error_within q.
 answered_within t q page iq.Get h of = h
 answered_within t q page iq.Set h of = h
 
-page_for_within : (queryid : List ℕ) (o : Option OpenPage) → IfSome o IsPageWithin → IfSome (page_for queryid o) IsPageWithin
+pub page_for_within : (queryid : List ℕ) (o : Option OpenPage) → IfSome o IsPageWithin → IfSome (page_for queryid o) IsPageWithin
 page_for_within queryid None h = tt
 page_for_within queryid (Some page) h = by_case (bytes_eq page.queryid queryid)
   where

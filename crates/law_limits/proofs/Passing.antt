@@ -36,6 +36,7 @@ use Rattle.xml_trees.specs.Tidied.{text_node, texts_joined}
 use Rattle.xml_trees.specs.Trees.{Elem, Nodes, child, depth_below, joined, no_nodes, text}
 use Rattle.xml_writer.specs.Canon.{default_inside}
 use Rattle.xml_trees.proofs.TidyReads.{depth_below-text_node as run_depth}
+use Rattle.law_xml.proofs.PlainElements.{only_text_plain, text_plain}
 
 -- ---- a payload without the ids that an address gave
 
@@ -74,17 +75,9 @@ kept_bounded default by levels m ks h =
 
 -- ---- texts joined
 
-run_plain : (run : List ℕ) (more : Nodes) → IsCharacters run → ArePlainNodes more → ArePlainNodes (joined (text_node run) more)
-run_plain [] more h k = k
-run_plain (c ∷ cs) more h k = (h, k)
-
 run_tags : (default run : List ℕ) (more : Nodes) → NodesFit client_tags default more → NodesFit client_tags default (joined (text_node run) more)
 run_tags default [] more k = k
 run_tags default (c ∷ cs) more k = k
-
-text_plain : (run : List ℕ) → IsCharacters run → ArePlainNodes (text_node run)
-text_plain [] h = tt
-text_plain (c ∷ cs) h = (h, tt)
 
 text_tags : (default run : List ℕ) → NodesFit client_tags default (text_node run)
 text_tags default [] = tt
@@ -98,8 +91,8 @@ no_run : IsCharacters []
 no_run = printable_characters [] refl
 
 one_plain : (run : List ℕ) (ks : Nodes) → IsCharacters run → ArePlainNodes ks → ArePlainNodes (texts_joined run ks)
-one_plain run no_nodes h k = text_plain run h
-one_plain run (child e rest) h k = run_plain run (child e (texts_joined [] rest)) h (k.0, one_plain [] rest no_run k.1)
+one_plain run no_nodes h k = only_text_plain run h
+one_plain run (child e rest) h k = text_plain run (child e (texts_joined [] rest)) h (k.0, one_plain [] rest no_run k.1)
 one_plain run (text t rest) h k = one_plain (run ++ t) rest (characters_append run t h k.0) k.1
 
 one_tags : (default run : List ℕ) (ks : Nodes) → NodesFit client_tags default ks → NodesFit client_tags default (texts_joined run ks)

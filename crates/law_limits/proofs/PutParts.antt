@@ -1,12 +1,11 @@
 -- Elements that a client reads, put together.
-use Rattle.std.proofs.Common.{◌≡◌, ◌≢◌, ℕ, ◌+◌, ◌*◌, ◌≤◌, nat_le, true, false, not, List, [], ◌∷◌, ◌++◌, bytes_eq, codes, Option, Some, None, IfSome, length, refl, sym, ◌∙◌, inl, inr, arith, leb-true, length-append}
-use Rattle.std.proofs.lemmas.Bool.{and_from, and_parts, cases_Bool, false≢true, not-true}
-use Rattle.std.proofs.lemmas.Slice.Eq.{bytes_eq-Decides}
+use Rattle.std.proofs.Common.{◌≡◌, ◌≢◌, ℕ, ◌+◌, ◌≤◌, nat_le, true, false, not, List, [], ◌∷◌, ◌++◌, bytes_eq, codes, Option, Some, None, IfSome, length, refl, sym, ◌∙◌, arith, leb-true, length-append}
+use Rattle.std.proofs.lemmas.Bool.{and_from, and_parts, false≢true, not-true}
 use Rattle.std.specs.List.{AllByRecursion, list_all}
 use Rattle.law_xml.specs.Fitting.{IsShortAttribute, NodesFit, TagFits}
 use Rattle.law_xml.specs.Plain.{ArePlainNodes, IsPlainAttribute}
 use Rattle.law_xml.specs.Spells.{IsHeaderName}
-use Rattle.xml_names.specs.Scopes.{xml_namespace, xmlns_namespace}
+use Rattle.xml_names.specs.Scopes.{xmlns_namespace}
 use Rattle.law_limits.specs.Bounded.{AreBounded, BoundedAttributes, ClientReads, IsBounded, IsSpace, IsWord, client_tags, is_space, is_word}
 use Rattle.law_limits.proofs.Characters.{printable_characters}
 use Rattle.law_limits.proofs.ElementSizes.{child_size, element_up, joined_size, nothing_size, text_node_size}
@@ -17,12 +16,12 @@ use Rattle.im_stanza.specs.Names.{client_ns, xml_ns}
 use Rattle.im_stanza.specs.Written.{attr_where, attrs_written}
 use Rattle.xml_tokens.specs.Characters.{is_named}
 use Rattle.xml_tokens.specs.Lines.{IsCharacters}
-use Rattle.xml_tokens.specs.Tags.{is_empty}
 use Rattle.xml_trees.specs.Attributes.{Attribute, attribute}
 use Rattle.xml_trees.specs.Tidied.{text_node}
 use Rattle.xml_trees.specs.Trees.{Elem, IsTree, Nodes, child, depth_below, element, joined, name_of, namespace_of, no_nodes, text}
-use Rattle.xml_writer.specs.Canon.{declared_default, declares_default, default_inside, is_foreign, next_number, spelled_attribute, spelled_attributes, streams_namespace}
+use Rattle.xml_writer.specs.Canon.{declared_default, default_inside, is_foreign, spelled_attributes, streams_namespace}
 use Rattle.base_lemmas.proofs.Bytes.{other-from_bytes_eq as differs}
+use Rattle.law_xml.proofs.FitsAgain.{all_written, default_written}
 
 -- ---- words that are written out
 
@@ -138,25 +137,6 @@ stanza_attributes f i t k l from id to kind lang a b c d e =
 
 -- ---- tags
 
-one_spelled : (n : ℕ) (a : Attribute) → length (spelled_attribute n a) ≤ 2
-unfolding spelled_attribute
-one_spelled n a =
-    elim (cases_Bool (is_empty a.ns)) [
-      | inl e ↦ rw e (omega arith)
-      | inr e ↦ elim (cases_Bool (bytes_eq a.ns xml_namespace)) [ inl x ↦ rw (e, x) (omega arith) | inr x ↦ rw (e, x) (omega arith) ]
-    ]
-
-all_spelled : (n : ℕ) (attrs : List Attribute) → length (spelled_attributes n attrs) ≤ 2 * length attrs
-all_spelled n [] = omega arith
-all_spelled n (a ∷ more) =
-    let one = one_spelled n a in
-    let rest = all_spelled (next_number n a) more in
-    omega (arith, one, rest, length-append (spelled_attribute n a) (spelled_attributes (next_number n a) more))
-
-default_spelled : (default ns : List ℕ) → length (declared_default default ns) ≤ 1
-unfolding declared_default
-default_spelled default ns = elim (cases_Bool (declares_default default ns)) [ inl e ↦ rw e (omega arith) | inr e ↦ rw e (omega arith) ]
-
 no_prefixes : (attrs : List Attribute) → are_local attrs ≡ true → AllByRecursion (IsShortAttribute client_tags) attrs
 no_prefixes [] h = tt
 no_prefixes (a ∷ more) h =
@@ -171,8 +151,8 @@ unfolding value_size
 tag_fits default ns attrs many most h k within =
     let few = k.few in
     let short = short_space ns h in
-    let all = all_spelled 0 attrs in
-    let one = default_spelled default ns in
+    let all = all_written 0 attrs in
+    let one = default_written default ns in
     record {
       attributes = omega (arith, few, within, all, one, length-append (declared_default default ns) (spelled_attributes 0 attrs));
       declared = λ due. omega (arith, short);

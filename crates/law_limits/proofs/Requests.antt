@@ -34,13 +34,10 @@ use Rattle.im_stanza.specs.declared.kinds.MessageKind.TheVariants as message
 use Rattle.im_stanza.specs.declared.kinds.PresenceKind.TheVariants as presence
 use Rattle.xml_trees.proofs.TidyLaws.{tidied_IsTree}
 use Rattle.xml_trees.specs.Attributes.{attribute}
-use Rattle.xml_trees.specs.Tidied.{text_node, tidied, tidied_nodes}
-use Rattle.xml_trees.specs.Trees.{Elem, IsTree, Nodes, element, no_nodes, child}
+use Rattle.xml_trees.specs.Tidied.{text_node, tidied_nodes}
+use Rattle.xml_trees.specs.Trees.{IsTree, Nodes, element, no_nodes, child}
 use Rattle.xml_writer.specs.Canon.{default_inside}
 pub use Rattle.im_forwarding.proofs.PartSteps.{client_inside as inside_client}
-
-pub stays_tree : (e : Elem) → tidied e ≡ e → IsTree e
-stays_tree e stays = subst IsTree stays (tidied_IsTree e)
 
 pub unless_said : (m : ℕ) (t : List ℕ) → Said m t → IfSome (unless_empty t) (Said m)
 unless_said m [] h = tt
@@ -92,7 +89,7 @@ error_bounded default e known =
 pub bounce_read : (f i : ℕ) (from id : List ℕ) (e : StanzaError) → Said f from → Said i id → IsKnown e.condition → f + i ≤ 4000000 → ClientReads (bounce_elem from id e)
 bounce_read f i from id e a b known short =
     reads (bounce_elem from id e) 3 (f + i + 0 + 0 + 1000 + 700)
-    (stays_tree (bounce_elem from id e) (λ j. element client_ns (codes "message") (attrs_stay (Some from) (unless_empty id) None (Some (message_type message.Error)) None j) (child (error_elem e) no_nodes)))
+    (subst IsTree (λ j. element client_ns (codes "message") (attrs_stay (Some from) (unless_empty id) None (Some (message_type message.Error)) None j) (child (error_elem e) no_nodes)) (tidied_IsTree (bounce_elem from id e)))
     (stanza_bounded client_ns (codes "message") (Some from) (unless_empty id) None (Some (message_type message.Error)) None (child (error_elem e) no_nodes) f i 0 0 2 1000 (word (codes "message") refl) a (unless_said i id b) tt
     (message_kind_said message.Error) tt (only_child client_ns 2 1000 (error_elem e) (error_bounded client_ns e known)))
     (other_space client_ns (codes "message") refl) (omega arith) (omega (arith, short))
@@ -100,7 +97,7 @@ bounce_read f i from id e a b known short =
 pub presence_bounce_read : (f i : ℕ) (from id : List ℕ) (e : StanzaError) → Said f from → Said i id → IsKnown e.condition → f + i ≤ 4000000 → ClientReads (presence_bounce_elem from id e)
 presence_bounce_read f i from id e a b known short =
     reads (presence_bounce_elem from id e) 3 (f + i + 0 + 0 + 1000 + 700)
-    (stays_tree (presence_bounce_elem from id e) (λ j. element client_ns (codes "presence") (attrs_stay (Some from) (unless_empty id) None (presence_type presence.Error) None j) (child (error_elem e) no_nodes)))
+    (subst IsTree (λ j. element client_ns (codes "presence") (attrs_stay (Some from) (unless_empty id) None (presence_type presence.Error) None j) (child (error_elem e) no_nodes)) (tidied_IsTree (presence_bounce_elem from id e)))
     (stanza_bounded client_ns (codes "presence") (Some from) (unless_empty id) None (presence_type presence.Error) None (child (error_elem e) no_nodes) f i 0 0 2 1000 (word (codes "presence") refl) a (unless_said i id b) tt
     (said_word 60 (codes "error") refl refl) tt (only_child client_ns 2 1000 (error_elem e) (error_bounded client_ns e known)))
     (other_space client_ns (codes "presence") refl) (omega arith) (omega (arith, short))
@@ -109,7 +106,7 @@ pub iq_error_read : (f i t : ℕ) (from to : Option (List ℕ)) (id : List ℕ) 
     → ClientReads (iq_error_elem from to id e)
 iq_error_read f i t from to id e a b c known short =
     reads (iq_error_elem from to id e) 3 (f + i + t + 0 + 1000 + 700)
-    (stays_tree (iq_error_elem from to id e) (λ j. element client_ns (codes "iq") (attrs_stay from (Some id) to (Some (iq_type iq.Error)) None j) (child (error_elem e) no_nodes)))
+    (subst IsTree (λ j. element client_ns (codes "iq") (attrs_stay from (Some id) to (Some (iq_type iq.Error)) None j) (child (error_elem e) no_nodes)) (tidied_IsTree (iq_error_elem from to id e)))
     (stanza_bounded client_ns (codes "iq") from (Some id) to (Some (iq_type iq.Error)) None (child (error_elem e) no_nodes) f i t 0 2 1000 (word (codes "iq") refl) a b c (iq_kind_said iq.Error) tt
     (only_child client_ns 2 1000 (error_elem e) (error_bounded client_ns e known)))
     (other_space client_ns (codes "iq") refl) (omega arith) (omega (arith, short))
@@ -118,7 +115,7 @@ pub result_read : (f i t levels n : ℕ) (a : EnvelopeView) (payload : Nodes) �
     → levels ≤ 60 → f + i + t + n ≤ 4000000 → ClientReads (iq_elem (record { from = a.from; to = a.to; id = a.id; kind = iq.Result; payload = payload }))
 result_read f i t levels n a payload b c d stays inside deep short =
     let e = iq_elem (record { from = a.from; to = a.to; id = a.id; kind = iq.Result; payload = payload }) in
-    reads e (levels + 1) (f + i + t + 0 + n + 700) (stays_tree e (λ j. element client_ns (codes "iq") (attrs_stay a.from (Some a.id) a.to (Some (iq_type iq.Result)) None j) (stays j)))
+    reads e (levels + 1) (f + i + t + 0 + n + 700) (subst IsTree (λ j. element client_ns (codes "iq") (attrs_stay a.from (Some a.id) a.to (Some (iq_type iq.Result)) None j) (stays j)) (tidied_IsTree e))
     (stanza_bounded client_ns (codes "iq") a.from (Some a.id) a.to (Some (iq_type iq.Result)) None payload f i t 0 levels n (word (codes "iq") refl) b c d (iq_kind_said iq.Result) tt inside) (other_space client_ns (codes "iq") refl) (omega (arith, deep))
     (omega (arith, short))
 
@@ -202,5 +199,5 @@ resumable_read n seconds small =
     let two = attributes_joined 1 1 144 168 given most a b in
     let three = attributes_joined 2 1 312 72 (given ++ most) flag two c in
     reads (enabled_elem (record { id = hex16_of n; resume = true; max = Some seconds })) 1 (312 + 72 + 400)
-    (stays_tree (enabled_elem (record { id = hex16_of n; resume = true; max = Some seconds })) (enabled_stays (record { id = hex16_of n; resume = true; max = Some seconds })))
+    (subst IsTree (enabled_stays (record { id = hex16_of n; resume = true; max = Some seconds })) (tidied_IsTree (enabled_elem (record { id = hex16_of n; resume = true; max = Some seconds }))))
     (with_none client_ns management (codes "enabled") (given ++ most ++ flag) 3 (312 + 72) (space management refl) (word (codes "enabled") refl) three (omega arith)) (other_space management (codes "enabled") refl) (omega arith) (omega arith)

@@ -79,7 +79,7 @@ fewer : (p : EntryView → Bool) (es : List EntryView) → length (filter p es) 
 fewer p [] = omega arith
 fewer p (e ∷ es) = let ih = fewer p es in elim (cases_Bool (p e)) [ inl b ↦ rw b (omega (arith, ih)) | inr b ↦ rw b (omega (arith, ih)) ]
 
-index_few : (matches page : List EntryView) → index_of_page matches page ≤ length matches
+pub index_few : (matches page : List EntryView) → index_of_page matches page ≤ length matches
 index_few matches [] = omega arith
 index_few matches (e ∷ es) = fewer (λ f. nat_lt f.number e.number) matches
 

@@ -98,15 +98,12 @@ characters_after t n h cut =
     sym (ap (list_all is_character) (chars-append (take n t) (drop n t) front) ∙ list_all-append is_character (chars (take n t)) (chars (drop n t))) ∙ all in
     from_those (drop n t) back (and_parts _ _ both).1
 
-first_slash : (t : List ℕ) → bare_len t < length t → get_or t (bare_len t) 0 ≡ 47
-first_slash t lt = eqb-true _ _ (passes_at_first is_slash t 0 lt)
-
 resource_given : (t : List ℕ) → IsCharacters t → IfSome (resource_of t) IsCharacters
 resource_given t h =
     elim (cases_Bool (nat_lt (bare_len t) (length t))) [
       | inl there ↦
           let lt : bare_len t < length t = ltb-true _ _ there in
-          let slash = first_slash t lt in
+          let slash = eqb-true (get_or t (bare_len t) 0) 47 (passes_at_first is_slash t 0 lt) in
           let cut = IsCharBoundary-after_ascii t (bare_len t) h.utf8 lt (omega arith) in
           rw there (characters_after t (bare_len t + 1) h cut)
       | inr none ↦ rw none tt

@@ -1,5 +1,5 @@
 -- Names, addresses, ids, numbers and texts of schedules are fields of a report's lines.
-use Rattle.std.proofs.Common.{◌≡◌, ◌≢◌, ℕ, zero, suc, ◌<◌, ◌≤◌, ◌^◌, ◌/◌, ◌%◌, Bool, true, false, eqb, leb, ltb, List, [], ◌∷◌, ◌++◌, length, refl, ap, ◌∙◌, arith, codes}
+use Rattle.std.proofs.Common.{◌≡◌, ◌≢◌, ℕ, zero, suc, ◌<◌, ◌≤◌, ◌^◌, ◌/◌, ◌%◌, Bool, true, eqb, leb, ltb, List, [], ◌∷◌, ◌++◌, length, refl, ap, ◌∙◌, arith, codes}
 use Rattle.std.specs.Prelude.{All, ◌&&◌}
 use Rattle.std.specs.Fmt.{decimal}
 use Rattle.std.specs.List.{list_all}
@@ -37,16 +37,17 @@ pub record IsVisible (word : List ℕ) : Type 0 where
 visible_range : (c : ℕ) → is_visible c ≡ true → (33 ≤ c) × (c < 128)
 visible_range c e = grind (arith, nat_tests)
 
-filled : (word : List ℕ) → 0 < length word → not_empty word ≡ true
-filled [] some = absurd (omega arith)
-filled (c ∷ cs) some = refl
-
 all_lack : (c : ℕ) (word : List ℕ) → Lacks c word → All (λ b. b ≢ c) word
 all_lack c word lacks i d within = λ same. lacks i within (get_or_default word i 0 d within ∙ same)
 
+-- a text has a byte exactly where it isn't empty
+has_some : (text : List ℕ) → (0 < length text → not_empty text ≡ true) × (not_empty text ≡ true → 0 < length text)
+has_some [] = (λ some. absurd (omega arith), λ some. absurd (false≢true some))
+has_some (b ∷ bs) = (λ some. refl, λ some. omega arith)
+
 pub visible_field : (word : List ℕ) → IsVisible word → IsField word
 visible_field word h =
-    let is = word_from_all is_visible visible_range word (filled word h.some) h.each in
+    let is = word_from_all is_visible visible_range word ((has_some word).0 h.some) h.each in
     record {
       line = record { some = h.some; spelled = is.plain.spelled; one = all_lack 10 word is.plain.lacks };
       one = all_lack 32 word is.lacks;
@@ -80,14 +81,10 @@ name_visible name h = record {
 digit_byte : (c : ℕ) → is_digit c ≡ true → is_visible c ≡ true
 digit_byte c e = grind (arith, nat_tests)
 
-digits_some : (digits : List ℕ) → not_empty digits ≡ true → 0 < length digits
-digits_some [] h = absurd (false≢true h)
-digits_some (c ∷ cs) h = omega arith
-
 pub decimal_visible : (n : ℕ) → n < 2 ^ 64 → IsVisible (decimal n)
 decimal_visible n low =
     let digits = number_digits (decimal n) (decimal_number n low) in
-    record { some = digits_some (decimal n) digits.0; each = list_all-weaker is_digit is_visible digit_byte (decimal n) digits.1 }
+    record { some = (has_some (decimal n)).1 digits.0; each = list_all-weaker is_digit is_visible digit_byte (decimal n) digits.1 }
 
 domain_visible : IsVisible (64 ∷ codes "chat.example")
 domain_visible = record { some = omega arith; each = refl }
@@ -127,14 +124,11 @@ id_is n = record { field = visible_field (id_of n) (id_visible n); other = sixte
 
 -- ---- texts
 
-text_byte : (c : ℕ) → is_text_character c ≡ true → eqb c 10 ≡ false
-text_byte c e = grind (arith, nat_tests)
-
 none_are : (cs : List ℕ) → list_all is_text_character cs ≡ true → NonePass (λ d. eqb d 10) cs
 none_are [] h = tt
 none_are (c ∷ cs) h =
     let parts = and_parts (is_text_character c) (list_all is_text_character cs) h in
-    (text_byte c parts.0, none_are cs parts.1)
+    ((let passes : is_text_character c ≡ true = parts.0 in grind (arith, passes, nat_tests)), none_are cs parts.1)
 
 text_some : (text : List ℕ) → is_text text ≡ true → 0 < length text
 text_some [] h = absurd (false≢true h)

@@ -1,6 +1,6 @@
 -- What archives get of one message, and of messages one after another.
 use Rattle.std.proofs.Common.{◌≡◌, ◌≢◌, ℕ, zero, suc, ◌==◌, Bool, true, false, cond, List, [], ◌∷◌, ◌++◌, Option, Some, None, map, append-nil, refl, sym, ap, subst, ◌∙◌, eq-eqb, inl, inr}
-use Rattle.std.proofs.lemmas.Bool.{cases_Bool, false≢true, or_right}
+use Rattle.std.proofs.lemmas.Bool.{cases_Bool, or_right, eqb-false}
 use Rattle.std.proofs.lemmas.List.{map-append}
 use Rattle.std.proofs.lemmas.List.Elements.{filter-append}
 use Rattle.std.specs.List.{filter, slice_get}
@@ -51,9 +51,6 @@ one_entry false t = refl
 gets_one : (p : ℕ) (t : Taken) (o : Option Kept) (b : Bool) → concerns p t ≡ b → gets p (t ∷ []) o ≡ option_map (all_appended (entries_where b t.entry)) o
 gets_one p t o b is = ap (λ (es : List EntryView). option_map (all_appended es) o) (ap (λ c. map (λ (x : Taken). x.entry) (cond c (t ∷ []) [])) is ∙ one_entry b t)
 
-other_number : (a b : ℕ) → (a == b) ≡ false → a ≢ b
-other_number a b is same = false≢true (sym is ∙ eq-eqb a b same)
-
 concerns_addressee : (p : ℕ) (t : Taken) → t.addressee ≡ p → concerns p t ≡ true
 concerns_addressee p t is = or_right (t.sender == p) (t.addressee == p) (eq-eqb t.addressee p is)
 
@@ -74,7 +71,7 @@ once_archived t b p same =
           ∙ sym (gets_one p t (slice_get b.archives p) true (concerns_addressee p t is))
       | inr other ↦
           let neither : concerns p t ≡ false = concerns_neither p t (ap (λ n. n == p) same ∙ other) other in
-          set_apart t.entry t.addressee (slice_get b.archives t.addressee) b.archives p (other_number t.addressee p other)
+          set_apart t.entry t.addressee (slice_get b.archives t.addressee) b.archives p (eqb-false t.addressee p other)
           ∙ sym (gets_one p t (slice_get b.archives p) false neither ∙ gets_nothing (slice_get b.archives p))
     ]
 
@@ -82,7 +79,7 @@ twice_archived : {A : Type 0} (t : Taken) (b : Books A) (p : ℕ) → (t.sender 
     slice_get (all_marking (Entry t.sender t.entry ∷ Entry t.addressee t.entry ∷ Notice t.entry.from t.entry.to t.entry.origin ∷ []) b).archives p ≡ gets p (t ∷ []) (slice_get b.archives p)
 twice_archived t b p differ =
     let first = with_entry t.entry t.sender (slice_get b.archives t.sender) b.archives in
-    let apart : t.sender ≢ t.addressee = other_number t.sender t.addressee differ in
+    let apart : t.sender ≢ t.addressee = eqb-false t.sender t.addressee differ in
     elim (cases_Bool (t.addressee == p)) [
       | inl here ↦
           let is : t.addressee ≡ p = same_from_eqb t.addressee p here in
@@ -90,14 +87,14 @@ twice_archived t b p differ =
           (entry_there t.entry t.addressee first ∙ ap (option_map (appended t.entry)) (set_apart t.entry t.sender (slice_get b.archives t.sender) b.archives t.addressee apart))
           ∙ sym (gets_one p t (slice_get b.archives p) true (concerns_addressee p t is))
       | inr other ↦
-          set_apart t.entry t.addressee (slice_get first t.addressee) first p (other_number t.addressee p other)
+          set_apart t.entry t.addressee (slice_get first t.addressee) first p (eqb-false t.addressee p other)
           ∙ elim (cases_Bool (t.sender == p)) [
             | inl here ↦
                 let is : t.sender ≡ p = same_from_eqb t.sender p here in
                 subst (λ (n : ℕ). slice_get first n ≡ option_map (appended t.entry) (slice_get b.archives n)) is (entry_there t.entry t.sender b.archives)
                 ∙ sym (gets_one p t (slice_get b.archives p) true (concerns_sender p t is))
             | inr neither ↦
-                set_apart t.entry t.sender (slice_get b.archives t.sender) b.archives p (other_number t.sender p neither)
+                set_apart t.entry t.sender (slice_get b.archives t.sender) b.archives p (eqb-false t.sender p neither)
                 ∙ sym (gets_one p t (slice_get b.archives p) false (concerns_neither p t neither other) ∙ gets_nothing (slice_get b.archives p))
           ]
     ]

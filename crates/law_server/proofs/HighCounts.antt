@@ -1,6 +1,6 @@
 -- A `resume` of a session that is gone; and what a count that is too high does, and leaves.
 use Rattle.std.proofs.Common.{◌≡◌, ℕ, ◌+◌, ◌<◌, ◌≤◌, ◌^◌, ◌==◌, Bool, true, false, not, List, [], ◌∷◌, Option, Some, None, Result, Err, refl, sym, ap, ap₂, subst, ◌∙◌, arith, inl, inr}
-use Rattle.std.proofs.lemmas.Bool.{cases_Bool, false≢true}
+use Rattle.std.proofs.lemmas.Bool.{cases_Bool, false≢true, eqb-false}
 use Rattle.std.proofs.lemmas.Option.{none-some, same_Some}
 use Rattle.std.proofs.lemmas.Slice.Eq.{bytes_eq-Decides}
 use Rattle.std.specs.List.{filter, find}
@@ -13,9 +13,8 @@ use Rattle.im_replies.specs.declared.conditions.StreamCondition.TheVariants.{Con
 use Rattle.im_stanza.specs.declared.conditions.Condition.TheVariants.{ItemNotFound}
 use Rattle.sm_live.specs.Rule.{IsRule, RisesTo}
 use Rattle.sm_live.specs.Sessions.{Session, after_resume, is_at, is_numbered, is_resumed_by, is_too_high, resent, resume_answer, send_count, session_of, session_resumed, told, without}
-use Rattle.sm_resumption.proofs.RowFacts.{eqb_same, same_from_eqb}
+use Rattle.sm_resumption.proofs.RowFacts.{eqb_same}
 use Rattle.sm_resumption.specs.Previds.{previd_of}
-use Rattle.sm_resumption.specs.Rows.{is_some_number}
 use Rattle.sm_resumption.specs.declared.answers.ResumeFault.{ResumeFault}
 use Rattle.sm_resumption.specs.declared.answers.ResumeFault.TheVariants.{TooHigh}
 use Rattle.sm_resumption.specs.declared.answers.ResumeOk.{ResumeOk}
@@ -178,14 +177,11 @@ others {A = A} m p ss passes = by (session_of m ss) refl
     by None is = none_some (is_numbered m) p ss is
     by (Some u) is = found_kept (is_numbered m) p ss u is (passes u is)
 
-apart : (m n : ℕ) → (m == n) ≡ false → m ≡ n → ⊥
-apart m n other same = false≢true (sym other ∙ ap (λ x. x == n) same ∙ eqb_same n)
-
 -- on a connection that has a session no other is
 not_there : {A : Type 0} (k m n next : ℕ) (t u : Session A) (ss : List (Session A)) → IsRule ss next → (m == n) ≡ false → session_of n ss ≡ Some t → t.shown.conn ≡ Some k → session_of m ss ≡ Some u → not (is_at k u) ≡ true
 not_there k m n next t u ss rule other found on is =
     elim (cases_Bool (is_at k u)) [
-      | inl there ↦ absurd (apart m n other (rule.conns m n k u t is found (conn_is k u.shown.conn there) on))
+      | inl there ↦ absurd (eqb-false m n other (rule.conns m n k u t is found (conn_is k u.shown.conn there) on))
       | inr free ↦ ap not free
     ]
 

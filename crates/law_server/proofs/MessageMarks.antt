@@ -1,6 +1,6 @@
 -- The row on messages archives one message or none, in the archives of its sender and of the account that it is to.
 use Rattle.std.proofs.Common.{◌≡◌, ℕ, ◌==◌, ◌||◌, Bool, true, false, cond, List, [], ◌∷◌, Option, Some, None, refl, sym, ap, subst, ◌∙◌, ◌⊎◌, inl, inr}
-use Rattle.std.proofs.lemmas.Bool.{false≢true}
+use Rattle.std.proofs.lemmas.Bool.{or_parts}
 use Rattle.std.specs.List.{list_any}
 use Rattle.std.specs.Option.{IfSome, unwrap_or}
 use Rattle.sm_resumption.proofs.RowFacts.{same_from_eqb}
@@ -148,14 +148,10 @@ pub some_either : {A : Type 0} (P : Taken → Type 0) (b : Bool) (x y : List (Ac
 some_either P true x y here there = here
 some_either P false x y here there = there
 
-neither : (x y : Bool) → (x || y) ≡ false → (x ≡ false) × (y ≡ false)
-neither true y is = absurd (false≢true (sym is))
-neither false y is = (refl, is)
-
 -- neither archive is full
 room_either : (f : ℕ → Bool) (s a : ℕ) (b : Bool) → (s == a) ≡ b → list_any f (archives_of (cond b (Once a) (Both s a))) ≡ false → (f s ≡ false) × (f a ≡ false)
-room_either f s a true same none = (let here = neither (f a) false none in (subst (λ n. f n ≡ false) (sym (same_from_eqb s a same)) here.0, here.0))
-room_either f s a false same none = (let first = neither (f s) (f a || false) none in (first.0, (neither (f a) false first.1).0))
+room_either f s a true same none = (let here = or_parts (f a) false none in (subst (λ n. f n ≡ false) (sym (same_from_eqb s a same)) here.0, here.0))
+room_either f s a false same none = (let first = or_parts (f s) (f a || false) none in (first.0, (or_parts (f a) false first.1).0))
 
 room_both : (f : ℕ → Bool) (s a : ℕ) → list_any f (archives_of (once_or_both s a)) ≡ false → (f s ≡ false) × (f a ≡ false)
 room_both f s a none = room_either f s a (s == a) refl none

@@ -84,7 +84,7 @@ module _ (given : Limits) (s : State) (o : OpenElement) (items : List Item) (b :
   abbrev Q : Turn → Type 0
   Q = After given b bytes
 
-  on : Kept given (next_position s.positions.at) s.lexical.spent s.limits (bytes ++ b ∷ [])
+  abbrev on : Kept given (next_position s.positions.at) s.lexical.spent s.limits (bytes ++ b ∷ [])
   on = kept_on given s.positions.at s.lexical.spent s.limits bytes b k
 
   counts : s.limits.bytes < 2 ^ 64 → s.positions.used ≡ used + 1

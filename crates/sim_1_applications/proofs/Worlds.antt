@@ -29,7 +29,7 @@ was_device f ds j e at = from (slice_get ds j) refl
     from None is = absurd (let w = get_each 0 f ds j in let no : ⊥ = cc in no)
     from (Some d) is = (d, is, (let w = get_each 0 f ds j in let zero_more : 0 + j ≡ j = omega arith in cc))
 
-never : (p b n c e : Bool) → (p && ((b && false) || (n && false && c && e))) ≡ false
+pub never : (p b n c e : Bool) → (p && ((b && false) || (n && false && c && e))) ≡ false
 never false b n c e = refl
 never true true true c e = refl
 never true true false c e = refl

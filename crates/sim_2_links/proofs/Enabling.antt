@@ -20,6 +20,7 @@ use Rattle.sim_2_links.specs.Stages.{Stage, Greets, Greeted, Offered, Proves, Ch
 use Rattle.sim_2_links.specs.Views.{Table, with_at, alter, has, Session, Row, Own, View, on_phase, session_on, carries, sends}
 use Rattle.sim_2_links.specs.SessionMoves.{IsEnabled}
 use Rattle.sim_2_links.specs.Links.{UpCounts, DownCounts, IsAsked, FitsOwn, ConnKept, GoesUp, GoesDown, IsIdle, IsPlaced, RowKept, SessionKept, IsCarried, IsBare, LinkKept}
+use Rattle.std.proofs.Math.Bool.{and-true}
 
 pub record AsksEnabled {A : Type 0} (s : Stage A) (tail rest : List (UpWord A)) : Type 0 where
   pub m : ℕ
@@ -234,13 +235,9 @@ enabled_keeps {A = A} k v next m kept = subst LinkKept (sym m.gives) (record {
     goes_up : GoesUp this (f m.row.number row.session)
     goes_up = record {
       way = ap (λ (d : Direction A). d.way) begun.0 ∙ sym (ap up_stanzas up_words_this ∙ bare_stanzas m.rest bare);
-      is_open = rw same_number (yes (is_flowing m.conn.wires) ∙ ap (λ b. b && sends InEnable) (sym (flow_down (Enabled m.row.number ∷ []) m.rest m.conn.wires)) ∙ ap (λ x. is_flowing (send_down (Enabled m.row.number ∷ []) (left_up m.rest m.conn.wires)) && sends x) (sym client));
+      is_open = rw same_number (sym (and-true (is_flowing m.conn.wires)) ∙ ap (λ b. b && sends InEnable) (sym (flow_down (Enabled m.row.number ∷ []) m.rest m.conn.wires)) ∙ ap (λ x. is_flowing (send_down (Enabled m.row.number ∷ []) (left_up m.rest m.conn.wires)) && sends x) (sym client));
       counts = subst (λ ws. UpCounts row.session.down.acked row.session.down.stated ws) (sym up_words_this) (bare_counts row.session.down.acked row.session.down.stated m.rest bare);
     }
-      where
-        yes : (b : Bool) → b ≡ (b && true)
-        yes false = refl
-        yes true = refl
 
     goes_down : GoesDown this (f m.row.number row.session)
     goes_down = record {

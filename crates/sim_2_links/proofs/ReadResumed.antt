@@ -16,6 +16,7 @@ use Rattle.sim_2_links.specs.Stages.{Stage, Greets, Greeted, Offered, Proves, Ch
 use Rattle.sim_2_links.specs.Views.{Table, with_at, alter, has, Session, Row, Own, View, on_phase, session_on, carried_by, carries, sends}
 use Rattle.sim_2_links.specs.SessionMoves.{again, IsReadResumed}
 use Rattle.sim_2_links.specs.Links.{carried_of, UpCounts, DownCounts, ArePiped, IsAsked, FitsOwn, ConnKept, GoesUp, GoesDown, IsIdle, IsPlaced, RowKept, OwnKept, SessionKept, IsCarried, IsBare, LinkKept}
+use Rattle.std.proofs.Math.Bool.{and-true}
 
 pub record Reads {A : Type 0} (s : Stage A) (p h : ℕ) (tail rest : List (DownWord A)) : Type 0 where
   pub downs : List (Traffic A)
@@ -269,14 +270,10 @@ read_resumed_keeps {A = A} k v next m kept = subst LinkKept (sym m.gives) (recor
     goes_up : GoesUp this (f m.own.number g.0)
     goes_up = record {
       way = rw same_number (by m.conn.wires empty_up);
-      is_open = rw same_number (yes (is_flowing m.conn.wires) ∙ ap (λ x. x && true) (sym (flow_up (again queue) m.rest m.conn.wires)));
+      is_open = rw same_number (sym (and-true (is_flowing m.conn.wires)) ∙ ap (λ x. x && true) (sym (flow_up (again queue) m.rest m.conn.wires)));
       counts = some_counts m.conn.wires empty_up;
     }
       where
-        yes : (b : Bool) → b ≡ (b && true)
-        yes false = refl
-        yes true = refl
-
         by : (x : Wires A) → up_words x ≡ [] → cond (is_flowing x) (drop (length g.0.up.got) g.0.up.put) [] ≡ up_stanzas (up_words (send_up (again (drop (m.h - m.own.acked) m.own.queue)) (left_down m.rest x)))
         by (Flow us ds) e = ap (λ (n : ℕ). drop n g.0.up.put) (sym present) ∙ sym all ∙ sym (again_stanzas queue) ∙ ap (λ l. up_stanzas (l ++ again queue)) (sym e)
         by (Stop us ds lu ld) e = ap up_stanzas (sym e)

@@ -1,6 +1,6 @@
 -- The accounts of a schedule by their places and by their names.
 use Rattle.std.proofs.Common.{◌≡◌, ◌≢◌, ℕ, zero, suc, ◌==◌, ◌||◌, ◌&&◌, Bool, true, false, not, cond, List, [], ◌∷◌, ◌++◌, Option, Some, None, map, refl, sym, ap, ap₂, subst, ◌∙◌, arith, inl, inr, eq-eqb}
-use Rattle.std.proofs.lemmas.Bool.{and_from, and_parts, cases_Bool, false≢true, or_left}
+use Rattle.std.proofs.lemmas.Bool.{and_from, and_parts, cases_Bool, false≢true, or_left, or_parts}
 use Rattle.std.proofs.lemmas.Bool.Decides.{nat_tests}
 use Rattle.std.proofs.lemmas.List.Folds.{list_any-append}
 use Rattle.std.proofs.lemmas.Option.{none-some, same_Some, slice_get-map}
@@ -77,11 +77,7 @@ before_new name before (n ∷ names) zero are is = subst (λ x. is_among x befor
 before_new name before (n ∷ names) (suc position) are is =
     let more : is_among name (before ++ n ∷ []) ≡ false = before_new name (before ++ n ∷ []) names position are.3 is in
     let split : (is_among name before || is_among name (n ∷ [])) ≡ false = sym (list_any-append (λ other. bytes_eq name other) before (n ∷ [])) ∙ more in
-    neither (is_among name before) (is_among name (n ∷ [])) split
-  where
-    neither : (x y : Bool) → (x || y) ≡ false → x ≡ false
-    neither true y h = absurd (false≢true (sym h))
-    neither false y h = refl
+    (or_parts (is_among name before) (is_among name (n ∷ [])) split).0
 
 pub among_last : (name : List ℕ) (before : List (List ℕ)) → is_among name (before ++ name ∷ []) ≡ true
 among_last name [] = rw (bytes_eq-self name) refl

@@ -75,7 +75,7 @@ from_is names keep t are is =
     ap (after_first is_slash) whole ∙ after_first-joined is_slash (report.bare_address sender) 47 is.resource (no_slash sender (plain_at names t.sender are).slash) refl in
     whole ∙ ap (report.full_address sender) (sym device)
 
-names_same : (names : List (List ℕ)) → names_of (accounts_at_start names) ≡ names
+pub names_same : (names : List (List ℕ)) → names_of (accounts_at_start names) ≡ names
 names_same [] = refl
 names_same (name ∷ names) = ap (λ ns. name ∷ ns) (names_same names)
 
@@ -199,10 +199,7 @@ lines_newest names keep archives takes accounts are got position (name ∷ rest)
     where_kept (λ a. IsNewestOf keep (history_of a.name (map (with_names names) takes)) a) name (slice_get archives position) (all_appended es (empty_kept domain keep name))
     (account_lines (position + 1) rest archives) kept
     (is_newest keep name es (map (with_names names) takes) (entries_same names position name accounts (named names position name are here) here takes))
-    (lines_newest names keep archives takes accounts are got (position + 1) rest (λ i other is. ap (slice_get names) (one_more position i) ∙ following (suc i) other is))
-  where
-    one_more : (p i : ℕ) → p + 1 + i ≡ p + suc i
-    one_more p i = omega arith
+    (lines_newest names keep archives takes accounts are got (position + 1) rest (λ i other is. ap (slice_get names) (let next : position + 1 + i ≡ position + suc i = omega arith in next) ∙ following (suc i) other is))
 
 where_named : (name : List ℕ) (o : Option Kept) (kept : Kept) (more : List AccountView) → o ≡ Some kept → map (λ (a : AccountView). a.name) (account_where name o ++ more) ≡ name ∷ map (λ (a : AccountView). a.name) more
 where_named name None kept more is = absurd (none-some kept is)
@@ -220,10 +217,7 @@ names_told names keep archives takes got position (name ∷ rest) following =
     let kept : slice_get archives position ≡ Some (all_appended es (empty_kept domain keep name)) = got position ∙ ap (option_map (all_appended es)) (archive_first names keep position name here) in
     where_named name (slice_get archives position) (all_appended es (empty_kept domain keep name)) (account_lines (position + 1) rest archives) kept
     ∙ ap (λ (ns : List (List ℕ)). name ∷ ns)
-    (names_told names keep archives takes got (position + 1) rest (λ i other is. ap (slice_get names) (one_more position i) ∙ following (suc i) other is))
-  where
-    one_more : (p i : ℕ) → p + 1 + i ≡ p + suc i
-    one_more p i = omega arith
+    (names_told names keep archives takes got (position + 1) rest (λ i other is. ap (slice_get names) (let next : position + 1 + i ≡ position + suc i = omega arith in next) ∙ following (suc i) other is))
 
 counted_where : (name : List ℕ) (o : Option Kept) (more : List AccountView) → AllByRecursion (λ (a : AccountView). a.count ≡ length a.entries) more → AllByRecursion (λ (a : AccountView). a.count ≡ length a.entries) (account_where name o ++ more)
 counted_where name None more rest = rest

@@ -54,6 +54,7 @@ use Rattle.cmd_network.specs.declared.wire.Wire.{Wire}
 use Rattle.cmd_world.specs.Moves.{Down, Link, down_by, down_to, end_heard, heard, heard_first, left_where, link_of, with_link}
 use Rattle.cmd_world.specs.Worlds.{ByteWorld, number_at}
 use Rattle.sim_3_images.proofs.DevicesMoved.{put_again}
+use Rattle.sim_3_images.proofs.MovesKept.{has_here}
 use Rattle.xml_writer.specs.Items.{ItemOut, written_item}
 
 -- ---- the place of a header is not looked at
@@ -303,7 +304,7 @@ module _ (UpFits DownFits : ItemOut → Type 0) (ServerFits : ℕ → ServerStat
       let other_device = found_both (DeviceEncodes ClientFits) d (slice_get w.devices b.device) (slice_get v.devices b.device) device (encodes.devices b.device) in
       let e = other_device.other in
       let h = other_device.holds in
-      let has_it : d.here ≡ Some position = has_room position d.here here in
+      let has_it : d.here ≡ Some position = has_here position d.here here in
       let item_here : e.here ≡ Some position = sym h.here ∙ has_it in
       let item_due = items_due client_limits (writer_at (number_at position) v.server) (framer_here position (slice_get w.devices b.device)) b.down p.down other.holds.down due in
       let e' : ItemDevice = record e { client = (leaves (fed_of e.client)).turn.client } in
@@ -323,10 +324,6 @@ module _ (UpFits DownFits : ItemOut → Type 0) (ServerFits : ℕ → ServerStat
       subst (λ y. WorldEncodes UpFits DownFits ServerFits ClientFits y (items.moved (items.DownEnd position) v)) bytes_is
       (subst (WorldEncodes UpFits DownFits ServerFits ClientFits (record w { devices = slice_set w.devices b.device (loses d); wires = changed_where d.here down_end_reported w.wires })) items_is all)
     where
-      has_room : (position : ℕ) (o : Option ℕ) → has_wire position o ≡ true → o ≡ Some position
-      has_room position None is = absurd (true≢false (sym is))
-      has_room position (Some q) is = ap Some (eqb-true q position is)
-
       lost_framer : (o : Option ℕ) (q : ℕ) → cond {A = Option State} (has_wire q o) None None ≡ None
       lost_framer o q = by (has_wire q o)
         where
@@ -336,7 +333,7 @@ module _ (UpFits DownFits : ItemOut → Type 0) (ServerFits : ℕ → ServerStat
 
       told_here : (q : ℕ) (c : Wire) (r : ItemWire) → d.here ≡ Some q → slice_get w.wires q ≡ Some c → WireAt UpFits DownFits w v q c r → After UpFits DownFits ServerFits ClientFits cores w v b.device (loses d) q (down_end_reported c) (pipes.down_end_reported r)
       told_here q c r is there y =
-          let same_position = same_Some position q (sym (has_room position d.here here) ∙ is) in
+          let same_position = same_Some position q (sym (has_here position d.here here) ∙ is) in
           let due_there : is_end_due c.down ≡ true = ap (λ (z : Wire). is_end_due z.down) (sym (same_Some b c (sym found ∙ ap (slice_get w.wires) same_position ∙ there))) ∙ due in
           wire_down_told UpFits DownFits cores.up_limits cores.down_limits (framer_at (number_at q) w.server.framers) (framer_here q (slice_get w.devices c.device)) (framer_here q (slice_get (slice_set w.devices b.device (loses d)) c.device)) (writer_at (number_at q) v.server) c r due_there y
 

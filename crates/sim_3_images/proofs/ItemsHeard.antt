@@ -24,6 +24,7 @@ use Rattle.sim_3_items.specs.ItemWorlds.{ItemDevice, ItemWorld, read_of, silent_
 use Rattle.cmd_network.specs.Positions.{changed_at}
 use Rattle.sim_3_images.proofs.DevicesMoved.{put_again}
 use Rattle.xml_writer.specs.Items.{Closing, ItemOut}
+pub use Rattle.sim_3_images.proofs.PutSteps.{nothing_entered}
 
 abbrev pub many_down : ℕ → ItemWire → ItemWire
 many_down count p = record p { down = dropped count p.down }
@@ -42,13 +43,6 @@ entered_twice a b p = by p.ended refl
     by : (e : Bool) → p.ended ≡ e → entered b (entered a p) ≡ entered (a ++ b) p
     by true e = rw e refl
     by false e = rw e (ap (λ l. record { items = l; ended = false; told = p.told }) (append_assoc p.items a b))
-
-pub nothing_entered : (p : ItemPipe) → entered [] p ≡ p
-nothing_entered p = by p.ended
-  where
-    by : (e : Bool) → cond e p (record p { items = p.items ++ [] }) ≡ p
-    by true = refl
-    by false = ap (λ l. record p { items = l }) (append-nil p.items)
 
 -- ---- a turn behind another
 

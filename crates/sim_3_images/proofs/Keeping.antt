@@ -119,14 +119,14 @@ client_step_puts t h relayable = both (OutFits server_limits) IsRelayable t.out.
 client_step_client : (t : ClientStep ItemOut ItemOut) → IsClientStepWithin t → HasNoEnd t.client.session → ClientStepIsRelayable t → ClientFits t.client
 client_step_client t h no_end relayable = record { within = h.client; no_end = no_end; relayable = relayable.client }
 
-submits_phase : (t : ClientStep ItemOut ItemOut) (o : Option (SessionView ItemOut)) (i : ItemOut) (said : Said) → (submits in_items t o i said).client.phase ≡ t.client.phase
+pub submits_phase : (t : ClientStep ItemOut ItemOut) (o : Option (SessionView ItemOut)) (i : ItemOut) (said : Said) → (submits in_items t o i said).client.phase ≡ t.client.phase
 submits_phase t None i said = refl
 submits_phase t (Some s) i said = refl
 
 says_phase : (t : ClientStep ItemOut ItemOut) (to text : List ℕ) (private : Bool) → (says in_items t to text private).client.phase ≡ t.client.phase
 says_phase t to text private = submits_phase t t.client.session (in_items.say (submission_of t.client to text private)) (said_of t.client.epoch t.client.n to text private)
 
-catches_phase_in : (t : ClientStep ItemOut ItemOut) (o : Option (SessionView ItemOut)) (most : ℕ) → (catches_up_in in_items t o most).client.phase ≡ t.client.phase
+pub catches_phase_in : (t : ClientStep ItemOut ItemOut) (o : Option (SessionView ItemOut)) (most : ℕ) → (catches_up_in in_items t o most).client.phase ≡ t.client.phase
 catches_phase_in t None most = refl
 catches_phase_in t (Some s) most = refl
 

@@ -27,15 +27,12 @@ ascii_by P low (b ∷ t) h (suc i) = ascii_by P low t (and_parts (P b) (list_all
 plain_low : (b : ℕ) → is_printable_ascii b ≡ true → b < 128
 plain_low b h = grind (arith, nat_tests)
 
-class_low : (b : ℕ) → class.is_printable b ≡ true → b < 128
-class_low b h = grind (arith, nat_tests)
-
 literal : (t : List ℕ) → list_all is_printable_ascii t ≡ true → IsAscii t
 literal t h = ascii_by is_printable_ascii plain_low t h
 
 nonce_ascii : (nonce : List ℕ) → is_nonce nonce ≡ true → IsAscii nonce
 nonce_ascii [] h = IsAscii-nil
-nonce_ascii (b ∷ bs) h = ascii_by class.is_printable class_low (b ∷ bs) h
+nonce_ascii (b ∷ bs) h = ascii_by class.is_printable (λ c low. grind (arith, nat_tests)) (b ∷ bs) h
 
 -- ---- names
 

@@ -25,7 +25,7 @@ use Rattle.cmd_network.specs.declared.wire.Wire.{Wire}
 use Rattle.cmd_world.specs.Effects.{effects_of}
 use Rattle.cmd_world.specs.Histories.{common_steps, owned_at_start, world_at_start}
 use Rattle.cmd_world.specs.Moves as moves
-use Rattle.cmd_world.specs.Moves.{Link, Move, caught_up_by, closed_by, dialed_by, down_by, down_to, end_heard, forgot_by, heard, heard_by, heard_first, left_where, link_of, moved, reported_up, said_by, served, served_by, step_of_piece}
+use Rattle.cmd_world.specs.Moves.{Link, Move, caught_up_by, closed_by, dialed_by, down_by, down_to, end_heard, forgot_by, heard, heard_first, left_where, link_of, moved, reported_up, said_by, served, served_by, step_of_piece}
 use Rattle.cmd_world.specs.WorldReports.{is_open}
 use Rattle.cmd_world.specs.Worlds.{ByteWorld, client_entropy, number_at}
 use Rattle.sim_3_images.proofs.OwnersKept.{owners_kept}
@@ -257,7 +257,7 @@ end_kept position l m kept =
     (record { newest = kept.newest; never = kept.never; flowing = kept.flowing; here = kept.here }) kept
 
 -- where this is the device's connection
-has_here : (position : ℕ) (o : Option ℕ) → has_wire position o ≡ true → o ≡ Some position
+pub has_here : (position : ℕ) (o : Option ℕ) → has_wire position o ≡ true → o ≡ Some position
 has_here position None is = absurd (false≢true is)
 has_here position (Some here) is = ap Some (eqb-true here position is)
 

@@ -18,7 +18,6 @@ use Rattle.cmd_network.proofs.Names.{domain_stays, local_stays, resource_stays}
 use Rattle.cmd_network.specs.Starting.{account_at_start, accounts_at_start, password_of}
 use Rattle.base_io.specs.Names.{is_among, position_of}
 use Rattle.im_jid.proofs.NormalAgain.{are_joined}
-use Rattle.im_jid.specs.Cuts.{domain_of}
 use Rattle.im_jid.specs.Normal.{normal}
 use Rattle.srv_login.specs.Accounts.{account_from}
 use Rattle.srv_login.specs.declared.account.Account.{Account}
@@ -29,6 +28,7 @@ use Rattle.cmd_schedule.specs.Schedules.{WireView}
 use Rattle.auth_scram.specs.Exchange.{is_plain, is_printable_ascii}
 use Rattle.srv_core.specs.Configs.{archives_of, empty_kept, server_state_at_start}
 use Rattle.cmd_world.specs.Histories.{common_steps}
+use Rattle.law_limits.proofs.NamesWithin.{domain_is}
 
 -- ---- names
 
@@ -52,11 +52,6 @@ normal_domain : normal domain ≡ Ok domain
 normal_domain =
     let whole = are_joined None domain None (record { local_stays = tt; domain_stays = domain_stays; resource_stays = tt }) in
     subst (λ t. normal t ≡ Ok t) (append-nil domain) whole.normal_form
-
-domain_is : (account : List ℕ) → is_name account ≡ true → domain_of (bare_address account) ≡ domain
-domain_is account is =
-    let whole = are_joined (Some account) domain None (record { local_stays = local_stays account is; domain_stays = domain_stays; resource_stays = tt }) in
-    subst (λ t. domain_of t ≡ domain) (append-nil ((account ++ 64 ∷ []) ++ domain) ∙ append_assoc account (64 ∷ []) domain) whole.domain_is
 
 pub normal_full : (account device : List ℕ) → is_name account ≡ true → is_name device ≡ true → normal (full_address account device) ≡ Ok (full_address account device)
 normal_full account device is named =

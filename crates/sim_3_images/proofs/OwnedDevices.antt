@@ -1,6 +1,6 @@
 -- The devices that a wire schedule declares: each has a name of its own, and its account is declared.
-use Rattle.std.proofs.Common.{◌≡◌, ℕ, zero, suc, Bool, true, false, not, ◌&&◌, ◌||◌, List, [], ◌∷◌, ◌++◌, length, Some, refl, sym, ap, subst, append_assoc, ◌∙◌}
-use Rattle.std.proofs.lemmas.Bool.{and_parts, false≢true, not-true, or_left}
+use Rattle.std.proofs.Common.{◌≡◌, ℕ, zero, suc, true, false, not, ◌&&◌, List, [], ◌∷◌, ◌++◌, length, Some, refl, sym, ap, subst, append_assoc, ◌∙◌}
+use Rattle.std.proofs.lemmas.Bool.{and_parts, false≢true, not-true, or_left, or_parts}
 use Rattle.std.proofs.lemmas.List.Folds.{list_any-append}
 use Rattle.std.proofs.lemmas.Option.{none-some, same_Some}
 use Rattle.std.specs.List.{flat_map, slice_get}
@@ -96,16 +96,12 @@ declared schedule position o is there =
 
 -- ---- two of them
 
-neither : (x y : Bool) → (x || y) ≡ false → x ≡ false
-neither true y h = absurd (false≢true (sym h))
-neither false y h = refl
-
 after_new : (accounts before : List (List ℕ)) (os : List Owned) (position : ℕ) (o : Owned) → AreOwned accounts before os → slice_get os position ≡ Some o → is_among o.device before ≡ false
 after_new accounts before [] position o are is = absurd (none-some o is)
 after_new accounts before (x ∷ os) zero o are is = subst (λ y. is_among y.device before ≡ false) (same_Some x o is) are.0.new
 after_new accounts before (x ∷ os) (suc position) o are is =
     let later : is_among o.device (before ++ x.device ∷ []) ≡ false = after_new accounts (before ++ x.device ∷ []) os position o are.1 is in
-    neither (is_among o.device before) (is_among o.device (x.device ∷ [])) (sym (list_any-append (λ other. bytes_eq o.device other) before (x.device ∷ [])) ∙ later)
+    (or_parts (is_among o.device before) (is_among o.device (x.device ∷ [])) (sym (list_any-append (λ other. bytes_eq o.device other) before (x.device ∷ [])) ∙ later)).0
 
 -- the first device, and a later one of the same name
 not_later : (accounts before : List (List ℕ)) (x : Owned) (os : List Owned) (position : ℕ) (o r : Owned) → AreOwned accounts (before ++ x.device ∷ []) os → Some x ≡ Some o → slice_get os position ≡ Some r → o.device ≡ r.device → ⊥

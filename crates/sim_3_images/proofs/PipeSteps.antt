@@ -5,8 +5,8 @@ use Rattle.std.proofs.lemmas.List.{drop-map, length-map, map-append, take-map}
 use Rattle.std.proofs.lemmas.Bool.{and_parts}
 use Rattle.std.proofs.lemmas.Bool.Decides.{nat_tests}
 use Rattle.law_xml.proofs.PipeLaws.{closes, cuts, due_means_none, end_told, fresh, hands, open_without_bytes}
-use Rattle.law_xml.specs.Carries.{Carries, held}
-use Rattle.law_xml.specs.Items.{AreItems}
+use Rattle.law_xml.proofs.PutRuns.{same_carries}
+use Rattle.law_xml.specs.Carries.{held}
 use Rattle.xml_framer.specs.Machine.{run}
 use Rattle.xml_framer.specs.States.{State, turn, from_start}
 use Rattle.xml_framer.specs.declared.items.Item.{Item}
@@ -23,13 +23,6 @@ use Rattle.sim_3_images.specs.PipeEncodings.{AreRead, Awaits, IsCarried, IsCut, 
 
 -- ---- a pipe's counts are not looked at
 
-carries_same : (s : State) (part : List ℕ) (p q : Pipe) (items : List Item) (t : State) → p.bytes ≡ q.bytes → p.ended ≡ q.ended → Carries s part p items t → Carries s part q items t
-carries_same s part p q items t bytes ended c = record {
-  no_fault = c.no_fault;
-  none_given = c.none_given;
-  are_items = subst (λ b. AreItems b s (part ++ q.bytes) items t) ended (subst (λ l. AreItems p.ended s (part ++ l) items t) bytes c.are_items);
-}
-
 carried_same : (limits : Limits) (writer : Option Phase) (reader : Option State) (b c : Pipe) (p : ItemPipe) → b.bytes ≡ c.bytes → b.ended ≡ c.ended
     → IsCarried limits writer reader b p → IsCarried limits writer reader c p
 carried_same limits writer reader b c p bytes ended (over o) = over (record { no_bytes = sym bytes ∙ o.no_bytes; no_items = o.no_items; has_ended = sym ended ∙ o.has_ended })
@@ -39,7 +32,7 @@ carried_same limits writer reader b c p bytes ended (standing f is st) = standin
   items = st.items;
   following = st.following;
   held_is = st.held_is;
-  carries = carries_same st.start st.part b c st.items st.following bytes ended st.carries;
+  carries = same_carries st.start st.part b c st.items st.following bytes ended st.carries;
   read = st.read;
   awaits = λ e. st.awaits (ended ∙ e);
 })
@@ -216,11 +209,10 @@ none_left limits writer f b p l e none = no_outs p.items (subst (λ l. AreRead l
 
 -- where the end is due no item is left
 pub due_encodes : (limits : Limits) (writer : Option Phase) (reader : Option State) (b : Pipe) (p : ItemPipe) → PipeEncodes limits writer reader b p → is_end_due b ≡ true → p.items ≡ []
-due_encodes limits writer reader b p i due = by i.carried
-  where
-    by : IsCarried limits writer reader b p → p.items ≡ []
-    by (over o) = o.no_items
-    by (standing f is st) = none_left limits writer f b p st.items st.read (due_means_none st.start st.part b st.items st.following st.carries due)
+due_encodes limits writer reader b p i due = elim i.carried [
+  | over o ↦ o.no_items
+  | standing f is st ↦ none_left limits writer f b p st.items st.read (due_means_none st.start st.part b st.items st.following st.carries due)
+]
 
 -- where a pipe without bytes has not ended no item is under way
 pub empty_encodes : (limits : Limits) (writer : Option Phase) (reader : Option State) (b : Pipe) (p : ItemPipe) → PipeEncodes limits writer reader b p → b.ended ≡ false → b.bytes ≡ [] → p.items ≡ []

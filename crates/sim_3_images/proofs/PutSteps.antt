@@ -1,5 +1,5 @@
 -- What is put enters a pipe of bytes as it enters the pipe of items.
-use Rattle.std.proofs.Common.{◌≡◌, ℕ, ◌<◌, ◌^◌, Bool, true, false, List, [], ◌∷◌, ◌++◌, Option, Some, map, refl, sym, ap, subst, ◌∙◌, append_assoc, append-nil, cond, codes, flat_map}
+use Rattle.std.proofs.Common.{◌≡◌, ℕ, ◌<◌, ◌^◌, Bool, true, false, List, [], ◌∷◌, ◌++◌, Option, Some, map, refl, sym, ap, subst, ◌∙◌, append_assoc, append-nil, cond, flat_map}
 use Rattle.std.specs.List.{AllByRecursion}
 use Rattle.std.proofs.lemmas.List.{map-append}
 use Rattle.std.proofs.lemmas.Bool.{cond-false, cond-true}
@@ -8,15 +8,15 @@ use Rattle.xml_framer.specs.declared.items.Item.{Item}
 use Rattle.xml_framer.specs.declared.limits.Limits.{Limits}
 use Rattle.xml_framer.specs.declared.states.Phase.{Phase}
 use Rattle.xml_framer.specs.declared.states.Phase.TheVariants as phase
-use Rattle.law_xml.specs.Spells.{placed, written_scope}
-use Rattle.law_xml.specs.Standing.{StandsOutside}
+use Rattle.law_xml.specs.Spells.{placed}
 use Rattle.sim_3_items.specs.ItemPipes as items
 use Rattle.sim_3_items.specs.ItemPipes.{ItemPipe}
 use Rattle.sim_3_items.specs.ItemWorlds.{read_of}
 use Rattle.net_pipes.specs.Pipes.{Pipe, entered}
 use Rattle.xml_writer.specs.Items.{Closing, ItemOut, Opening, Whole, written_item}
 use Rattle.law_xml.proofs.PutLaws.{put_enters}
-use Rattle.law_xml.specs.Puts.{MayPut, OutFits, StandsAt, phase_behind, read_out}
+use Rattle.law_xml.proofs.PutRuns.{stands_after}
+use Rattle.law_xml.specs.Puts.{MayPut, OutFits, phase_behind, read_out}
 use Rattle.sim_3_images.specs.PipeEncodings.{AreRead, IsCarried, PipeEncodes, Standing, over, standing}
 use Rattle.sim_3_images.proofs.PipeSteps.{encodes_same, ended_encodes}
 
@@ -60,11 +60,12 @@ read_more : (at : ℕ) (items : List Item) (outs : List ItemOut) (i : ItemOut) �
 read_more at items outs i e =
     map-append (placed 0) items (read_out at i ∷ []) ∙ ap (λ l. l ++ placed 0 (read_out at i) ∷ []) e ∙ ap (λ x. map read_of outs ++ x ∷ []) (reads_out at i) ∙ sym (map-append read_of outs (i ∷ []))
 
--- behind what was put
-stands_after : (i : ItemOut) (t : State) → StandsOutside t (phase_behind i) written_scope (codes "stream:stream") → StandsAt t (phase_behind i)
-stands_after (Opening h) t s = s
-stands_after (Whole e) t s = s
-stands_after Closing t s = s
+pub nothing_entered : (p : ItemPipe) → items.entered [] p ≡ p
+nothing_entered p = by p.ended
+  where
+    by : (e : Bool) → cond e p (record p { items = p.items ++ [] }) ≡ p
+    by true = refl
+    by false = ap (λ l. record p { items = l }) (append-nil p.items)
 
 module _ (limits : Limits) (few : limits.attributes < 2 ^ 32) (names : limits.namespace_bytes < 2 ^ 32) where
   -- into an ended pipe nothing enters
@@ -122,13 +123,6 @@ module _ (limits : Limits) (few : limits.attributes < 2 ^ 32) (names : limits.na
       by : (e : Bool) → p.ended ≡ e → items.entered more (items.entered (i ∷ []) p) ≡ items.entered (i ∷ more) p
       by true e = rw e refl
       by false e = rw e (ap (λ l. record { items = l; ended = false; told = p.told }) (append_assoc p.items (i ∷ []) more))
-
-  nothing_entered : (p : ItemPipe) → items.entered [] p ≡ p
-  nothing_entered p = by p.ended
-    where
-      by : (e : Bool) → cond e p (record p { items = p.items ++ [] }) ≡ p
-      by true = refl
-      by false = ap (λ l. record p { items = l }) (append-nil p.items)
 
   no_bytes_entered : (b : Pipe) → b.bytes ≡ (entered [] b).bytes
   no_bytes_entered b = sym (bytes_entered [] b ∙ by b.ended)

@@ -1,5 +1,5 @@
 -- What a client says is mild.
-use Rattle.std.proofs.Common.{◌≡◌, ℕ, ◌+◌, ◌*◌, ◌≤◌, ◌==◌, ◌&&◌, bytes_eq, Bool, true, false, List, [], ◌∷◌, ◌++◌, None, length, codes, refl, sym, ◌∙◌, cond, arith, length-append}
+use Rattle.std.proofs.Common.{◌≡◌, ℕ, ◌+◌, ◌*◌, ◌≤◌, ◌&&◌, bytes_eq, Bool, true, false, List, [], ◌∷◌, ◌++◌, None, length, codes, refl, sym, ◌∙◌, arith, length-append}
 use Rattle.sim_3_images.specs.Relayable.{IsRelayable, IsRelayableElement}
 use Rattle.im_extensions.specs.Ids.{origin_id_elem}
 use Rattle.im_payload.specs.Bare.{bare}
@@ -8,8 +8,9 @@ use Rattle.im_requests.specs.Messages.{body_elem, chat_elem, private_nodes, subm
 use Rattle.im_login.specs.Payloads.{base64_of}
 use Rattle.im_login.specs.Sasl.{auth_of, is_sasl}
 use Rattle.law_limits.proofs.Logins.{base64_short}
+use Rattle.law_limits.proofs.Messages.{escaped_short}
 use Rattle.auth_scram.specs.Exchange.{client_first_message}
-use Rattle.auth_scram.specs.Grammar.{escaped, escaped_byte}
+use Rattle.auth_scram.specs.Grammar.{escaped}
 use Rattle.im_stanza.specs.Names.{client_ns}
 use Rattle.xml_trees.specs.Readers.{first_named, is_named, text_of}
 use Rattle.xml_trees.specs.Tidied.{text_node}
@@ -50,17 +51,6 @@ submission_relayable id to text private = record {
     e = chat_elem id to (submission_nodes id text private)
 
 -- ---- the first message of a login
-
-escaped_byte_short : (b : ℕ) → length (escaped_byte b) ≤ 3
-escaped_byte_short b = either (b == 44) _ _ (omega arith) (either (b == 61) _ _ (omega arith) (omega arith))
-  where
-    either : (c : Bool) (x y : List ℕ) → length x ≤ 3 → length y ≤ 3 → length (cond c x y) ≤ 3
-    either true x y here there = here
-    either false x y here there = there
-
-escaped_short : (name : List ℕ) → length (escaped name) ≤ 3 * length name
-escaped_short [] = omega arith
-escaped_short (b ∷ bs) = omega (arith, length-append (escaped_byte b) (escaped bs), escaped_byte_short b, escaped_short bs)
 
 first_short : (name nonce : List ℕ) → length name ≤ 32 → length nonce ≤ 38 → length (client_first_message name nonce) ≤ 144
 first_short name nonce short few =

@@ -12,16 +12,9 @@ use Rattle.sm_live.specs.Sessions.{Session, fresh, is_at, is_named, is_numbered,
 use Rattle.sm_resumption.specs.Rows.{is_some_number}
 use Rattle.srv_route.proofs.Rising.{rises_filter}
 pub use Rattle.sm_resumption.proofs.RowFacts.{option_map_some as was_found}
+pub use Rattle.law_server.proofs.Reached.{found_passes as found_is}
 
 -- ---- what is found
-
-pub found_is : {A : Type 0} (p : A → Bool) (ss : List A) (s : A) → find p ss ≡ Some s → p s ≡ true
-found_is p [] s is = absurd (let no_way : ⊥ = cc in no_way)
-found_is p (x ∷ ss) s is =
-    elim (cases_Bool (p x)) [
-      | inl here ↦ let same : x ≡ s = same_Some x s (rw here at is) in subst (λ y. p y ≡ true) same here
-      | inr other ↦ found_is p ss s (rw other at is)
-    ]
 
 -- something is found where something fits
 pub found_some : {A : Type 0} (p q : A → Bool) (ss : List A) (s : A) → find p ss ≡ Some s → q s ≡ true → (t : A) × (find q ss ≡ Some t)
@@ -218,6 +211,15 @@ module _ {A : Type 0} where
 
   pub named_one : (account : ℕ) (resource : List ℕ) (n : ℕ) (f : Session A → Session A) (s : Session A) → Keeps f → is_named account resource (changes_one n f s) ≡ is_named account resource s
   named_one account resource n f s kept = let all = keeps_one n f kept in let a = all.account s in let r = all.resource s in rw (a, r) refl
+
+  -- where the named session isn't changed, it is found as before
+  pub named_stays : (account : ℕ) (resource : List ℕ) (n : ℕ) (f : Session A → Session A) (ss : List (Session A)) → Keeps f
+      → ((s : Session A) → session_named account resource ss ≡ Some s → changes_one n f s ≡ s) → session_named account resource (with_session n f ss) ≡ session_named account resource ss
+  named_stays account resource n f ss kept same = found_mapped (is_named account resource) (changes_one n f) ss (λ s. named_one account resource n f s kept) ∙ by (session_named account resource ss) refl
+    where
+      by : (o : Option (Session A)) → session_named account resource ss ≡ o → option_map (changes_one n f) o ≡ o
+      by None is = refl
+      by (Some s) is = ap Some (same s is)
 
   pub named_changed : (account : ℕ) (resource : List ℕ) (n : ℕ) (f : Session A → Session A) (ss : List (Session A)) → Keeps f → session_named account resource (with_session n f ss) ≡ option_map (changes_one n f) (session_named account resource ss)
   named_changed account resource n f ss kept = found_mapped (is_named account resource) (changes_one n f) ss (λ s. named_one account resource n f s kept)

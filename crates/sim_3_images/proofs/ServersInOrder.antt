@@ -24,6 +24,7 @@ use Rattle.srv_state.specs.declared.connection.Connection.{Connection}
 use Rattle.xml_framer.specs.declared.states.Phase.{Phase}
 use Rattle.xml_framer.specs.declared.states.Phase.TheVariants as phase
 use Rattle.std.proofs.lemmas.Bool.{eq-eqb}
+use Rattle.std.proofs.lemmas.Option.{none-some}
 use Rattle.sim_3_images.proofs.AloneKept.{all_apart, alone_filtered}
 use Rattle.sm_resumption.proofs.StoredFacts.{at_conn}
 use Rattle.sm_resumption.specs.Rows.{is_some_number}
@@ -127,14 +128,8 @@ parked_all now k m conns (t ∷ l) a = (by (t.shown.number == m) refl, parked_al
     by false e = other_on k m conns t e a.0
 
 parked_pair : (now : ℕ) (t u : Session ItemOut) (b c : Bool) → Apart t u → Apart (cond b (parked now t) t) (cond c (parked now u) u)
-parked_pair now t u true c a q x y = absurd (none_is q x)
-  where
-    none_is : (q : ℕ) → None ≡ Some q → ⊥
-    none_is q e = cc
-parked_pair now t u false true a q x y = absurd (none_is q y)
-  where
-    none_is : (q : ℕ) → None ≡ Some q → ⊥
-    none_is q e = cc
+parked_pair now t u true c a q x y = absurd (none-some q x)
+parked_pair now t u false true a q x y = absurd (none-some q y)
 parked_pair now t u false false a q x y = a q x y
 
 parked_with : (now m : ℕ) (t : Session ItemOut) (b : Bool) (l : List (Session ItemOut)) → AllByRecursion (Apart t) l → AllByRecursion (Apart (cond b (parked now t) t)) (with_session m (parked now) l)

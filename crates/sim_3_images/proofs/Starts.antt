@@ -11,7 +11,6 @@ use Rattle.cmd_network.specs.Starting.{accounts_at_start, password_of}
 use Rattle.base_io.specs.Names.{is_among}
 use Rattle.sim_3_images.specs.ItemStarts.{item_device}
 use Rattle.sim_3_images.specs.EncodingsOwed.{StartKeeps}
-use Rattle.srv_login.specs.Accounts.{is_normal_local}
 use Rattle.cmd_report.specs.Addresses.{domain}
 use Rattle.cmd_schedule.specs.Contents.{Owned, accounts_of, owned_in}
 use Rattle.cmd_schedule.specs.Grammar.{is_digit, is_lower, is_name, may_keep}
@@ -34,11 +33,9 @@ use Rattle.cmd_world.proofs.Declares.{are_accounts, are_names}
 use Rattle.cmd_world.proofs.Traces.{may_run_all}
 use Rattle.cmd_world.specs.Declaring.{AreNames}
 use Rattle.cmd_world.specs.Histories.{common_steps}
+use Rattle.base_lemmas.proofs.Bytes.{bytes_eq-self}
 
 -- ---- names
-
-normal_local : (name : List ℕ) → IsTrue (is_name name) → is_normal_local name ≡ true
-normal_local name is = rw (local_stays name is) ((bytes_eq-Decides name name).1 refl)
 
 normal_domain : is_normal_domain domain ≡ true
 normal_domain = rw domain_stays ((bytes_eq-Decides domain domain).1 refl)
@@ -55,7 +52,7 @@ name_short (c ∷ cs) h =
 
 accounts_keep : (names : List (List ℕ)) → AreNames names → AllByRecursion AccountKeeps (accounts_at_start names)
 accounts_keep [] are = tt
-accounts_keep (name ∷ names) are = (account_kept name domain (password_of name) (normal_local name are.0), accounts_keep names are.1)
+accounts_keep (name ∷ names) are = (account_kept name domain (password_of name) (let same = bytes_eq-self name in rw (local_stays name are.0) same), accounts_keep names are.1)
 
 keep_small : (version : Version) → IsTrue (may_keep version) → keep_of version < 2 ^ 64
 keep_small One may = omega arith

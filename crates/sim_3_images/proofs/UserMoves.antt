@@ -1,12 +1,13 @@
 -- What the user of a device does.
-use Rattle.std.proofs.Common.{◌≡◌, ◌≢◌, ℕ, ◌≤◌, ◌==◌, Bool, true, false, cond, List, [], ◌∷◌, ◌++◌, Option, Some, None, Result, Ok, Err, IsTrue, is_ok, nat_le, flat_map, length, refl, sym, ap, ap₂, subst, ◌∙◌, inl, inr, append-nil}
+use Rattle.std.proofs.Common.{◌≡◌, ◌≢◌, ℕ, ◌≤◌, ◌==◌, Bool, true, false, cond, List, [], ◌∷◌, Option, Some, None, Result, Ok, Err, IsTrue, is_ok, nat_le, flat_map, length, refl, sym, ap, ap₂, subst, ◌∙◌, inl, inr}
 use Rattle.std.proofs.lemmas.Bool.{cases_eq, eqb-true}
 use Rattle.std.specs.List.{AllByRecursion, slice_get, slice_set}
 use Rattle.std.proofs.lemmas.List.{length-map}
+use Rattle.std.proofs.lemmas.Option.{none-some, same_Some}
 use Rattle.std.specs.Option.{is_some, option_map}
 use Rattle.cl_core.specs.Feeds.{Fed}
 use Rattle.cl_core.specs.Values.{ClientValue}
-use Rattle.cl_core.specs.UserCalls.{catch_up_answer, catch_up_in, outbox_bound, catches_up, catches_up_in, forgets, say_answer, says, submission_of, submits}
+use Rattle.cl_core.specs.UserCalls.{catch_up_answer, catch_up_in, outbox_bound, catches_up, forgets, say_answer, says, submission_of}
 use Rattle.cl_core.specs.declared.faults.CatchUpStart.{CatchUpStart}
 use Rattle.cl_core.specs.declared.faults.CatchUpStart.TheVariants as start
 use Rattle.cl_core.specs.declared.faults.SayFault.{SayFault}
@@ -20,7 +21,6 @@ use Rattle.cl_handlers.specs.ClientSteps.{dropped, is_apart}
 use Rattle.cl_handlers.specs.declared.phase.Phase.TheVariants.{Apart}
 use Rattle.sm_outbox.specs.Sessions.{SessionView}
 use Rattle.sm_outbox.specs.Submissions.{said_of}
-use Rattle.sm_outbox.specs.declared.said.Said.{Said}
 use Rattle.srv_state.specs.State.{ServerState}
 use Rattle.cmd_network.specs.Devices as devices
 use Rattle.cmd_network.specs.Devices.{DeviceState, has_wire}
@@ -38,7 +38,7 @@ use Rattle.sim_3_images.specs.WorldEncodings.{Both, DeviceEncodes, IsBegun, IsMo
 use Rattle.sim_3_items.specs.ItemMoves as items
 use Rattle.sim_3_items.specs.ItemMoves.{fed_of}
 use Rattle.sim_3_items.specs.ItemPipes as pipes
-use Rattle.sim_3_items.specs.ItemPipes.{ItemPipe, ItemWire}
+use Rattle.sim_3_items.specs.ItemPipes.{ItemWire}
 use Rattle.sim_3_items.specs.ItemWorlds.{ItemDevice, ItemWorld, silent_client_step}
 use Rattle.cmd_report.specs.Addresses.{bare_address}
 use Rattle.cmd_schedule.specs.Grammar.{is_name, is_text}
@@ -49,6 +49,8 @@ use Rattle.cmd_network.specs.declared.wire.Wire.{Wire}
 use Rattle.cmd_world.specs.Moves.{CatchUp, Forget, Say, caught_up_by, forgot_by, said_by, spoke}
 use Rattle.cmd_world.specs.Worlds.{ByteWorld, number_at}
 use Rattle.sim_3_images.proofs.DevicesMoved.{put_again}
+use Rattle.sim_3_images.proofs.Keeping.{submits_phase, catches_phase_in}
+use Rattle.sim_3_images.proofs.PutSteps.{nothing_entered}
 use Rattle.xml_writer.specs.Items.{ItemOut, written_item}
 use Rattle.law_xml.specs.Puts.{phase_behind}
 
@@ -93,11 +95,8 @@ module _ (UpFits DownFits : ItemOut → Type 0) (ServerFits : ℕ → ServerStat
       → Both (After w v i d' position) (slice_get (changed_where here f w.wires) position) (slice_get (changed_where here g v.wires) position)
   wires_changed w v i d d' f g None position found encodes at_here at_other =
       both_weaker (WireAt UpFits DownFits w v position) (After w v i d' position)
-      (λ b p x. subst (λ r. WireEncodes UpFits DownFits (framer_at (number_at position) w.server.framers) r (writer_at (number_at position) v.server) b p) (sym (framer_stays w.devices i d d' position b.device found (at_other (none_is_not position)))) x)
+      (λ b p x. subst (λ r. WireEncodes UpFits DownFits (framer_at (number_at position) w.server.framers) r (writer_at (number_at position) v.server) b p) (sym (framer_stays w.devices i d d' position b.device found (at_other (none-some position)))) x)
       (slice_get w.wires position) (slice_get v.wires position) (encodes.wires position)
-    where
-      none_is_not : (q : ℕ) → None ≡ Some q → ⊥
-      none_is_not q e = cc
   wires_changed w v i d d' f g (Some h) position found encodes at_here at_other = elim (cases_eq position h) [
     | inl same ↦
         subst (λ x. Both (After w v i d' position) (slice_get (changed_at x f w.wires) position) (slice_get (changed_at x g v.wires) position)) same
@@ -108,13 +107,10 @@ module _ (UpFits DownFits : ItemOut → Type 0) (ServerFits : ℕ → ServerStat
         subst (λ o. Both (After w v i d' position) o (slice_get (changed_at h g v.wires) position)) (sym (get_changed_other f w.wires h position other))
         (subst (λ o. Both (After w v i d' position) (slice_get w.wires position) o) (sym (get_changed_other g v.wires h position other))
         (both_weaker (WireAt UpFits DownFits w v position) (After w v i d' position)
-        (λ b p x. subst (λ r. WireEncodes UpFits DownFits (framer_at (number_at position) w.server.framers) r (writer_at (number_at position) v.server) b p) (sym (framer_stays w.devices i d d' position b.device found (at_other (λ e. other (sym (some_is h position e)))))) x)
+        (λ b p x. subst (λ r. WireEncodes UpFits DownFits (framer_at (number_at position) w.server.framers) r (writer_at (number_at position) v.server) b p) (sym (framer_stays w.devices i d d' position b.device found (at_other (λ e. other (sym (same_Some h position e)))))) x)
         (slice_get w.wires position) (slice_get v.wires position) (encodes.wires position)))
   ]
     where
-      some_is : (x y : ℕ) → Some x ≡ Some y → x ≡ y
-      some_is x y e = cc
-
       both_here : Some h ≡ Some position → (ob : Option Wire) (op : Option ItemWire) → slice_get w.wires position ≡ ob → slice_get v.wires position ≡ op → Both (WireAt UpFits DownFits w v position) ob op → Both (After w v i d' position) (option_map f ob) (option_map g op)
       both_here e None None x y r = tt
       both_here e None (Some p) x y r = absurd r
@@ -156,13 +152,6 @@ module _ (UpFits DownFits : ItemOut → Type 0) (ServerFits : ℕ → ServerStat
       user_encodes w v i d (rendered_device d t) e (record e { client = t.client }) (put_up (flat_map written_item t.out.put)) (pipes.put_up t.out.put) found found_item (record { client = refl; here = h.here; framed = λ a. h.framed (sym (ap is_apart same) ∙ a); fits = fits.client }) h.here (λ x. entered_begun t.out.put x.up) encodes
       (said_at_here w v i d (rendered_device d t) t.out.put found (λ q. refl) fits.puts fits.no_footer) (λ q other. refl)
 
-  nothing_entered : (p : ItemPipe) → pipes.entered [] p ≡ p
-  nothing_entered p = by p.ended
-    where
-      by : (e : Bool) → cond e p (record p { items = p.items ++ [] }) ≡ p
-      by true = refl
-      by false = ap (λ l. record p { items = l }) (append-nil p.items)
-
   nothing_put : (p : ItemWire) → pipes.put_up [] p ≡ p
   nothing_put p = ap (λ u. record p { up = u }) (nothing_entered p.up)
 
@@ -190,10 +179,6 @@ module _ (UpFits DownFits : ItemOut → Type 0) (ServerFits : ℕ → ServerStat
       ap (λ (f : Fed (List ℕ) ℕ). f.turn)
       (sym (ap (λ a. calls.said_by in_bytes (written_fed fed) to text private (is_ok a)) (answer_rendered written_item c text ∙ ok)) ∙ calls_rendered bytes_rendered (calls.Say to text private ∷ []) fed
       ∙ ap (λ a. written_fed (calls.said_by in_items fed to text private (is_ok a))) ok)
-
-  submits_phase : (t : ClientStep ItemOut ItemOut) (o : Option (SessionView ItemOut)) (stanza : ItemOut) (said : Said) → (submits in_items t o stanza said).client.phase ≡ t.client.phase
-  submits_phase t None stanza said = refl
-  submits_phase t (Some s) stanza said = refl
 
   says_phase : (c : ClientView ItemOut) (to text : List ℕ) (private : Bool) → (says in_items (silent_client_step c) to text private).client.phase ≡ c.phase
   says_phase c to text private = submits_phase (silent_client_step c) c.session (in_items.say (submission_of c to text private)) (said_of c.epoch c.n to text private)
@@ -243,10 +228,6 @@ module _ (UpFits DownFits : ItemOut → Type 0) (ServerFits : ℕ → ServerStat
       let fed : Fed ItemOut ItemOut = fed_of c in
       ap (λ (f : Fed (List ℕ) ℕ). f.turn)
       (sym (ap (λ a. calls.caught_up_by in_bytes (written_fed fed) most (is_ok a)) (start_rendered written_item c ∙ ok)) ∙ calls_rendered bytes_rendered (calls.CatchUp most ∷ []) fed ∙ ap (λ a. written_fed (calls.caught_up_by in_items fed most (is_ok a))) ok)
-
-  catches_phase_in : (t : ClientStep ItemOut ItemOut) (o : Option (SessionView ItemOut)) (most : ℕ) → (catches_up_in in_items t o most).client.phase ≡ t.client.phase
-  catches_phase_in t None most = refl
-  catches_phase_in t (Some s) most = refl
 
   catch_up_refused_same : (line : ℕ) (f : CatchUpStart) (d : DeviceState) → ((devices.catch_up_refused line f d).client ≡ d.client) × ((devices.catch_up_refused line f d).here ≡ d.here)
   catch_up_refused_same line start.NotBound d = (refl, refl)

@@ -10,7 +10,6 @@ use Rattle.base_lemmas.proofs.Lists.{AllByRecursion-weaker}
 use Rattle.srv_state.specs.State.{Kept, ServerState, Step, Took, archive_at}
 use Rattle.srv_state.specs.Steps.{Act, Archive, Copy, Handle, Present, Send, Tell, act, acted, appended, archived_in}
 use Rattle.sim_3_items.specs.Labels.{Gives, Label, gives_all}
-use Rattle.sim_3_items.specs.Frames.{SameClient}
 use Rattle.sim_3_items.specs.Identities.{Identity, Login}
 use Rattle.sim_3_items.specs.Pipes.{PipesRepresent}
 use Rattle.sim_3_items.specs.Sent.{sent}
@@ -22,7 +21,7 @@ use Rattle.sim_2_links.proofs.Reached.{link_kept}
 use Rattle.sim_2_links.specs.Machine.{LinkMove, LinkReached, LinkReaches, nothing_yet}
 use Rattle.sim_2_links.specs.Views.{Row, Table, View}
 use Rattle.sm_live.specs.Sessions.{copies, handles, presents}
-use Rattle.sim_4_links_follow.proofs.Former.{keeps_both}
+use Rattle.sim_4_links_follow.proofs.Former.{same_clients}
 use Rattle.sim_4_links_follow.proofs.StanzasElsewhere.{send_stands}
 use Rattle.sim_4_links_follow.proofs.GivenParts.{IsFair, IsNotOf, fair_still, given_both, given_still, row_both, row_same, sends_elsewhere}
 use Rattle.sim_4_links_follow.proofs.MorePipes.{more_put_out, told_out}
@@ -161,14 +160,6 @@ module _ (who : Identity) (logins : ℕ → Login) where
 
     -- ---- one behind the other
 
-    pub same_both : (v u w : View ItemOut) → SameClient v u → SameClient u w → SameClient v w
-    same_both v u w first then_so = record {
-      here = then_so.here ∙ first.here;
-      own = then_so.own ∙ first.own;
-      epoch = then_so.epoch ∙ first.epoch;
-      conns = λ k. keeps_both (v.conns k) (u.conns k) (w.conns k) (first.conns k) (then_so.conns k);
-    }
-
     abbrev pub follows_both : (v : View ItemOut) (first last : Step ItemOut) (done more all : List (Label ItemOut)) → done ++ more ≡ all → (f : ServerFollows who logins first.server_state (sent first.outs wires) v done)
         → ServerFollows who logins last.server_state (sent last.outs wires) f.next more → ServerFollows who logins last.server_state (sent last.outs wires) v all
     follows_both v first last done more all same f g = record {
@@ -178,7 +169,7 @@ module _ (who : Identity) (logins : ℕ → Login) where
       does = does_both f.moves g.moves done more f.does g.does ∙ same;
       server = g.server;
       pipes = g.pipes;
-      client = same_both v f.next g.next f.client g.client;
+      client = same_clients v f.next g.next f.client g.client;
     }
 
     pub reached_more : (moves : List (LinkMove ItemOut)) (v next : View ItemOut) → LinkReached v → LinkReaches moves v next → LinkReached next

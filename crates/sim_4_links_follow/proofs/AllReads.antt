@@ -16,6 +16,11 @@ use Rattle.sim_4_links_follow.proofs.SessionReads.{bound_read, enabled_read, fai
 use Rattle.sim_4_links_follow.proofs.Working.{kept_here}
 use Rattle.sim_4_links_follow.specs.Reads.{IsOfCounts, IsOfEnd, IsOfLogin, IsOfSession}
 
+-- a count that is too high is no reason of the other two
+pub no_count : (TooHigh ≡ Conflict) ⊎ (TooHigh ≡ Constraint) → ⊥
+no_count (inl e) = cc e
+no_count (inr e) = cc e
+
 module _ (who : Identity) (logins : ℕ → Login) (d : ItemDevice) (wires : Table ItemWire) (v : View ItemOut) (k : ℕ) where
   pub expected : (word : DownWord ItemOut) (p : IsNextDown who logins d wires v k word) → IsExpectedDown v p.conn.client word
   expected word p = expected_down v k p.conn word p.rest (kept_here who logins d wires v k word p) p.here p.is p.first
@@ -42,10 +47,6 @@ module _ (who : Identity) (logins : ℕ → Login) (d : ItemDevice) (wires : Tab
   pub end_read : (word : DownWord ItemOut) (p : IsNextDown who logins d wires v k word) → IsOfEnd word → IsRead who logins d wires v k p.conn p.wire word
   end_read (Err Conflict) p is = error_read who logins d wires v k (Err Conflict) p (codes "conflict")
   end_read (Err Constraint) p is = error_read who logins d wires v k (Err Constraint) p (codes "resource-constraint")
-  end_read (Err TooHigh) p is = absurd (never (expected (Err TooHigh) p))
-    where
-      never : (TooHigh ≡ Conflict) ⊎ (TooHigh ≡ Constraint) → ⊥
-      never (inl e) = cc e
-      never (inr e) = cc e
+  end_read (Err TooHigh) p is = absurd (no_count (expected (Err TooHigh) p))
   end_read End p is = absurd (expected End p)
   end_read _ p is = absurd is

@@ -6,11 +6,9 @@ use Rattle.std.proofs.lemmas.List.Elements.{All-nil}
 use Rattle.std.proofs.lemmas.Option.{same_Some}
 use Rattle.std.specs.List.{filter}
 use Rattle.std.specs.Option.{option_map}
-use Rattle.std.specs.Result.{result_ok}
 use Rattle.srv_state.specs.State.{ServerState, Step, conn_at, full_address, without_conn}
 use Rattle.srv_state.specs.Steps.{Say, acted}
 use Rattle.srv_state.specs.Streams.{parting_where, standing_of}
-use Rattle.srv_state.specs.Words.{is_long}
 use Rattle.srv_state.specs.declared.connection.Phase.TheVariants as phase
 use Rattle.srv_state.specs.declared.connection.Standing.{Standing}
 use Rattle.srv_state.specs.declared.connection.Tries.TheVariants as tries
@@ -22,7 +20,6 @@ use Rattle.sim_3_items.specs.Identities.{Identity, Login, full_of}
 use Rattle.sim_3_items.specs.Servers.{IsRowRepresented, ServerRepresents, conn_shown, open_conn}
 use Rattle.sim_3_items.specs.WordItems.{up_item}
 use Rattle.xml_framer.specs.declared.items.Item.TheVariants as item
-use Rattle.sim_3_items.specs.ItemMoves.{step_of}
 use Rattle.sim_3_items.specs.ItemPipes.{ItemWire}
 use Rattle.sim_3_items.specs.ItemWorlds.{itself}
 use Rattle.sim_2_links.proofs.Entries.{Entry, New, Old, at_other, at_same, entry, other_number}
@@ -37,30 +34,29 @@ use Rattle.sim_2_links.specs.Wires.{send_down}
 use Rattle.sim_2_links.specs.Views as links
 use Rattle.sim_2_links.specs.Words.{AtSession, Bind, Bound, Conflict, Ready}
 use Rattle.sm_live.specs.Rule.{IsRule}
-use Rattle.sm_live.specs.Sessions.{Session, ended_of, fresh, is_at, is_named, less, session_at, session_named, session_of, told}
+use Rattle.sm_live.specs.Sessions.{Session, ended_of, fresh, is_at, is_named, less, session_at, session_named, session_of}
 use Rattle.mam_pages.proofs.Tallying.{filter_kept}
 use Rattle.im_replies.specs.Requests.{bound_item}
 use Rattle.im_replies.specs.Streams.{error_item}
 use Rattle.im_replies.specs.declared.conditions.StreamCondition.TheVariants as stream
 use Rattle.sim_4_links_follow.proofs.Binding.{bound_represents, bound_server_state, new_row}
-use Rattle.sim_4_links_follow.proofs.BindReads.{address_is, bind_elem, bind_word, resource_asked, resource_chosen}
+use Rattle.sim_4_links_follow.proofs.BindReads.{address_is}
 use Rattle.sim_4_links_follow.proofs.Former.{keeps_both, shut_then_taken}
 use Rattle.sim_4_links_follow.proofs.ServerStatesLeft.{without_apart, without_here, without_sorted}
-use Rattle.sim_4_links_follow.proofs.HandMoves.{kept_here, open_here, row_here}
+use Rattle.sim_4_links_follow.proofs.HandMoves.{kept_here, open_here}
 use Rattle.sim_4_links_follow.proofs.Leavings.{unseated}
 use Rattle.sim_3_images.proofs.RuleKept.{named_gone, none_left, of_left, rule_left}
 use Rattle.sim_4_links_follow.proofs.Sessions.{taken, taken_client, taken_pipes}
 use Rattle.sim_4_links_follow.proofs.Shuts.{shuts_at}
 use Rattle.sim_4_links_follow.proofs.Standing.{stands_at}
 use Rattle.sim_4_links_follow.specs.Taking.{IsFirst, IsTaken, StepFollows, on_item}
-use Rattle.srv_handlers.specs.Bindings.{binding_as, chosen, former_of}
-use Rattle.im_stanza.specs.Readings.{stanza_of}
-use Rattle.srv_core.specs.Ready.{at_ready_or_bound}
+use Rattle.srv_handlers.specs.Bindings.{former_of}
 use Rattle.sim_4_links_follow.proofs.Emitted.{puts_at}
 use Rattle.sim_4_links_follow.proofs.Flows.{halted, taken_flowing}
 use Rattle.sim_4_links_follow.proofs.MoreMoves.{does_both, then_reaches}
 use Rattle.sim_4_links_follow.proofs.Placed.{keeps_at}
 use Rattle.sim_4_links_follow.proofs.Servings.{IsLive, Known, known_altered, known_same, live_of}
+use Rattle.sim_4_links_follow.proofs.Binds.{bind_step}
 use Rattle.xml_writer.specs.Items.{Closing, ItemOut}
 
 no_row_named : (who : Identity) (h : ServerState ItemOut) (o : Option (Session ItemOut)) → IsRowRepresented None o → o ≡ None
@@ -68,7 +64,7 @@ no_row_named who h None shown = refl
 no_row_named who h (Some s) shown = absurd shown
 
 module _ (who : Identity) (logins : ℕ → Login) (h : ServerState ItemOut) (wires : Table ItemWire) (v : View ItemOut) (k : ℕ) (p : IsFirst who logins h wires v k Bind) (fits : h.next + 1 < 2 ^ 64) where
-  kept : LinkKept v
+  abbrev kept : LinkKept v
   kept = kept_here who logins h wires v k Bind p
 
   ready : p.conn.phase ≡ Ready
@@ -77,20 +73,14 @@ module _ (who : Identity) (logins : ℕ → Login) (h : ServerState ItemOut) (wi
   off : session_on p.conn ≡ None
   off = ap (λ q. on_phase q p.conn.ending p.conn.gone) ready
 
-  none_here : session_at k h.sessions ≡ None
+  abbrev none_here : session_at k h.sessions ≡ None
   none_here = unseated who logins h v kept p.server k p.conn p.is off
 
   abbrev standing : Standing
   standing = standing_of (record { entropy = (logins k).yours; phase = phase.Ready who.account; tries = tries.Three })
 
-  -- the server binds
-  bind_step : on_item k (up_item who (logins k) Bind) h ≡ acted itself (binding_as itself k who.account (codes "bind") (Some who.resource) h) (step_of h)
-  bind_step =
-      row_here who logins h wires v k Bind p Ready (item.Element (bind_elem who.resource)) ready
-      ∙ ap (λ w. acted itself (at_ready_or_bound itself k who.account w (option_map told (session_at k h.sessions)) standing h) (step_of h)) (bind_word who.resource)
-      ∙ ap (λ o. acted itself (at_ready_or_bound itself k who.account (word.Stanza (is_long (bind_elem who.resource)) (stanza_of (bind_elem who.resource))) (option_map told o) standing h) (step_of h)) none_here
-      ∙ ap (λ r. acted itself (binding_as itself k who.account (codes "bind") (result_ok (chosen h.next r)) h) (step_of h)) (resource_asked who.resource)
-      ∙ ap (λ r. acted itself (binding_as itself k who.account (codes "bind") (result_ok r) h) (step_of h)) (resource_chosen h.next who.resource p.normal.chosen p.normal.resource)
+  abbrev IsTakenSo : Type 0
+  IsTakenSo = IsTaken who logins h wires v k p.wire Bind
 
   known_bound : (ss : Table (links.Session ItemOut)) → Known ss v → (q : ℕ) (u : links.Session ItemOut) → with_at h.next unread ss q ≡ Some u → (q ≡ h.next) ⊎ ((old : links.Session ItemOut) × (v.sessions q ≡ Some old))
   known_bound ss known q u is = go (entry h.next unread ss q u is)
@@ -156,7 +146,7 @@ module _ (who : Identity) (logins : ℕ → Login) (h : ServerState ItemOut) (wi
       let next : View ItemOut = last h.sessions rule was none_here name in
       let done : ServerState ItemOut = after h.sessions rule was none_here name in
       let step : on_item k (up_item who (logins k) Bind) h ≡ record { server_state = done; outs = puts_at k items } =
-      bind_step ∙ ap bound_so name ∙ ap (λ a. record { server_state = done; outs = puts_at k (bound_item (codes "bind") a ∷ []) }) (address_is who h p.server.served) in
+      bind_step who logins h wires v k p ∙ ap bound_so name ∙ ap (λ a. record { server_state = done; outs = puts_at k (bound_item (codes "bind") a ∷ []) }) (address_is who h p.server.served) in
       subst (λ t. StepFollows who logins wires v k p.wire t []) (sym step) (record {
         moves = TakesBind k h.next ∷ [];
         next = next;
@@ -184,7 +174,7 @@ module _ (who : Identity) (logins : ℕ → Login) (h : ServerState ItemOut) (wi
       let done : ServerState ItemOut = after left rule was seat name in
       let off_it : s.shown.conn ≡ None = live.row.conn ∙ parked in
       let step : on_item k (up_item who (logins k) Bind) h ≡ record { server_state = done; outs = puts_at k items } =
-      bind_step ∙ ap bound_so live.named
+      bind_step who logins h wires v k p ∙ ap bound_so live.named
       ∙ ap (λ o. acted itself (parting_where itself o (error_item stream.Conflict) (Say k (bound_item (codes "bind") (full_address who.account who.resource h)) ∷ [])) (record { server_state = done; outs = [] })) off_it
       ∙ ap (λ a. record { server_state = done; outs = puts_at k (bound_item (codes "bind") a ∷ []) }) (address_is who h p.server.served) in
       subst (λ t. StepFollows who logins wires v k p.wire t []) (sym step) (record {
@@ -217,7 +207,7 @@ module _ (who : Identity) (logins : ℕ → Login) (h : ServerState ItemOut) (wi
         let none = off in
         let no_way : ⊥ = cc in no_way
 
-    live : IsLive who h row
+    abbrev live : IsLive who h row
     live = live_of who logins h v row p.server is_row
 
     abbrev numbered_so : Session ItemOut → Bool
@@ -272,7 +262,7 @@ module _ (who : Identity) (logins : ℕ → Login) (h : ServerState ItemOut) (wi
 
     step : on_item k (up_item who (logins k) Bind) h ≡ record { server_state = done; outs = shuts_at f words ++ puts_at k items }
     step =
-        bind_step ∙ ap bound_so live.named
+        bind_step who logins h wires v k p ∙ ap bound_so live.named
         ∙ ap (λ o. acted itself (parting_where itself o (error_item stream.Conflict) (Say k (bound_item (codes "bind") (full_address who.account who.resource h)) ∷ []))
         (record { server_state = record h { sessions = fewer ++ fresh h.next who.account who.resource k ∷ []; next = h.next + 1 }; outs = [] })) (live.row.conn ∙ on)
         ∙ ap (λ ss. record { server_state = record h { sessions = ss; next = h.next + 1; conns = (without_conn f h).conns }; outs = shuts_at f words ++ puts_at k (bound_item (codes "bind") (full_address who.account who.resource h) ∷ []) })
@@ -302,7 +292,7 @@ module _ (who : Identity) (logins : ℕ → Login) (h : ServerState ItemOut) (wi
       abbrev end : View ItemOut
       end = record v { conns = last_conns; row = Some (new_row h.next k); sessions = with_at h.next unread ss; free = h.next + 1 }
 
-      bound_after : IsTaken who logins h wires v k p.wire Bind
+      bound_after : IsTakenSo
       bound_after =
           subst (λ t. StepFollows who logins wires v k p.wire t []) (sym step) (record {
             moves = moves ++ TakesBind k h.next ∷ [];
@@ -335,15 +325,12 @@ module _ (who : Identity) (logins : ℕ → Login) (h : ServerState ItemOut) (wi
         bound_after v.sessions (known_same v) new_number (Shuts f (Errs Conflict) ∷ []) refl
         (record v { conns = first_conns; row = None }, record { conn = former; is = placed.1; row = row; is_row = is_row; on = on; uncounted = uncounted; reason = tt; gives = refl }, refl)
 
-    bind_on : IsTaken who logins h wires v k p.wire Bind
-    bind_on = elim (cases_Bool row.counted) [ inl counted ↦ bind_detached counted | inr uncounted ↦ bind_shut uncounted ]
-
   pub bind_follows : IsTaken who logins h wires v k p.wire Bind
   bind_follows = go v.row refl
     where
       placed_so : (row : Row ItemOut) → v.row ≡ Some row → (o : Option ℕ) → row.on ≡ o → IsTaken who logins h wires v k p.wire Bind
       placed_so row is None parked = bind_over row is parked
-      placed_so row is (Some f) on = bind_on row is f on
+      placed_so row is (Some f) on = elim (cases_Bool row.counted) [ inl counted ↦ bind_detached row is f on counted | inr uncounted ↦ bind_shut row is f on uncounted ]
 
       go : (o : Option (Row ItemOut)) → v.row ≡ o → IsTaken who logins h wires v k p.wire Bind
       go None is = bind_new is

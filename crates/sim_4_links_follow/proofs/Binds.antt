@@ -43,20 +43,20 @@ use Rattle.srv_core.specs.Ready.{at_ready_or_bound}
 use Rattle.xml_writer.specs.Items.{ItemOut}
 
 module _ (who : Identity) (logins : ℕ → Login) (h : ServerState ItemOut) (wires : Table ItemWire) (v : View ItemOut) (k : ℕ) (p : IsFirst who logins h wires v k Bind) where
-  kept : LinkKept v
+  abbrev kept : LinkKept v
   kept = kept_here who logins h wires v k Bind p
 
   ready : p.conn.phase ≡ Ready
   ready = expected_up v k p.conn Bind p.rest kept p.is p.first
 
-  none_here : session_at k h.sessions ≡ None
+  abbrev none_here : session_at k h.sessions ≡ None
   none_here = unseated who logins h v kept p.server k p.conn p.is (ap (λ q. on_phase q p.conn.ending p.conn.gone) ready)
 
   abbrev standing : Standing
   standing = standing_of (record { entropy = (logins k).yours; phase = phase.Ready who.account; tries = tries.Three })
 
   -- the server binds
-  bind_step : on_item k (up_item who (logins k) Bind) h ≡ acted itself (binding_as itself k who.account (codes "bind") (Some who.resource) h) (step_of h)
+  pub bind_step : on_item k (up_item who (logins k) Bind) h ≡ acted itself (binding_as itself k who.account (codes "bind") (Some who.resource) h) (step_of h)
   bind_step =
       row_here who logins h wires v k Bind p Ready (item.Element (bind_elem who.resource)) ready
       ∙ ap (λ w. acted itself (at_ready_or_bound itself k who.account w (option_map told (session_at k h.sessions)) standing h) (step_of h)) (bind_word who.resource)
@@ -65,10 +65,10 @@ module _ (who : Identity) (logins : ℕ → Login) (h : ServerState ItemOut) (wi
       ∙ ap (λ r. acted itself (binding_as itself k who.account (codes "bind") (result_ok r) h) (step_of h)) (resource_chosen h.next who.resource p.normal.chosen p.normal.resource)
 
   module _ (whom : Identity) (others : ℕ → Login) (u : View ItemOut) (fits : h.next + 1 < 2 ^ 64) (beside : IsOtherDevice who whom others h wires u) where
-    linked : LinkKept u
+    abbrev linked : LinkKept u
     linked = kept_beside who whom logins others h wires v u p.server p.pipes beside
 
-    off : u.conns k ≡ None
+    abbrev off : u.conns k ≡ None
     off = conn_not who whom logins others h wires v u p.server p.pipes beside k p.conn p.is
 
     -- where this is the older session with the device's name

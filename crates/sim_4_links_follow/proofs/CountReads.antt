@@ -41,7 +41,7 @@ module _ (who : Identity) (logins : ℕ → Login) (d : ItemDevice) (wires : Tab
   -- ---- a request
 
   module _ (p : IsNextDown who logins d wires v k (Down Req)) (o : Own ItemOut) (own : v.own ≡ Some o) (is : p.conn.client ≡ InOnline o.number) where
-    asked : (s : SessionView ItemOut) × (d.client.session ≡ Some s) × IsOwn o s
+    abbrev asked : (s : SessionView ItemOut) × (d.client.session ≡ Some s) × IsOwn o s
     asked = own_session who logins d v o p.shown.client own
 
     abbrev request : Elem
@@ -66,7 +66,7 @@ module _ (who : Identity) (logins : ℕ → Login) (d : ItemDevice) (wires : Tab
   -- ---- a count
 
   module _ (h : ℕ) (p : IsNextDown who logins d wires v k (Down (Ack h))) (o : Own ItemOut) (own : v.own ≡ Some o) (is : p.conn.client ≡ InOnline o.number) where
-    counted : (s : SessionView ItemOut) × (d.client.session ≡ Some s) × IsOwn o s
+    abbrev counted : (s : SessionView ItemOut) × (d.client.session ≡ Some s) × IsOwn o s
     counted = own_session who logins d v o p.shown.client own
 
     abbrev told : AckWord

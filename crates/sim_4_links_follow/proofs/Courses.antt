@@ -10,7 +10,6 @@ use Rattle.sim_4_links_follow.proofs.Working.{client_leaves, client_works, same_
 use Rattle.cl_handlers.specs.Clients.{ClientView}
 use Rattle.cl_handlers.specs.Speech.{Note, Put}
 use Rattle.cl_handlers.specs.ClientSteps.{is_apart, is_online}
-use Rattle.cl_handlers.specs.declared.phase.Phase.{Phase}
 use Rattle.cl_handlers.specs.declared.phase.Phase.TheVariants as phase
 use Rattle.sim_4_links_follow.proofs.Outcomes.{IsGone, IsQueued, IsQuiet, IsSaid, T, said_put}
 use Rattle.sim_3_items.specs.Clients.{ClientFollows, ClientRepresents, IsOwn, IsOwnRepresented, client_phase}
@@ -44,6 +43,7 @@ use Rattle.sim_4_links_follow.proofs.Placed.{shown_at}
 use Rattle.sim_4_links_follow.proofs.PromptMoves.{prompt_both}
 use Rattle.sim_4_links_follow.proofs.Servings.{known_altered, known_same}
 use Rattle.xml_writer.specs.Items.{ItemOut}
+use Rattle.law_client.proofs.StepsOrdered.{apart_offline}
 
 -- ---- notes, one behind the other
 
@@ -57,15 +57,6 @@ pub server_stays : (v : View ItemOut) → SameServer v v
 server_stays v = record { row = refl; free = refl; known = known_same v; conns = λ k. keeps_server (v.conns k) }
 
 -- ---- whether the client is online
-
-apart_offline : (p : Phase) → is_apart p ≡ true → is_online p ≡ false
-apart_offline phase.Apart e = refl
-apart_offline (phase.Login state) e = refl
-apart_offline phase.Features2 e = refl
-apart_offline phase.Resuming e = refl
-apart_offline phase.Binding e = refl
-apart_offline phase.Enabling e = refl
-apart_offline phase.Online e = absurd (let no_way : ⊥ = cc in no_way)
 
 same_online : (who : Identity) (x : Login) (c : Client) → is_online (client_phase who x c) ≡ is_client_online c
 same_online who x InHeader1 = refl
@@ -109,7 +100,10 @@ online_own v k p c o kept here is client own =
 
 -- ---- the session
 
-pub own_shown : (o : Option (Own ItemOut)) (p : Option (SessionView ItemOut)) (s : SessionView ItemOut) → p ≡ Some s → IsOwnRepresented o p → (w : Own ItemOut) × (o ≡ Some w) × IsOwn w s
+abbrev pub Owns : Option (Own ItemOut) → SessionView ItemOut → Type 0
+Owns o s = (w : Own ItemOut) × (o ≡ Some w) × IsOwn w s
+
+pub own_shown : (o : Option (Own ItemOut)) (p : Option (SessionView ItemOut)) (s : SessionView ItemOut) → p ≡ Some s → IsOwnRepresented o p → Owns o s
 own_shown None None s is shown = absurd (let no_way : ⊥ = cc in no_way)
 own_shown None (Some q) s is shown = absurd shown
 own_shown (Some w) None s is shown = absurd shown
@@ -243,7 +237,7 @@ module _ (who : Identity) (logins : ℕ → Login) (d : ItemDevice) (v : View It
           server = same_servers v c.next next c.server (record { row = refl; free = refl; known = known_altered _ c.next; conns = λ k. keeps_server (c.next.conns k) });
         }
       where
-        o : (w : Own ItemOut) × (c.next.own ≡ Some w) × IsOwn w s
+        o : Owns c.next.own s
         o = own_shown c.next.own t.client.session s stands c.client.own
 
         next : View ItemOut
@@ -280,7 +274,7 @@ module _ (who : Identity) (logins : ℕ → Login) (d : ItemDevice) (v : View It
           following = λ more asked rest. subst ArePrompt (sym (append_assoc c.moves (Puts k z ∷ []) more)) (prompt_both c.moves (Puts k z ∷ more) c.prompt (asked, rest));
         }
       where
-        o : (w : Own ItemOut) × (c.next.own ≡ Some w) × IsOwn w s
+        o : Owns c.next.own s
         o = own_shown c.next.own t.client.session s stands c.client.own
 
         way : Enters k table
@@ -316,17 +310,14 @@ module _ (who : Identity) (logins : ℕ → Login) (d : ItemDevice) (v : View It
               (client_works who logins (record d { client = t.client }) c.next c.client next k after t.client c.here refl (at_same k after c.next.conns) refl c.client.epoch c.client.own (c.client.phase k c.conn c.here c.is));
           pipes =
               subst (λ items. PipesRepresent who logins (table items) next) (sym put)
-              (shown_at who logins (table t.out.put) (table (t.out.put ++ request_item ∷ [])) c.next next k after (put_up (request_item ∷ []) w.0) c.pipes (λ j. refl) (way.here t.out.put (request_item ∷ []) w.0 w.1)
-              (way.apart t.out.put (request_item ∷ []))
+              (shown_at who logins (table t.out.put) (table (t.out.put ++ request_item ∷ [])) c.next next k after (put_up (request_item ∷ []) w.0) c.pipes (λ j. refl) ((enters_at t.client c.next c.client k c.here).here t.out.put (request_item ∷ []) w.0 w.1)
+              ((enters_at t.client c.next c.client k c.here).apart t.out.put (request_item ∷ []))
               (wire_said who (logins k) k c.conn w.0 w.2 (Up Req ∷ []) (All-nil IsForServer)));
           server = same_servers v c.next next c.server (same_server c.next next k c.conn after c.is (λ j. refl) refl refl (known_same c.next) refl refl refl);
         }
       where
-        o : (w : Own ItemOut) × (c.next.own ≡ Some w) × IsOwn w s
+        o : Owns c.next.own s
         o = own_shown c.next.own t.client.session s stands c.client.own
-
-        way : Enters k table
-        way = enters_at t.client c.next c.client k c.here
 
         w : (w : ItemWire) × (table t.out.put k ≡ Some w) × IsWire who (logins k) k c.conn w
         w = wire_of who (logins k) k (c.next.conns k) (table t.out.put k) c.conn c.is (c.pipes.each k)

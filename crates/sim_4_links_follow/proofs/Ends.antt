@@ -20,10 +20,10 @@ use Rattle.sim_3_images.proofs.RuleKept.{numbered_here}
 use Rattle.xml_writer.specs.Items.{ItemOut}
 
 module _ (who whom : Identity) (logins others : ℕ → Login) (h : ServerState ItemOut) (wires : Table ItemWire) (v u : View ItemOut) (k : ℕ) (p : IsOver who logins h wires v k) (beside : IsOtherDevice who whom others h wires u) where
-  linked : LinkKept u
+  abbrev linked : LinkKept u
   linked = kept_beside who whom logins others h wires v u p.server p.pipes beside
 
-  off : u.conns k ≡ None
+  abbrev off : u.conns k ≡ None
   off = conn_not who whom logins others h wires v u p.server p.pipes beside k p.conn p.is
 
   abbrev left : ServerState ItemOut

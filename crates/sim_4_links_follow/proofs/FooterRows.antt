@@ -27,7 +27,7 @@ use Rattle.sim_4_links_follow.proofs.Servings.{Known, known_altered, known_same,
 use Rattle.xml_writer.specs.Items.{Closing, ItemOut}
 
 module _ (who : Identity) (logins : ℕ → Login) (h : ServerState ItemOut) (wires : Table ItemWire) (v : View ItemOut) (k : ℕ) (p : IsFirst who logins h wires v k Foot) where
-  pub kept : LinkKept v
+  abbrev pub kept : LinkKept v
   kept = kept_here who logins h wires v k Foot p
 
   abbrev pub stays : Session ItemOut → Bool
@@ -93,12 +93,9 @@ module _ (who : Identity) (logins : ℕ → Login) (h : ServerState ItemOut) (wi
           client = shut_client who logins wires v next k p.conn p.wire Closes p.is refl refl refl refl;
         })
 
-    foot_on : IsTaken who logins h wires v k p.wire Foot
-    foot_on = elim (cases_Bool row.counted) [ inl counted ↦ foot_detached counted | inr uncounted ↦ foot_ended uncounted ]
-
   pub foot_follows : IsTaken who logins h wires v k p.wire Foot
   foot_follows = go (session_on p.conn) refl
     where
       go : (o : Option ℕ) → session_on p.conn ≡ o → IsTaken who logins h wires v k p.wire Foot
       go None off = foot_taken off
-      go (Some n) seated = let a = (kept.conns k p.conn p.is).attached n seated in foot_on a.0 a.1 a.3
+      go (Some n) seated = let a = (kept.conns k p.conn p.is).attached n seated in elim (cases_Bool a.0.counted) [ inl counted ↦ foot_detached a.0 a.1 a.3 counted | inr uncounted ↦ foot_ended a.0 a.1 a.3 uncounted ]

@@ -1,11 +1,11 @@
 -- Two connections of a device: the one is shut, and then a word is taken from the other.
-use Rattle.std.proofs.Common.{◌≡◌, ◌≢◌, ℕ, List, [], ◌∷◌, ◌++◌, Option, Some, None, map, refl, sym, ap, subst, ◌∙◌, inl, inr}
+use Rattle.std.proofs.Common.{◌≡◌, ◌≢◌, ℕ, List, ◌∷◌, ◌++◌, Option, Some, None, map, refl, sym, ap, subst, ◌∙◌, inl, inr}
 use Rattle.std.proofs.lemmas.Bool.{cases_eq}
 use Rattle.std.specs.List.{All}
 use Rattle.std.specs.Option.{option_map}
 use Rattle.srv_state.specs.State.{Out}
 use Rattle.sim_3_items.specs.Counted.{IsForClient}
-use Rattle.sim_3_items.specs.Frames.{KeepsClient}
+use Rattle.sim_3_items.specs.Frames.{KeepsClient, SameClient}
 use Rattle.sim_3_items.specs.Identities.{Identity, Login}
 use Rattle.sim_3_items.specs.Pipes.{IsShown, IsWire, PipesRepresent}
 use Rattle.sim_3_items.specs.Sent.{sent, sent_under}
@@ -96,3 +96,11 @@ module _ (who : Identity) (logins : ℕ → Login) (wires : Table ItemWire) (v :
     where
       mine_w : IsWire who (logins k) k c w
       mine_w = subst (IsShown who (logins k) k (Some c)) there (subst (λ o. IsShown who (logins k) k o (wires k)) is (pipes.each k))
+
+pub same_clients : (u v w : View ItemOut) → SameClient u v → SameClient v w → SameClient u w
+same_clients u v w first then_so = record {
+  here = then_so.here ∙ first.here;
+  own = then_so.own ∙ first.own;
+  epoch = then_so.epoch ∙ first.epoch;
+  conns = λ k. keeps_both (u.conns k) (v.conns k) (w.conns k) (first.conns k) (then_so.conns k);
+}

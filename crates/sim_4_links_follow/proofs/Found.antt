@@ -33,6 +33,13 @@ module _ {A : Type 0} where
   pub of_changed : (m n : ℕ) (f : Session A → Session A) (ss : List (Session A)) → Keeps f → session_of m (with_session n f ss) ≡ option_map (changes_one n f) (session_of m ss)
   of_changed m n f ss kept = found_mapped (is_numbered m) (changes_one n f) ss (λ s. ap (λ k. k == m) ((keeps_one n f kept).number s))
 
+  pub named_one : (account : ℕ) (resource : List ℕ) (n : ℕ) (f : Session A → Session A) (s : Session A) → Keeps f → is_named account resource (changes_one n f s) ≡ is_named account resource s
+  named_one account resource n f s kept = rule.named_one account resource n f s (any f kept)
+
+  pub named_stays : (account : ℕ) (resource : List ℕ) (n : ℕ) (f : Session A → Session A) (ss : List (Session A)) → Keeps f
+      → ((s : Session A) → session_named account resource ss ≡ Some s → changes_one n f s ≡ s) → session_named account resource (with_session n f ss) ≡ session_named account resource ss
+  named_stays account resource n f ss kept = rule.named_stays account resource n f ss (any f kept)
+
   pub named_changed : (account : ℕ) (resource : List ℕ) (n : ℕ) (f : Session A → Session A) (ss : List (Session A)) → Keeps f
       → session_named account resource (with_session n f ss) ≡ option_map (changes_one n f) (session_named account resource ss)
   named_changed account resource n f ss kept = rule.named_changed account resource n f ss (any f kept)

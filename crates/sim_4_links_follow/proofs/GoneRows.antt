@@ -119,12 +119,9 @@ module _ (who : Identity) (logins : ℕ → Login) (h : ServerState ItemOut) (wi
         parked_represents
         (Parks k) refl (record v { conns = with_at k told v.conns; row = Some (record row { on = None }) }, record { conn = c; is = is; ended = stopped; empty = empty; row = row; is_row = is_row; on = on; counted = counted; gives = refl }, refl)
 
-    gone_on : ServerFollows who logins (gone_at k h) (with_at k (up_end_reported w) wires) v []
-    gone_on = elim (cases_Bool row.counted) [ inl counted ↦ gone_parked counted | inr uncounted ↦ gone_early uncounted ]
-
   pub gone_follows : ServerFollows who logins (gone_at k h) (with_at k (up_end_reported w) wires) v []
   gone_follows = go (session_on c) refl
     where
       go : (o : Option ℕ) → session_on c ≡ o → ServerFollows who logins (gone_at k h) (with_at k (up_end_reported w) wires) v []
       go None off = gone_bare off
-      go (Some n) seated = let a = (kept.conns k c is).attached n seated in gone_on a.0 a.1 a.3
+      go (Some n) seated = let a = (kept.conns k c is).attached n seated in elim (cases_Bool a.0.counted) [ inl counted ↦ gone_parked a.0 a.1 a.3 counted | inr uncounted ↦ gone_early a.0 a.1 a.3 uncounted ]

@@ -1,5 +1,5 @@
 -- Time passes: a session that was parked for too long ends (XEP-0198, section 5).
-use Rattle.std.proofs.Common.{◌≡◌, ℕ, Bool, true, false, not, ◌&&◌, [], ◌∷◌, Option, Some, None, ◌-◌, nat_le, refl, sym, subst, ◌∙◌, inl, inr}
+use Rattle.std.proofs.Common.{◌≡◌, ℕ, Bool, true, false, not, [], ◌∷◌, Option, Some, None, ◌-◌, nat_le, refl, sym, subst, ◌∙◌, inl, inr}
 use Rattle.std.proofs.lemmas.Bool.{cases_Bool}
 use Rattle.std.specs.List.{filter}
 use Rattle.std.specs.Prelude.{is_none, max}
@@ -27,6 +27,11 @@ is_off (Some k) is = absurd (let no_way : ⊥ = cc in no_way)
 not_false : (b : Bool) → not b ≡ false → b ≡ true
 not_false true is = refl
 not_false false is = absurd (let no_way : ⊥ = cc in no_way)
+
+-- no session where there is no row
+pub no_session : (o : Option (Session ItemOut)) → IsRowRepresented None o → o ≡ None
+no_session None shown = refl
+no_session (Some s) shown = absurd shown
 
 module _ (who : Identity) (logins : ℕ → Login) (h : ServerState ItemOut) (wires : Table ItemWire) (v : View ItemOut) (now : ℕ) (represents : ServerRepresents who logins h v) (pipes : PipesRepresent who logins wires v) where
   abbrev stays : Session ItemOut → Bool
@@ -56,10 +61,6 @@ module _ (who : Identity) (logins : ℕ → Login) (h : ServerState ItemOut) (wi
     client = record { here = refl; own = refl; epoch = refl; conns = λ k. keeps_all (v.conns k) };
   }
 
-  no_session : (o : Option (Session ItemOut)) → IsRowRepresented None o → o ≡ None
-  no_session None shown = refl
-  no_session (Some s) shown = absurd shown
-
   without_row : v.row ≡ None → ServerFollows who logins (at_moment now h) wires v []
   without_row none =
       let nobody = no_session (session_named who.account who.resource h.sessions) (subst (λ o. IsRowRepresented o (session_named who.account who.resource h.sessions)) none represents.row) in
@@ -67,7 +68,7 @@ module _ (who : Identity) (logins : ℕ → Login) (h : ServerState ItemOut) (wi
       stays_so (subst (λ o. IsRowRepresented o (session_named who.account who.resource (filter stays h.sessions))) (sym none) (subst (IsRowRepresented None) (sym still) tt))
 
   module _ (row : Row ItemOut) (is : v.row ≡ Some row) where
-    live : IsLive who h row
+    abbrev live : IsLive who h row
     live = live_of who logins h v row represents is
 
     lives_on : stays live.session ≡ true → ServerFollows who logins (at_moment now h) wires v []
@@ -90,12 +91,9 @@ module _ (who : Identity) (logins : ℕ → Login) (h : ServerState ItemOut) (wi
           client = record { here = refl; own = refl; epoch = refl; conns = λ k. keeps_all (v.conns k) };
         }
 
-    with_row : ServerFollows who logins (at_moment now h) wires v []
-    with_row = elim (cases_Bool (stays live.session)) [ inl left ↦ lives_on left | inr gone ↦ expires gone ]
-
   pub moment_follows : ServerFollows who logins (at_moment now h) wires v []
   moment_follows = go v.row refl
     where
       go : (o : Option (Row ItemOut)) → v.row ≡ o → ServerFollows who logins (at_moment now h) wires v []
       go None none = without_row none
-      go (Some row) is = with_row row is
+      go (Some row) is = elim (cases_Bool (stays (live row is).session)) [ inl left ↦ lives_on row is left | inr gone ↦ expires row is gone ]

@@ -1,5 +1,5 @@
 -- The pipes of a device as the server puts out more: for it, or for others.
-use Rattle.std.proofs.Common.{◌≡◌, ◌≢◌, ℕ, List, [], ◌∷◌, ◌++◌, Option, Some, None, map, refl, sym, ap, subst, ◌∙◌, inl, inr}
+use Rattle.std.proofs.Common.{◌≡◌, ℕ, List, [], ◌∷◌, ◌++◌, Option, Some, None, map, refl, sym, ap, subst, ◌∙◌, inl, inr}
 use Rattle.std.proofs.lemmas.Bool.{cases_eq}
 use Rattle.std.specs.List.{All}
 use Rattle.std.specs.Option.{option_map}
@@ -20,7 +20,7 @@ use Rattle.sim_4_links_follow.proofs.Former.{has_wire, pipes_as}
 use Rattle.sim_4_links_follow.proofs.ServersOthers.{sent_device}
 use Rattle.sim_4_links_follow.proofs.Shuts.{shuts_are_for, shuts_at, shuts_here}
 use Rattle.sim_4_links_follow.proofs.Emitted.{AreFor, puts_are_for, puts_at, puts_here}
-use Rattle.sim_4_links_follow.proofs.Placed.{shown_as, shown_at}
+use Rattle.sim_4_links_follow.proofs.Placed.{shown_as, shown_at, left_apart}
 use Rattle.sim_4_links_follow.proofs.Taken.{wire_put, wire_shut}
 use Rattle.xml_writer.specs.Items.{ItemOut}
 
@@ -43,10 +43,6 @@ module _ (who : Identity) (logins : ℕ → Login) (wires : Table ItemWire) (v :
       same j None = refl
       same j (Some w) = refl
 
-  left_so : (k : ℕ) (outs : List (Out ItemOut)) → AreFor k outs → (j : ℕ) → k ≢ j → (o : Option ItemWire) → option_map (sent_under j outs) o ≡ o
-  left_so k outs for j other None = refl
-  left_so k outs for j other (Some u) = ap Some (for j u other)
-
   module _ (pipes : PipesRepresent who logins wires v) where
     -- for a connection that is none of the device's
     pub sent_elsewhere : (k : ℕ) (outs : List (Out ItemOut)) → AreFor k outs → v.conns k ≡ None → PipesRepresent who logins (sent outs wires) v
@@ -65,7 +61,7 @@ module _ (who : Identity) (logins : ℕ → Login) (wires : Table ItemWire) (v :
         each j =
             elim (cases_eq k j) [
               | inl same ↦ subst (λ n. IsShown who (logins n) n (v.conns n) (sent outs wires n)) same its
-              | inr other ↦ shown_as who (logins j) j (v.conns j) (v.conns j) (wires j) (sent outs wires j) refl (left_so k outs for j other (wires j)) (pipes.each j)
+              | inr other ↦ shown_as who (logins j) j (v.conns j) (v.conns j) (wires j) (sent outs wires j) refl (left_apart k outs for j other (wires j)) (pipes.each j)
             ]
 
     -- for one of the device's
@@ -76,7 +72,7 @@ module _ (who : Identity) (logins : ℕ → Login) (wires : Table ItemWire) (v :
           let has = has_wire who logins wires v k c pipes is in
           let d : Conn ItemOut = record c { wires = send_down puts c.wires } in
           shown_at who logins wires (sent (puts_at k items) wires) v next k d (sent_under k (puts_at k items) has.wire) pipes (λ j. ap (λ t. t j) conns) (ap (option_map (sent_under k (puts_at k items))) has.there)
-          (λ j other. left_so k (puts_at k items) (puts_are_for k items) j other (wires j))
+          (λ j other. left_apart k (puts_at k items) (puts_are_for k items) j other (wires j))
           (subst (IsWire who (logins k) k d) (sym (puts_here k items has.wire ∙ ap (λ l. put_down l has.wire) same)) (wire_put who (logins k) k c has.wire has.is puts stanzas))
 
       pub shut_here : (ending : Ending) (items : List ItemOut) → items ≡ map (down_item who (logins k) k (is_after_login c.client)) (tail_of ending)
@@ -85,5 +81,5 @@ module _ (who : Identity) (logins : ℕ → Login) (wires : Table ItemWire) (v :
           let has = has_wire who logins wires v k c pipes is in
           let d : Conn ItemOut = shut_conn ending c in
           shown_at who logins wires (sent (shuts_at k items) wires) v next k d (sent_under k (shuts_at k items) has.wire) pipes (λ j. ap (λ t. t j) conns) (ap (option_map (sent_under k (shuts_at k items))) has.there)
-          (λ j other. left_so k (shuts_at k items) (shuts_are_for k items) j other (wires j))
+          (λ j other. left_apart k (shuts_at k items) (shuts_are_for k items) j other (wires j))
           (subst (IsWire who (logins k) k d) (sym (shuts_here k items has.wire ∙ ap (λ l. shut (put_down l has.wire)) same)) (wire_shut who (logins k) k c has.wire has.is ending))

@@ -2,7 +2,6 @@
 use Rattle.std.proofs.Common.{◌≡◌, ◌≢◌, ℕ, ◌≤◌, ◌==◌, length, Bool, true, Option, Some, None, refl, sym, subst, ◌∙◌, ◌⊎◌, inl, inr}
 use Rattle.std.proofs.lemmas.Bool.{cases_Bool, eqb-true}
 use Rattle.std.specs.List.{filter}
-use Rattle.std.specs.Option.{option_map}
 use Rattle.sm_acks.specs.declared.end.TheConstants.{MOST_UNACKNOWLEDGED}
 use Rattle.srv_state.specs.State.{ServerState, with_sessions, without_conn}
 use Rattle.sim_3_items.specs.Identities.{Identity, Login}
@@ -11,7 +10,7 @@ use Rattle.sim_2_links.specs.Links.{IsPlaced, LinkKept}
 use Rattle.sim_2_links.specs.Stages.{Conn}
 use Rattle.sim_2_links.specs.Views.{Row, View}
 use Rattle.sm_live.specs.Sessions.{Session, is_named, session_at, session_named, session_of, with_session}
-use Rattle.sim_3_images.proofs.RuleKept.{Keeps, Sits, changes_one, left_found, named_changed, named_one, none_left, of_left, of_was, rule_changed, rule_left, seat_is, seat_of, seat_was}
+use Rattle.sim_3_images.proofs.RuleKept.{Keeps, Sits, changes_one, named_one, of_left, of_was, rule_changed, rule_left, seat_is, seat_of, seat_was, named_stays, left_found, none_left}
 use Rattle.sim_4_links_follow.proofs.OthersElsewhere.{apart_from}
 use Rattle.sim_4_links_follow.proofs.ServerStatesLeft.{without_apart, without_sorted}
 use Rattle.sim_4_links_follow.proofs.Removed.{seat_left}
@@ -87,7 +86,7 @@ module _ (whom : Identity) (others : ℕ → Login) (h : ServerState ItemOut) (u
     served = record { domain = represents.served.domain; account = represents.served.account; found = represents.served.found; archive = represents.served.archive };
     server_state = record { sessions = rule_changed h.next n Free f h.sessions represents.server_state.sessions keeps sits (λ s at. carries.few s (represents.server_state.sessions.few n s at)); conns = represents.server_state.conns };
     conns = represents.conns;
-    row = subst (IsRowRepresented u.row) (sym row_same) represents.row;
+    row = subst (IsRowRepresented u.row) (sym (named_stays whom.account whom.resource n f h.sessions keeps (λ t is. elim (cases_Bool (t.shown.number == n)) [ inl same ↦ absurd (number_apart n t not_of is (eqb-true t.shown.number n same)) | inr other ↦ rw other refl ]))) represents.row;
     seated = λ j e s there at. seated j e s there (seat_was h.next n Free f h.sessions represents.server_state.sessions keeps sits j s at);
     owned = λ q t s there found.
         let old = of_was q n f h.sessions s keeps found in
@@ -110,14 +109,3 @@ module _ (whom : Identity) (others : ℕ → Login) (h : ServerState ItemOut) (u
           → (a : Session ItemOut) × (session_of a.shown.number h.sessions ≡ Some a) × (changes_one n f a ≡ s) × (((a.shown.number ≡ n) × Free j) ⊎ (session_at j h.sessions ≡ Some a)) → is_named whom.account whom.resource s ≡ true
       seated j e s there (a, here, same, inl new) = let none = (free j new.1).0 in absurd (let no_way : ⊥ = cc in no_way)
       seated j e s there (a, here, same, inr at) = name a s same (represents.seated j e a there at)
-
-      row_so : (o : Option (Session ItemOut)) → session_named whom.account whom.resource h.sessions ≡ o → option_map (changes_one n f) o ≡ o
-      row_so None is = refl
-      row_so (Some t) is =
-          elim (cases_Bool (t.shown.number == n)) [
-            | inl same ↦ absurd (number_apart n t not_of is (eqb-true t.shown.number n same))
-            | inr other ↦ rw other refl
-          ]
-
-      row_same : session_named whom.account whom.resource (with_session n f h.sessions) ≡ session_named whom.account whom.resource h.sessions
-      row_same = named_changed whom.account whom.resource n f h.sessions keeps ∙ row_so (session_named whom.account whom.resource h.sessions) refl

@@ -31,16 +31,16 @@ shown_at who logins wires after v next k c w old conns here others is = record {
           | inr apart ↦ shown_as who (logins j) j (v.conns j) (next.conns j) (wires j) (after j) (conns j ∙ at_other k c v.conns j apart) (others j apart) (old.each j)
         ]
 
+pub left_apart : (k : ℕ) (outs : List (Out ItemOut)) → AreFor k outs → (j : ℕ) → k ≢ j → (o : Option ItemWire) → option_map (sent_under j outs) o ≡ o
+left_apart k outs for j apart None = refl
+left_apart k outs for j apart (Some w) = ap Some (for j w apart)
+
 -- where an item was handed over there, and these are put out
 pub shown_sent : (who : Identity) (logins : ℕ → Login) (wires : Table ItemWire) (v next : View ItemOut) (k : ℕ) (c : Conn ItemOut) (w done : ItemWire) (outs : List (Out ItemOut))
     → PipesRepresent who logins wires v → ((j : ℕ) → next.conns j ≡ with_at k c v.conns j) → AreFor k outs → IsWire who (logins k) k c (sent_under k outs done) → PipesRepresent who logins (sent outs (with_at k done wires)) next
 shown_sent who logins wires v next k c w done outs old conns for is =
     shown_at who logins wires (sent outs (with_at k done wires)) v next k c (sent_under k outs done) old conns (ap (option_map (sent_under k outs)) (at_same k done wires))
-    (λ j apart. ap (option_map (sent_under j outs)) (at_other k done wires j apart) ∙ left j apart (wires j)) is
-  where
-    left : (j : ℕ) → k ≢ j → (o : Option ItemWire) → option_map (sent_under j outs) o ≡ o
-    left j apart None = refl
-    left j apart (Some v) = ap Some (for j v apart)
+    (λ j apart. ap (option_map (sent_under j outs)) (at_other k done wires j apart) ∙ left_apart k outs for j apart (wires j)) is
 
 -- ---- what the client has of them
 

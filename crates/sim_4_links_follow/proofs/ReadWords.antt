@@ -1,7 +1,6 @@
 -- What the server reads of the items that a client puts.
-use Rattle.std.proofs.Common.{◌≡◌, ℕ, ◌<◌, ◌^◌, true, List, Some, Ok, codes, refl, arith}
+use Rattle.std.proofs.Common.{◌≡◌, ℕ, ◌<◌, ◌^◌, true, List, Some, Ok, codes, refl}
 use Rattle.base_lemmas.proofs.Bytes.{bytes_eq-self}
-use Rattle.std.specs.Fmt.{decimal}
 use Rattle.cl_login.specs.LoginRows.{client_header}
 use Rattle.srv_state.specs.Words.{is_bad_management, is_bad_sasl, management_word, resume_word, sasl_word, word_of}
 use Rattle.srv_state.specs.declared.word.Word.TheVariants as word
@@ -10,11 +9,10 @@ use Rattle.law_xml.specs.Spells.{as_written}
 use Rattle.im_jid.specs.Normal.{normal}
 use Rattle.srv_login.specs.Headers.{header_answer, is_host}
 use Rattle.srv_login.specs.declared.header_judgement.HeaderAnswer.TheVariants.{Opens}
-use Rattle.im_payload.proofs.Numbers.{written_number}
 use Rattle.im_payload.specs.Bare.{bare}
 use Rattle.im_payload.specs.Names.{management, sasl}
-use Rattle.im_payload.specs.Shapes.{number_below}
 use Rattle.im_login.specs.Sasl.{auth_of, carrier}
+use Rattle.law_payloads.proofs.ManagementWritten.{number_again}
 
 -- ---- headers
 
@@ -43,9 +41,6 @@ request_word = refl
 pub enable_word : word_of (enable_elem (record { resume = true })) ≡ word.Enable true
 unfolding word_of is_bad_management management_word
 enable_word = refl
-
-number_again : (n : ℕ) → n < 2 ^ 32 → number_below (2 ^ 32) (decimal n) ≡ Some n
-number_again n low = written_number (2 ^ 32) n (omega arith) low
 
 pub ack_word : (n : ℕ) → n < 2 ^ 32 → word_of (ack_elem (record { h = n })) ≡ word.Ack n
 unfolding word_of is_bad_management management_word

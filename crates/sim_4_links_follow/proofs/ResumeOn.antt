@@ -169,6 +169,9 @@ module _ (who : Identity) (logins : ℕ → Login) (h : ServerState ItemOut) (wi
 
   -- ---- the count names a place
 
+  abbrev IsTakenSo : Type 0
+  IsTakenSo = IsTaken who logins h wires v k p.wire (ResumeAt q n)
+
   module _ (position : IsPosition v k n row) where
     not_high : is_too_high hh s ≡ false
     not_high = within_so row n position.within (few who logins h wires v k q n p s found own) s own.live
@@ -222,7 +225,7 @@ module _ (who : Identity) (logins : ℕ → Login) (h : ServerState ItemOut) (wi
         ∙ asked_so k m due (last_server_state (without_at f (comes h.sessions))) (shuts_at f words ++ puts_at k items)
         ∙ ap (λ ss. asked_where k m due (last_server_state ss) (shuts_at f words ++ puts_at k items)) sessions_same
 
-    pub position_follows : IsTaken who logins h wires v k p.wire (ResumeAt q n)
+    pub position_follows : IsTakenSo
     position_follows =
         let last : Step ItemOut = asked_where k m due (last_server_state (comes (with_session m off h.sessions))) (puts_at k items) in
         let all : Step ItemOut = asked_where k m due (last_server_state (comes (with_session m off h.sessions))) (shuts_at f words ++ puts_at k items) in
@@ -269,7 +272,7 @@ module _ (who : Identity) (logins : ℕ → Login) (h : ServerState ItemOut) (wi
         ∙ ap (λ ss. record { server_state = with_sessions ss (without_conn f (without_conn k h)); outs = shuts_at k told ++ shuts_at f words }) left_same
         ∙ ap (λ cs. record { server_state = record h { sessions = left_of (with_session m off h.sessions); conns = cs }; outs = shuts_at k told ++ shuts_at f words }) (removed_swapped f k apart h.conns)
 
-    pub after_follows : IsTaken who logins h wires v k p.wire (ResumeAt q n)
+    pub after_follows : IsTakenSo
     after_follows =
         let last : Step ItemOut = record { server_state = last_of; outs = shuts_at k told } in
         let all : Step ItemOut = record { server_state = last_of; outs = shuts_at k told ++ shuts_at f words } in

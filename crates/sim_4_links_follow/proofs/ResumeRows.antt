@@ -1,7 +1,6 @@
 -- The row on a resumption (XEP-0198, section 5) of a session that lives and is parked, with a count that names a
 -- place in its queue.
-use Rattle.std.proofs.Common.{◌≡◌, ℕ, ◌-◌, ◌<◌, ◌≤◌, ◌^◌, Bool, true, false, List, [], ◌∷◌, ◌++◌, Option, Some, None, length, drop, nat_lt, refl, sym, ap, subst, ◌∙◌, arith}
-use Rattle.std.proofs.lemmas.Bool.Decides.{nat_tests}
+use Rattle.std.proofs.Common.{◌≡◌, ℕ, ◌-◌, ◌<◌, ◌≤◌, ◌^◌, Bool, true, false, List, [], ◌∷◌, ◌++◌, Option, Some, None, length, drop, refl, sym, ap, subst, ◌∙◌, arith}
 use Rattle.std.proofs.lemmas.List.{append-nil, append_assoc}
 use Rattle.std.proofs.lemmas.List.Elements.{All-drop}
 use Rattle.sm_acks.specs.Counters.{ahead}
@@ -23,7 +22,7 @@ use Rattle.im_replies.specs.Management.{request_item}
 use Rattle.sim_4_links_follow.proofs.Pushed.{numbers_below}
 use Rattle.sim_3_images.proofs.RuleKept.{found_is, found_some, numbered_here, one_named}
 use Rattle.sim_4_links_follow.proofs.ResumeReads.{IsResumed, resumed_is}
-use Rattle.sim_4_links_follow.proofs.SessionRows.{near}
+use Rattle.sim_4_links_follow.proofs.SessionRows.{near, not_high}
 use Rattle.sim_4_links_follow.proofs.StrangeRows.{Asked, asked_here}
 use Rattle.sim_4_links_follow.specs.Taking.{IsFirst}
 use Rattle.srv_handlers.specs.Resumptions.{asking, saying}
@@ -69,9 +68,6 @@ within_so r n within few s is =
     let low = within.low in
     let high = within.high in
     not_high (length s.waiting) (ahead (told_count n) s.acked) (omega arith)
-  where
-    not_high : (q a : ℕ) → a ≤ q → nat_lt q a ≡ false
-    not_high q a enough = grind (arith, nat_tests)
 
 -- the session that a resumption names is the device's
 pub record IsOwnSession (who : Identity) (h : ServerState ItemOut) (v : View ItemOut) (q : ℕ) (s : Session ItemOut) : Type 0 where

@@ -36,7 +36,7 @@ use Rattle.sim_3_images.proofs.RuleKept.{found_is, numbered_here}
 use Rattle.xml_writer.specs.Items.{Closing, ItemOut}
 
 module _ (who whom : Identity) (logins others : ℕ → Login) (h : ServerState ItemOut) (wires : Table ItemWire) (v u : View ItemOut) (k q n : ℕ) (p : IsFirst who logins h wires v k (ResumeAt q n)) (beside : IsOtherDevice who whom others h wires u) where
-  linked : LinkKept u
+  abbrev linked : LinkKept u
   linked = kept_beside who whom logins others h wires v u p.server p.pipes beside
 
   off : u.conns k ≡ None
@@ -54,7 +54,7 @@ module _ (who whom : Identity) (logins others : ℕ → Login) (h : ServerState 
     own : IsOwnSession who h v q s
     own = own_session who logins h wires v k q n p s found
 
-    not_of : IsNotOf u s.shown.number
+    abbrev not_of : IsNotOf u s.shown.number
     not_of =
         session_not who whom logins others h wires v u p.server p.pipes beside s (numbered_here (is_named who.account who.resource) h.next 1 h.sessions s p.server.server_state.sessions.ascending own.named)
         (found_is (is_named who.account who.resource) h.sessions s own.named)

@@ -32,16 +32,16 @@ module _ (who : Identity) (logins : ℕ → Login) (h : ServerState ItemOut) (wi
     on_follows f on (inl position) = position_follows who logins h wires v k q n p s found own f on position
     on_follows f on (inr following) = after_follows who logins h wires v k q n p s found own f on following
 
-    lives : IsTaken who logins h wires v k p.wire (ResumeAt q n)
-    lives = go own.row.on refl
-      where
-        go : (o : Option ℕ) → own.row.on ≡ o → IsTaken who logins h wires v k p.wire (ResumeAt q n)
-        go None parked = parked_follows parked (count_so who logins h wires v k q n p countable s found own)
-        go (Some f) on = on_follows f on (count_so who logins h wires v k q n p countable s found own)
-
   pub resume_follows : IsTaken who logins h wires v k p.wire (ResumeAt q n)
   resume_follows = go (session_resumed (previd_of q) who.account h.sessions) refl
     where
       go : (o : Option (Session ItemOut)) → session_resumed (previd_of q) who.account h.sessions ≡ o → IsTaken who logins h wires v k p.wire (ResumeAt q n)
       go None strange = strange_follows who logins h wires v k q n p strange
-      go (Some s) found = lives s found
+      go (Some s) found = by_place (own s found).row.on refl
+        where
+          so : IsPosition v k n (own s found).row ⊎ IsAfter v k n (own s found).row
+          so = count_so who logins h wires v k q n p countable s found (own s found)
+
+          by_place : (o : Option ℕ) → (own s found).row.on ≡ o → IsTaken who logins h wires v k p.wire (ResumeAt q n)
+          by_place None parked = parked_follows s found parked so
+          by_place (Some f) on = on_follows s found f on so

@@ -1,10 +1,8 @@
 -- The rows of stanzas, and the calls of the user, have such outcomes.
 use Rattle.std.proofs.Common.{◌≡◌, ℕ, ◌^◌, ◌<◌, ◌==◌, ◌&&◌, Bool, true, false, List, [], ◌∷◌, ◌++◌, codes, is_some, Option, Some, None, IfSome, Result, Ok, Err, refl, sym, ap, ◌∙◌, arith, length, if◌then◌else◌}
 use Rattle.std.proofs.lemmas.Bool.Decides.{nat_tests}
-use Rattle.std.proofs.ByRecursion.{All-append}
 use Rattle.std.specs.List.{AllByRecursion}
 use Rattle.std.specs.Prelude.{nat_le}
-use Rattle.std.specs.Str.{bytes_eq}
 use Rattle.cl_core.specs.PageRows.{answer_to, answered_page, begins_page, error_of_page, goes_on, iq_by, is_not_found, is_ping, next_queryid, only_fin, page_answered, page_done, page_ended, restarts, result_of_page}
 use Rattle.cl_core.specs.Steps.{stanza_row}
 use Rattle.cl_core.specs.UserCalls.{catch_up_answer, catch_up_in, catches_up, catches_up_in, is_bad_text, outbox_bound, say_answer, say_in, says as says_client_step, submission_of, submits}
@@ -25,7 +23,7 @@ use Rattle.sim_3_items.specs.Counted.{IsForServer}
 use Rattle.sim_3_items.specs.Labels.{awaits}
 use Rattle.im_extensions.specs.declared.forwarding.Forwarded.{Forwarded}
 use Rattle.mam_log.specs.LogPages.{last_id}
-use Rattle.mam_log.specs.Views.{LogView, OpenPage, after_fin, end_of, page_for, with_page}
+use Rattle.mam_log.specs.Views.{OpenPage, after_fin, end_of, page_for}
 use Rattle.mam_log.specs.declared.fin.FinFault.{FinFault}
 use Rattle.mam_log.specs.declared.fin.PageOutcome.{PageOutcome}
 use Rattle.mam_log.specs.declared.fin.PageOutcome.TheVariants.{Complete, More}
@@ -53,6 +51,7 @@ use Rattle.im_stanza.specs.declared.stanzas.Stanza.TheVariants.{Iq, Message, Pre
 use Rattle.xml_trees.specs.Readers.{elements_of, first_named}
 use Rattle.xml_trees.specs.Trees.{Elem}
 use Rattle.xml_writer.specs.Items.{ItemOut}
+use Rattle.law_limits.proofs.PagesKept.{last_within, next_low, after_within, page_for_within}
 
 -- ---- messages change nothing that the links have
 
@@ -97,21 +96,13 @@ put_outcome t (Some s) z is good other =
     (leaves (record { account = refl; epoch = refl; session = refl; phase = refl; put = refl; notes = refl }))
     (λ position. says (record { session = s; stands = is; position = position; stanza = z; good = good; asks = false; other = λ e. other; queued = record { account = refl; epoch = refl; phase = refl; session = _; is = refl; previd = refl; acked = refl; handled = refl; queue = refl; notes = refl }; put = refl }))
 
-low : (n : ℕ) → next_number n < 2 ^ 64
-low n = omega arith
-
-last_within : (entries : List LogEntry) → AllByRecursion IsEntryWithin entries → IfSome (last_id entries) (IsTextWithin most_id)
-last_within [] h = tt
-last_within (e ∷ []) h = h.0
-last_within (e ∷ f ∷ es) h = last_within (f ∷ es) h.1
-
 begun_said : (t : T) (s : SessionView ItemOut) (max : ℕ) → t.client.session ≡ Some s → is_full s.waiting ≡ false → AllByRecursion IsEntryWithin t.client.log.entries → max < 2 ^ 32 → IsSaid t (begins_page in_items t s max)
 begun_said t s max is position within small = record {
   session = s;
   stands = is;
   position = position;
   stanza = page_item (next_queryid t) (last_id t.client.log.entries) max;
-  good = page_for_server (next_number t.client.pages) max (last_id t.client.log.entries) (low t.client.pages) (last_within t.client.log.entries within) small;
+  good = page_for_server (next_number t.client.pages) max (last_id t.client.log.entries) (next_low t.client.pages) (last_within t.client.log.entries within) small;
   asks = true;
   other = λ e. absurd (let no_way : ⊥ = cc in no_way);
   queued = record { account = refl; epoch = refl; phase = refl; session = _; is = refl; previd = refl; acked = refl; handled = refl; queue = refl; notes = refl };
@@ -168,20 +159,12 @@ on_outcome t (Some s) max is within small =
     (leaves (record { account = refl; epoch = refl; session = refl; phase = refl; put = refl; notes = refl }))
     (λ position. says (begun_said t s max is position within small))
 
--- the log with the page that ended
-fin_within : (log : LogView) (fin : Fin) → IsLogWithin log → IsLogWithin (after_fin log fin)
-fin_within log fin h = by log.page h.page
-  where
-    by : (o : Option OpenPage) → IfSome o IsPageWithin → IsLogWithin (elim o as (λ _. LogView) [ None ↦ log | Some page ↦ with_page log page fin ])
-    by None page = h
-    by (Some p) page = record { entries = All-append IsEntryWithin log.entries p.results h.entries page.results; page = tt }
-
 done_outcome : (t : T) (page : OpenPage) (fin : Fin) (outcome : PageOutcome) → IsLogWithin t.client.log → IsPageWithin page → Outcome t (page_done in_items t page fin outcome)
 done_outcome t page fin Complete h of = stays (record { account = refl; epoch = refl; session = refl; phase = refl; put = refl; notes = refl })
 done_outcome t page fin More h of =
     let m = tells (with_log t (after_fin t.client.log fin)) (PageDone More) in
     following t m (page_done in_items t page fin More) (record { account = refl; epoch = refl; session = refl; phase = refl; put = refl; notes = refl })
-    (on_outcome m t.client.session page.max refl (fin_within t.client.log fin h).entries of.max)
+    (on_outcome m t.client.session page.max refl (after_within t.client.log fin h).entries of.max)
 
 ended_outcome : (t : T) (page : OpenPage) (fin : Fin) (outcome : Result PageOutcome FinFault) → IsLogWithin t.client.log → IsPageWithin page → Outcome t (page_ended in_items t page fin outcome)
 ended_outcome t page fin (Ok outcome) h of = done_outcome t page fin outcome h of
@@ -203,7 +186,7 @@ restart_outcome t (Some s) max is small =
       stands = is;
       position = position;
       stanza = page_item (next_queryid t) None max;
-      good = page_for_server (next_number t.client.pages) max None (low t.client.pages) tt small;
+      good = page_for_server (next_number t.client.pages) max None (next_low t.client.pages) tt small;
       asks = true;
       other = λ e. absurd (let no_way : ⊥ = cc in no_way);
       queued = record { account = refl; epoch = refl; phase = refl; session = _; is = refl; previd = refl; acked = refl; handled = refl; queue = refl; notes = refl };
@@ -223,14 +206,6 @@ answered_outcome t q page iq.Error h of = error_outcome t page (error_within q.p
 answered_outcome t q page iq.Get h of = stays (quiet_same t)
 answered_outcome t q page iq.Set h of = stays (quiet_same t)
 
-page_within : (queryid : List ℕ) (o : Option OpenPage) → IfSome o IsPageWithin → IfSome (page_for queryid o) IsPageWithin
-page_within queryid None h = tt
-page_within queryid (Some page) h = by (bytes_eq page.queryid queryid)
-  where
-    by : (c : Bool) → IfSome (if c then Some page else None) IsPageWithin
-    by true = h
-    by false = tt
-
 page_outcome : (t : T) (q : IqView) (o : Option OpenPage) → IsLogWithin t.client.log → IfSome o IsPageWithin → Outcome t (page_answered in_items t q o)
 page_outcome t q None h of = stays (quiet_same t)
 page_outcome t q (Some page) h of =
@@ -247,8 +222,8 @@ iq_outcome t q iq.Get h short =
 iq_outcome t q iq.Set h short =
     let b = short refl in
     put_outcome t t.client.session (answer_to q false) refl (answer_for_server q false b.0 b.1) (answer_other q false)
-iq_outcome t q iq.Result h short = page_outcome t q (page_for q.id t.client.log.page) h (page_within q.id t.client.log.page h.page)
-iq_outcome t q iq.Error h short = page_outcome t q (page_for q.id t.client.log.page) h (page_within q.id t.client.log.page h.page)
+iq_outcome t q iq.Result h short = page_outcome t q (page_for q.id t.client.log.page) h (page_for_within q.id t.client.log.page h.page)
+iq_outcome t q iq.Error h short = page_outcome t q (page_for q.id t.client.log.page) h (page_for_within q.id t.client.log.page h.page)
 
 -- ---- stanzas
 

@@ -18,9 +18,9 @@ use Rattle.sm_live.specs.Sessions.{Session, is_named, session_named, session_of,
 use Rattle.sim_3_images.proofs.RuleKept.{changes_one, found_is, named_as, numbered_here}
 use Rattle.sim_4_links_follow.specs.Taking.{AreApart}
 use Rattle.sim_4_links_follow.proofs.Emitted.{AreFor}
-use Rattle.sim_4_links_follow.proofs.Found.{Keeps, at_was, keeps_one, named_changed, of_was, rule_changed}
+use Rattle.sim_4_links_follow.proofs.Found.{Keeps, at_was, of_was, rule_changed, named_stays, named_one}
 use Rattle.sim_4_links_follow.proofs.WireStepsServerStates.{server_state_apart, server_state_sorted}
-use Rattle.sim_4_links_follow.proofs.Placed.{keeps_all, shown_as}
+use Rattle.sim_4_links_follow.proofs.Placed.{keeps_all, shown_as, left_apart}
 use Rattle.xml_writer.specs.Items.{ItemOut}
 
 -- ---- whose a connection is
@@ -52,10 +52,6 @@ module _ (who whom : Identity) (logins : ℕ → Login) (h : ServerState ItemOut
   pub pipes_stay : (k : ℕ) (w : ItemWire) (outs : List (Out ItemOut)) → wires k ≡ Some w → w.device ≡ who.position → AreFor k outs → PipesRepresent whom logins (sent outs (with_at k (handed_up w) wires)) v
   pipes_stay k w outs there of for = record { each = each }
     where
-      left_so : (j : ℕ) → k ≢ j → (o : Option ItemWire) → option_map (sent_under j outs) o ≡ o
-      left_so j other None = refl
-      left_so j other (Some u) = ap Some (for j u other)
-
       each : (j : ℕ) → IsShown whom (logins j) j (v.conns j) (sent outs (with_at k (handed_up w) wires) j)
       each j =
           elim (cases_eq k j) [
@@ -64,7 +60,7 @@ module _ (who whom : Identity) (logins : ℕ → Login) (h : ServerState ItemOut
                 (ap (option_map (sent_under k outs)) (at_same k (handed_up w) wires)) (λ its. apart.position (sym its ∙ sent_device k outs (handed_up w) ∙ of)))
             | inr other ↦
                 shown_as whom (logins j) j (v.conns j) (v.conns j) (wires j) (sent outs (with_at k (handed_up w) wires) j) refl
-                (ap (option_map (sent_under j outs)) (at_other k (handed_up w) wires j other) ∙ left_so j other (wires j)) (pipes.each j)
+                (ap (option_map (sent_under j outs)) (at_other k (handed_up w) wires j other) ∙ left_apart k outs for j other (wires j)) (pipes.each j)
           ]
 
   -- a connection of the one comes to another phase
@@ -89,19 +85,12 @@ module _ (who whom : Identity) (logins : ℕ → Login) (h : ServerState ItemOut
     served = record { domain = represents.served.domain; account = represents.served.account; found = represents.served.found; archive = represents.served.archive };
     server_state = record { sessions = rule_changed h.next n f h.sessions keeps (λ t is. subst (λ u. length (f u).waiting ≤ MOST_UNACKNOWLEDGED) (same_Some s t (sym its ∙ is)) few) represents.server_state.sessions; conns = represents.server_state.conns };
     conns = represents.conns;
-    row = subst (IsRowRepresented v.row) (sym row_same) represents.row;
-    seated = λ j e t there at. let old = at_was j n f h.sessions t keeps at in name old.0 t old.2 (represents.seated j e old.0 there old.1);
-    owned = λ q u t there found. let old = of_was q n f h.sessions t keeps found in name old.0 t old.2 (represents.owned q u old.0 there old.1);
+    row = subst (IsRowRepresented v.row) (sym (named_stays whom.account whom.resource n f h.sessions keeps unchanged)) represents.row;
+    seated = λ j e t there at. let old = at_was j n f h.sessions t keeps at in subst (λ (x : Session ItemOut). is_named whom.account whom.resource x ≡ true) old.2 (named_one whom.account whom.resource n f old.0 keeps ∙ (represents.seated j e old.0 there old.1));
+    owned = λ q u t there found. let old = of_was q n f h.sessions t keeps found in subst (λ (x : Session ItemOut). is_named whom.account whom.resource x ≡ true) old.2 (named_one whom.account whom.resource n f old.0 keeps ∙ (represents.owned q u old.0 there old.1));
     free = represents.free;
   }
     where
-      name : (t u : Session ItemOut) → changes_one n f t ≡ u → is_named whom.account whom.resource t ≡ true → is_named whom.account whom.resource u ≡ true
-      name t u same is =
-          let all = keeps_one n f keeps in
-          let a : u.shown.account ≡ t.shown.account = ap (λ (x : Session ItemOut). x.shown.account) (sym same) ∙ all.account t in
-          let b : u.shown.resource ≡ t.shown.resource = ap (λ (x : Session ItemOut). x.shown.resource) (sym same) ∙ all.resource t in
-          rw (a, b) is
-
       -- its session has another number
       unchanged : (t : Session ItemOut) → session_named whom.account whom.resource h.sessions ≡ Some t → changes_one n f t ≡ t
       unchanged t is =
@@ -114,13 +103,6 @@ module _ (who whom : Identity) (logins : ℕ → Login) (h : ServerState ItemOut
                 absurd (apart.name (sym a.0 ∙ ap (λ (x : Session ItemOut). x.shown.account) one ∙ b.0) (sym a.1 ∙ ap (λ (x : Session ItemOut). x.shown.resource) one ∙ b.1))
             | inr other ↦ rw other refl
           ]
-
-      row_so : (o : Option (Session ItemOut)) → session_named whom.account whom.resource h.sessions ≡ o → option_map (changes_one n f) o ≡ o
-      row_so None is = refl
-      row_so (Some t) is = ap Some (unchanged t is)
-
-      row_same : session_named whom.account whom.resource (with_session n f h.sessions) ≡ session_named whom.account whom.resource h.sessions
-      row_same = named_changed whom.account whom.resource n f h.sessions keeps ∙ row_so (session_named whom.account whom.resource h.sessions) refl
 
 -- nothing moves
 pub nothing_moves : (whom : Identity) (logins : ℕ → Login) (h : ServerState ItemOut) (wires : Table ItemWire) (v : View ItemOut) → ServerRepresents whom logins h v → PipesRepresent whom logins wires v → ServerFollows whom logins h wires v []

@@ -40,6 +40,10 @@ pub live_of : (who : Identity) (logins : ℕ → Login) (h : ServerState ItemOut
 live_of who logins h v r represents is = live_in who h (session_named who.account who.resource h.sessions) r refl (subst (λ o. IsRowRepresented o (session_named who.account who.resource h.sessions)) is represents.row)
 
 module _ (who : Identity) (logins : ℕ → Login) (h : ServerState ItemOut) (v : View ItemOut) (represents : ServerRepresents who logins h v) (k : ℕ) (c : Conn ItemOut) (is : v.conns k ≡ Some c) where
+  seated_after : (d : Conn ItemOut) (j : ℕ) (e : Conn ItemOut) (s : Session ItemOut) → Entry k d v.conns j e → session_at j h.sessions ≡ Some s → is_named who.account who.resource s ≡ true
+  seated_after d j e s (New same it) seat = represents.seated k c s is (subst (λ n. session_at n h.sessions ≡ Some s) (sym same) seat)
+  seated_after d j e s (Old apart before) seat = represents.seated j e s before seat
+
   -- the connection comes to another phase
   pub phase_represents : (f : Connection → Connection) (conn : Connection) (d : Conn ItemOut) → conn_at k h ≡ Some conn → conn_shown who (logins k) d ≡ Some (f conn)
       → ServerRepresents who logins (with_conn k f h) (record v { conns = with_at k d v.conns })
@@ -48,7 +52,7 @@ module _ (who : Identity) (logins : ℕ → Login) (h : ServerState ItemOut) (v 
     server_state = record { sessions = represents.server_state.sessions; conns = server_state_sorted k f h conn at represents.server_state.conns };
     conns = λ j e there. shown j e (entry k d v.conns j e there);
     row = represents.row;
-    seated = λ j e s there seat. seated j e s (entry k d v.conns j e there) seat;
+    seated = λ j e s there seat. seated_after d j e s (entry k d v.conns j e there) seat;
     owned = represents.owned;
     free = represents.free;
   }
@@ -56,10 +60,6 @@ module _ (who : Identity) (logins : ℕ → Login) (h : ServerState ItemOut) (v 
       shown : (j : ℕ) (e : Conn ItemOut) → Entry k d v.conns j e → conn_at j (with_conn k f h) ≡ conn_shown who (logins j) e
       shown j e (New same it) = subst (λ n. conn_at n (with_conn k f h) ≡ conn_shown who (logins n) e) same (server_state_here k f h conn at ∙ sym comes ∙ ap (conn_shown who (logins k)) it)
       shown j e (Old apart before) = server_state_apart k f h conn at j apart ∙ represents.conns j e before
-
-      seated : (j : ℕ) (e : Conn ItemOut) (s : Session ItemOut) → Entry k d v.conns j e → session_at j h.sessions ≡ Some s → is_named who.account who.resource s ≡ true
-      seated j e s (New same it) seat = represents.seated k c s is (subst (λ n. session_at n h.sessions ≡ Some s) (sym same) seat)
-      seated j e s (Old apart before) seat = represents.seated j e s before seat
 
   -- it stays in its phase, and this is then the row
   pub row_represents : (d : Conn ItemOut) (o : Option (Row ItemOut)) (t : Table (links.Session ItemOut)) → Known t v → conn_shown who (logins k) d ≡ conn_shown who (logins k) c → IsRowRepresented o (session_named who.account who.resource h.sessions)
@@ -69,7 +69,7 @@ module _ (who : Identity) (logins : ℕ → Login) (h : ServerState ItemOut) (v 
     server_state = represents.server_state;
     conns = λ j e there. shown j e (entry k d v.conns j e there);
     row = row;
-    seated = λ j e s there seat. seated j e s (entry k d v.conns j e there) seat;
+    seated = λ j e s there seat. seated_after d j e s (entry k d v.conns j e there) seat;
     owned = λ q u s there found. let old = known q u there in represents.owned q old.0 s old.1 found;
     free = represents.free;
   }
@@ -77,10 +77,6 @@ module _ (who : Identity) (logins : ℕ → Login) (h : ServerState ItemOut) (v 
       shown : (j : ℕ) (e : Conn ItemOut) → Entry k d v.conns j e → conn_at j h ≡ conn_shown who (logins j) e
       shown j e (New at it) = subst (λ n. conn_at n h ≡ conn_shown who (logins n) e) at (represents.conns k c is ∙ sym same ∙ ap (conn_shown who (logins k)) it)
       shown j e (Old apart before) = represents.conns j e before
-
-      seated : (j : ℕ) (e : Conn ItemOut) (s : Session ItemOut) → Entry k d v.conns j e → session_at j h.sessions ≡ Some s → is_named who.account who.resource s ≡ true
-      seated j e s (New at it) seat = represents.seated k c s is (subst (λ n. session_at n h.sessions ≡ Some s) (sym at) seat)
-      seated j e s (Old apart before) seat = represents.seated j e s before seat
 
 -- the session of the device is changed
 pub session_represents : (who : Identity) (logins : ℕ → Login) (h : ServerState ItemOut) (v : View ItemOut) (r changed : Row ItemOut) (f : Session ItemOut → Session ItemOut) (t : Table (links.Session ItemOut))

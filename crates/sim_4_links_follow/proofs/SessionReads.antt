@@ -53,6 +53,10 @@ use Rattle.sim_4_links_follow.proofs.Turning.{on_element, own_session}
 use Rattle.sim_4_links_follow.proofs.Twice.{both_sent, known_then, thrice}
 use Rattle.sim_4_links_follow.proofs.Working.{heard, kept_here, phase_here, same_items, works_on}
 
+pub some_digits : (text : List ℕ) → length text ≡ 16 → is_empty text ≡ false
+some_digits [] size = absurd (let no_way : ⊥ = cc in no_way)
+some_digits (b ∷ bs) size = refl
+
 module _ (who : Identity) (logins : ℕ → Login) (d : ItemDevice) (wires : Table ItemWire) (v : View ItemOut) (k : ℕ) where
   abbrev now : ClientStep ItemOut ItemOut
   now = silent_client_step d.client
@@ -88,9 +92,6 @@ module _ (who : Identity) (logins : ℕ → Login) (d : ItemDevice) (wires : Tab
         on_element d bound (client_phase who (logins k) InBind) (phase_here who logins d wires v k (Bound m) p InBind is)
         ∙ ap (λ r. if is_ok r then enables else other_element now bound) (result_written (record { jid = full_of who }) p.shown.normal.full)
 
-    next_epoch : (n : ℕ) → n + 1 < 2 ^ 64 → next_number n ≡ n + 1
-    next_epoch n below = min-eq_left (omega arith)
-
     pub bound_read : IsRead who logins d wires v k p.conn p.wire (Bound m)
     bound_read =
         let next : View ItemOut =
@@ -100,7 +101,7 @@ module _ (who : Identity) (logins : ℕ → Login) (d : ItemDevice) (wires : Tab
           sessions = alter (λ q s. record s { epoch = if has (Some m) q then Some (v.epoch + 1) else s.epoch }) v.sessions;
         } in
         subst (HearingFollows who logins d wires v k p.wire) (sym bound_client_step)
-        (works_on who logins d wires v k (Bound m) p enables InEnable (Enable ∷ []) (ReadsBound k m ∷ []) next (tt, tt) refl (ap next_number p.shown.client.epoch ∙ next_epoch v.epoch low) p.shown.client.own refl refl (All-nil IsForServer)
+        (works_on who logins d wires v k (Bound m) p enables InEnable (Enable ∷ []) (ReadsBound k m ∷ []) next (tt, tt) refl (ap next_number p.shown.client.epoch ∙ (let rises : next_number v.epoch ≡ v.epoch + 1 = min-eq_left (omega arith) in rises)) p.shown.client.own refl refl (All-nil IsForServer)
         (same_items who logins d wires v k (Bound m) p InBind InEnable is refl)
         (next, record { conn = p.conn; here = p.here; is = p.is; rest = p.rest; first = p.first; client = is; gives = refl }, refl) refl refl (λ j. refl) refl refl
         (known_altered (λ q s. record s { epoch = if has (Some m) q then Some (v.epoch + 1) else s.epoch }) v))
@@ -113,10 +114,6 @@ module _ (who : Identity) (logins : ℕ → Login) (d : ItemDevice) (wires : Tab
 
     abbrev starts : ClientStep ItemOut ItemOut
     starts = begins in_items now (previd_of m)
-
-    some_digits : (text : List ℕ) → length text ≡ 16 → is_empty text ≡ false
-    some_digits [] size = absurd (let no_way : ⊥ = cc in no_way)
-    some_digits (b ∷ bs) size = refl
 
     enabled_client_step : client_step_on (Whole (enabled_elem word)) d ≡ starts
     enabled_client_step =
@@ -184,7 +181,7 @@ module _ (who : Identity) (logins : ℕ → Login) (d : ItemDevice) (wires : Tab
     abbrev told : ResumedWord
     told = record { previd = previd_of q; h = told_count h }
 
-    has_session : (s : SessionView ItemOut) × (d.client.session ≡ Some s) × IsOwn o s
+    abbrev has_session : (s : SessionView ItemOut) × (d.client.session ≡ Some s) × IsOwn o s
     has_session = own_session who logins d v o p.shown.client own
 
     abbrev s : SessionView ItemOut

@@ -1,7 +1,8 @@
 -- What a client does on a stanza that comes, and what its user submits and asks for, is moves of the links.
-use Rattle.std.proofs.Common.{◌≡◌, ◌≢◌, ℕ, ◌+◌, ◌%◌, ◌^◌, ◌<◌, ◌&&◌, ◌||◌, Bool, true, false, List, [], ◌∷◌, ◌++◌, Option, Some, None, Ok, codes, is_none, nat_eq, refl, sym, ap, subst, ◌∙◌, arith, if◌then◌else◌}
+use Rattle.std.proofs.Common.{◌≡◌, ◌≢◌, ℕ, ◌+◌, ◌%◌, ◌^◌, ◌<◌, ◌&&◌, ◌||◌, Bool, true, false, List, [], ◌∷◌, ◌++◌, Option, Some, None, Ok, codes, is_none, nat_eq, refl, sym, ap, subst, ◌∙◌, if◌then◌else◌}
 use Rattle.std.proofs.lemmas.Slice.Eq.{bytes_eq-Decides}
 use Rattle.std.proofs.lemmas.List.Elements.{All-head, All-nil}
+use Rattle.std.proofs.lemmas.Option.{same_Some}
 use Rattle.std.specs.List.{All}
 use Rattle.std.specs.Option.{option_map}
 use Rattle.std.specs.Str.{bytes_eq}
@@ -13,7 +14,7 @@ use Rattle.sim_3_images.proofs.ItemsHeard.{entered_twice, nothing_entered}
 use Rattle.sim_4_links_follow.proofs.HandMoves.{shown_wire}
 use Rattle.sim_4_links_follow.proofs.Hearing.{wire_heard}
 use Rattle.sim_4_links_follow.proofs.Turning.{own_session}
-use Rattle.sim_4_links_follow.proofs.Working.{client_works, never_apart, same_server, some_position}
+use Rattle.sim_4_links_follow.proofs.Working.{client_works, never_apart, same_server}
 use Rattle.cl_handlers.specs.AckRows.{request_row}
 use Rattle.cl_handlers.specs.SessionRows.{is_stanza}
 use Rattle.cl_handlers.specs.Speech.{in_items}
@@ -60,14 +61,12 @@ use Rattle.sim_4_links_follow.proofs.Placed.{shown_at}
 use Rattle.sim_4_links_follow.proofs.Servings.{known_altered}
 use Rattle.xml_writer.specs.Items.{ItemOut, Whole}
 use Rattle.sm_acks.proofs.Senders.{counted_more as wraps}
+use Rattle.law_limits.proofs.PagesKept.{next_low}
 
 -- ---- pipes into which a turn puts
 
 put_twice : (put more : List ItemOut) (w : ItemWire) → put_up more (put_up put w) ≡ put_up (put ++ more) w
 put_twice put more w = ap (λ (p : ItemPipe). record w { up = p }) (entered_twice put more w.up)
-
-put_none : (w : ItemWire) → put_up [] w ≡ w
-put_none w = ap (λ (p : ItemPipe). record w { up = p }) (nothing_entered w.up)
 
 -- those of a connection of which an item was handed over
 heard_enters : (k : ℕ) (w : ItemWire) (wires : Table ItemWire) → Enters k (λ put. with_at k (put_up put w) wires)
@@ -106,7 +105,7 @@ silent_here (Some position) wires n = by (nat_eq (position + 1) n) (wires n)
     by : (b : Bool) (o : Option ItemWire) → option_map (where_it b (put_up [])) o ≡ o
     by false o = idle (put_up []) o
     by true None = refl
-    by true (Some w) = ap Some (put_none w)
+    by true (Some w) = ap (λ (p : ItemPipe). Some (record w { up = p })) (nothing_entered w.up)
 
 -- ---- what the client does on a stanza
 
@@ -145,17 +144,17 @@ module _ (who : Identity) (logins : ℕ → Login) (d : ItemDevice) (wires : Tab
   abbrev heard : List ItemOut → Table ItemWire
   heard put = with_at k (put_up put (handed_down p.wire)) wires
 
-  kept : LinkKept v
+  abbrev kept : LinkKept v
   kept = link_kept v p.shown.reached
 
-  wire : IsWire who (logins k) k p.conn p.wire
+  abbrev wire : IsWire who (logins k) k p.conn p.wire
   wire = shown_wire who (logins k) k (v.conns k) (wires k) p.conn p.wire p.is p.there (p.shown.pipes.each k)
 
   works : is_apart d.client.phase ≡ false
   works = ap is_apart (p.shown.client.phase k p.conn p.here p.is) ∙ never_apart who (logins k) p.conn.client
 
   number : (position : ℕ) → d.here ≡ Some position → k ≡ position + 1
-  number position at = let had = p.shown.client.here k p.here in had.1 ∙ ap (λ n. n + 1) (some_position had.0 position (sym had.2 ∙ at))
+  number position at = let had = p.shown.client.here k p.here in had.1 ∙ ap (λ n. n + 1) (same_Some had.0 position (sym had.2 ∙ at))
 
   enters : (position : ℕ) → d.here ≡ Some position → Enters (position + 1) heard
   enters position at = subst (λ n. Enters n heard) (number position at) (heard_enters k (handed_down p.wire) wires)
@@ -263,15 +262,12 @@ module _ (who : Identity) (logins : ℕ → Login) (d : ItemDevice) (wires : Tab
   said_follows : (u : T) → IsSaid (silent_client_step d.client) u → SpeakingFollows who logins d wires v u
   said_follows u m = said_course who logins d v spoken (link_kept v shown.reached) (spoken_enters d.here wires) (silent_client_step d.client) u m silent_course
 
-  low : (n : ℕ) → next_number n < 2 ^ 64
-  low n = omega arith
-
   pub submission_follows : (to text : List ℕ) (private : Bool) (n : ℕ) → IsClientWithin d.client → IsBareAddress to → IsTextWithin most_text text → say_answer d.client text ≡ Ok n
       → SpeakingFollows who logins d wires v (says_client_step in_items (silent_client_step d.client) to text private)
   submission_follows to text private n within to_good text_good answer =
       said_follows (says_client_step in_items (silent_client_step d.client) to text private)
       (says_said (silent_client_step d.client) to text private n answer
-      (submission_for_server d.client.account.resource to text d.client.epoch (next_number d.client.n) private within.account.resource within.epoch (low d.client.n) to_good text_good))
+      (submission_for_server d.client.account.resource to text d.client.epoch (next_number d.client.n) private within.account.resource within.epoch (next_low d.client.n) to_good text_good))
 
   pub catch_up_follows : (most : ℕ) → IsClientWithin d.client → most < 2 ^ 32 → catch_up_answer d.client ≡ Ok tt → SpeakingFollows who logins d wires v (catches_up in_items (silent_client_step d.client) most)
   catch_up_follows most within small answer =

@@ -94,7 +94,7 @@ handled_row r s is = record {
 }
 
 module _ (who : Identity) (logins : ℕ → Login) (h : ServerState ItemOut) (wires : Table ItemWire) (v : View ItemOut) (k : ℕ) (z : ItemOut) (p : IsFirst who logins h wires v k (Up (St z))) where
-  there : HasThere v k p.conn.phase true
+  abbrev there : HasThere v k p.conn.phase true
   there = expected_up v k p.conn (Up (St z)) p.rest (kept_here who logins h wires v k (Up (St z)) p) p.is p.first
 
   abbrev row : Row ItemOut

@@ -24,7 +24,7 @@ use Rattle.sim_2_links.proofs.Expected.{expected_up}
 use Rattle.sim_2_links.proofs.Resumption.{asks}
 use Rattle.sim_2_links.specs.Links.{IsAsked, LinkKept}
 use Rattle.sim_2_links.specs.Machine.{TakesStrangeResume}
-use Rattle.sim_2_links.specs.Views.{Row, Table, View, on_phase, session_on, with_at}
+use Rattle.sim_2_links.specs.Views.{Row, Table, View, on_phase, with_at}
 use Rattle.sim_2_links.specs.Views as links
 use Rattle.sim_2_links.specs.Words.{DownWord, Failed, Ready, ResumeAt}
 use Rattle.sm_live.specs.Sessions.{is_named, is_resumed_by, resume_answer, session_at, session_resumed, told}
@@ -53,7 +53,7 @@ pub record Asked (v : View ItemOut) (q n : ℕ) : Type 0 where
   pub stated : Contains session.down.stated n
 
 module _ (who : Identity) (logins : ℕ → Login) (h : ServerState ItemOut) (wires : Table ItemWire) (v : View ItemOut) (k q n : ℕ) (p : IsFirst who logins h wires v k (ResumeAt q n)) where
-  kept : LinkKept v
+  abbrev kept : LinkKept v
   kept = kept_here who logins h wires v k (ResumeAt q n) p
 
   pub ready : p.conn.phase ≡ Ready
@@ -79,6 +79,9 @@ module _ (who : Identity) (logins : ℕ → Login) (h : ServerState ItemOut) (wi
       ∙ ap (λ w. acted itself (at_ready_or_bound itself k who.account w (option_map told (session_at k h.sessions)) standing h) (step_of h)) (resume_is_word (previd_of q) (told_count n) (mod-lt n (omega arith)))
       ∙ ap (λ o. acted itself (at_ready_or_bound itself k who.account (word.Resume (previd_of q) (told_count n)) (option_map told o) standing h) (step_of h)) none_here
 
+  abbrev IsTakenSo : Type 0
+  IsTakenSo = IsTaken who logins h wires v k p.wire (ResumeAt q n)
+
   module _ (strange : session_resumed (previd_of q) who.account h.sessions ≡ None) where
     -- the device has no live session with the number
     no_row : (row : Row ItemOut) → v.row ≡ Some row → row.number ≡ q → ⊥
@@ -100,7 +103,7 @@ module _ (who : Identity) (logins : ℕ → Login) (h : ServerState ItemOut) (wi
         resume_step
         ∙ ap (λ o. acted itself (resuming itself k who.account (previd_of q) (told_count n) (resume_answer (told_count n) o) (resent_where (told_count n) o)) (step_of h)) strange
 
-    pub strange_follows : IsTaken who logins h wires v k p.wire (ResumeAt q n)
+    pub strange_follows : IsTakenSo
     strange_follows =
         let puts : List (DownWord ItemOut) = Failed ∷ [] in
         let d = taken who logins h wires v k (ResumeAt q n) p p.conn.phase puts in

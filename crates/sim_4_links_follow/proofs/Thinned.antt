@@ -82,33 +82,26 @@ module _ (who : Identity) (logins : ℕ → Login) (h : ServerState ItemOut) (v 
           let b : u.shown.resource ≡ t.shown.resource = ap (λ (x : Session ItemOut). x.shown.resource) (sym same) ∙ all.resource t in
           rw (a, b) is
 
+  row_after : (n : ℕ) (f : Session ItemOut → Session ItemOut) → ((t : Session ItemOut) → t.shown.number ≡ n → IsRowRepresented v.row (Some t) → IsRowRepresented v.row (Some (f t))) →
+      (o : Option (Session ItemOut)) → IsRowRepresented v.row o → IsRowRepresented v.row (option_map (changes_one n f) o)
+  row_after n f here None shown = shown
+  row_after n f here (Some t) shown =
+      elim (cases_Bool (t.shown.number == n)) [
+        | inl same ↦ rw same (here t (eqb-true t.shown.number n same) shown)
+        | inr other ↦ rw other shown
+      ]
+
   -- one of another
   pub apart_row : (n : ℕ) (f : Session ItemOut → Session ItemOut) → IsNotOf v.row n → IsRowRepresented v.row (option_map (changes_one n f) (session_named who.account who.resource h.sessions))
-  apart_row n f apart = go mine represents.row
-    where
-      go : (o : Option (Session ItemOut)) → IsRowRepresented v.row o → IsRowRepresented v.row (option_map (changes_one n f) o)
-      go None shown = shown
-      go (Some t) shown =
-          elim (cases_Bool (t.shown.number == n)) [
-            | inl same ↦ absurd (row_has v.row t n refl apart (eqb-true t.shown.number n same) shown)
-            | inr other ↦ rw other shown
-          ]
+  apart_row n f apart = row_after n f (λ t number shown. absurd (row_has v.row t n refl apart number shown)) mine represents.row
 
   -- one that may be its own
   pub fair_row : (n : ℕ) (f : Session ItemOut → Session ItemOut) → LeavesRow f → IsCountedAt v.row n → IsRowRepresented v.row (option_map (changes_one n f) (session_named who.account who.resource h.sessions))
-  fair_row n f leaves counted = go mine represents.row
+  fair_row n f leaves counted = row_after n f (λ t number shown. changed_so v.row t refl number shown) mine represents.row
     where
       changed_so : (o : Option (Row ItemOut)) (t : Session ItemOut) → v.row ≡ o → t.shown.number ≡ n → IsRowRepresented o (Some t) → IsRowRepresented o (Some (f t))
       changed_so None t is number shown = shown
       changed_so (Some r) t is number shown = leaves r t (counted r is (sym shown.number ∙ number)) shown
-
-      go : (o : Option (Session ItemOut)) → IsRowRepresented v.row o → IsRowRepresented v.row (option_map (changes_one n f) o)
-      go None shown = shown
-      go (Some t) shown =
-          elim (cases_Bool (t.shown.number == n)) [
-            | inl same ↦ rw same (changed_so v.row t refl (eqb-true t.shown.number n same) shown)
-            | inr other ↦ rw other shown
-          ]
 
   -- ---- sessions end
 

@@ -8,7 +8,6 @@ use Rattle.sim_4_links_follow.proofs.Stays.{no_labels, reached_along}
 use Rattle.sim_4_links_follow.specs.Following.{WorldFollows}
 use Rattle.srv_state.specs.Moments.{at_moment, gone_at}
 use Rattle.srv_state.specs.State.{ServerState}
-use Rattle.sim_3_items.specs.Frames.{SameClient}
 use Rattle.sim_3_items.specs.Identities.{Identity, Login}
 use Rattle.sim_3_items.specs.Pipes.{by_number}
 use Rattle.sim_3_items.specs.Servers.{ServerFollows}
@@ -21,7 +20,7 @@ use Rattle.sim_2_links.specs.Machine.{LinkReached}
 use Rattle.sim_2_links.specs.Stages.{Conn}
 use Rattle.sim_2_links.specs.Views.{Table, View, with_at}
 use Rattle.sim_4_links_follow.proofs.Ends.{end_stays}
-use Rattle.sim_4_links_follow.proofs.Former.{keeps_both}
+use Rattle.sim_4_links_follow.proofs.Former.{same_clients}
 use Rattle.sim_4_links_follow.proofs.GoneRows.{gone_follows}
 use Rattle.sim_4_links_follow.proofs.MomentRows.{moment_follows}
 use Rattle.sim_4_links_follow.specs.Taking.{IsOver}
@@ -38,14 +37,6 @@ pub tick_in : (who : Identity) (logins : ℕ → Login) (w : ItemWorld) (v : Vie
 tick_in who logins w v milliseconds s = tick_lifts who logins w v s milliseconds [] tt (moment_in who logins w v (w.moment + milliseconds) s)
 
 -- ---- an end
-
-same_clients : (u v w : View ItemOut) → SameClient u v → SameClient v w → SameClient u w
-same_clients u v w first then_so = record {
-  here = then_so.here ∙ first.here;
-  own = then_so.own ∙ first.own;
-  epoch = then_so.epoch ∙ first.epoch;
-  conns = λ k. keeps_both (u.conns k) (v.conns k) (w.conns k) (first.conns k) (then_so.conns k);
-}
 
 -- what the server does first, and then
 both_quiet : (who : Identity) (logins : ℕ → Login) (h last : ServerState ItemOut) (wires after : Table ItemWire) (v : View ItemOut) (f : ServerFollows who logins h wires v []) → ServerFollows who logins last after f.next [] → ServerFollows who logins last after v []

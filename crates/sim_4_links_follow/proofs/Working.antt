@@ -31,6 +31,7 @@ use Rattle.sim_4_links_follow.proofs.Servings.{Known, known_altered}
 use Rattle.sim_4_links_follow.proofs.Hearing.{left_silent, wire_heard_as, wire_left}
 use Rattle.sim_4_links_follow.proofs.Stays.{keeps_server_at}
 use Rattle.xml_writer.specs.Items.{ItemOut}
+use Rattle.std.proofs.lemmas.Option.{same_Some}
 
 -- ---- what is shown
 
@@ -60,9 +61,6 @@ same_server v next k c after is conns row free known phase ending gone = record 
 
 -- ---- the client
 
-pub some_position : (a b : ℕ) → Some a ≡ Some b → a ≡ b
-some_position a b same = cc
-
 module _ (who : Identity) (logins : ℕ → Login) (d : ItemDevice) (v : View ItemOut) (old : ClientRepresents who logins d v) where
   -- it works on with its connection
   pub client_works : (next : View ItemOut) (k : ℕ) (c : Conn ItemOut) (client : ClientView ItemOut) → v.here ≡ Some k → next.here ≡ v.here → next.conns k ≡ Some c → client.account ≡ d.client.account → client.epoch ≡ next.epoch
@@ -81,7 +79,7 @@ module _ (who : Identity) (logins : ℕ → Login) (d : ItemDevice) (v : View It
       now = same ∙ here
 
       number : (position : ℕ) → d.here ≡ Some position → k ≡ position + 1
-      number position at = let had = old.here k here in had.1 ∙ ap (λ n. n + 1) (some_position had.0 position (sym had.2 ∙ at))
+      number position at = let had = old.here k here in had.1 ∙ ap (λ n. n + 1) (same_Some had.0 position (sym had.2 ∙ at))
 
       there : (position : ℕ) → d.here ≡ Some position → next.conns (position + 1) ≡ Some c
       there position at = subst (λ n. next.conns n ≡ Some c) (number position at) conn
@@ -90,7 +88,7 @@ module _ (who : Identity) (logins : ℕ → Login) (d : ItemDevice) (v : View It
       works_there position at = now ∙ ap Some (number position at)
 
       one_here : (j : ℕ) → next.here ≡ Some j → k ≡ j
-      one_here j at = some_position k j (sym now ∙ at)
+      one_here j at = same_Some k j (sym now ∙ at)
 
       phase_at : (j : ℕ) (e : Conn ItemOut) → k ≡ j → next.conns j ≡ Some e → client.phase ≡ client_phase who (logins j) e.client
       phase_at j e at is = subst (λ n. client.phase ≡ client_phase who (logins n) e.client) at (phase ∙ ap (λ (a : Conn ItemOut). client_phase who (logins k) a.client) (some_one (next.conns k) c e conn (subst (λ n. next.conns n ≡ Some e) (sym at) is)))
@@ -114,10 +112,10 @@ module _ (who : Identity) (logins : ℕ → Login) (d : ItemDevice) (v : View It
 -- ---- behind a word
 
 module _ (who : Identity) (logins : ℕ → Login) (d : ItemDevice) (wires : Table ItemWire) (v : View ItemOut) (k : ℕ) (word : DownWord ItemOut) (p : IsNextDown who logins d wires v k word) where
-  pub kept_here : LinkKept v
+  abbrev pub kept_here : LinkKept v
   kept_here = link_kept v p.shown.reached
 
-  pub wire_here : IsWire who (logins k) k p.conn p.wire
+  abbrev pub wire_here : IsWire who (logins k) k p.conn p.wire
   wire_here = shown_wire who (logins k) k (v.conns k) (wires k) p.conn p.wire p.is p.there (p.shown.pipes.each k)
 
   pub phase_here : (client : Client) → p.conn.client ≡ client → d.client.phase ≡ client_phase who (logins k) client

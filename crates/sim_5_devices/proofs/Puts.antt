@@ -63,27 +63,21 @@ module _ (c e : ClientView ItemOut) (d : Sessions) (s : SessionView ItemOut) whe
   pub request_told : (z : ItemOut) (r : Request) → SubmissionsRepresent c d → IsAcked d → SameSaid c e → c.session ≡ Some s → e.session ≡ Some (with_waiting s (queued s.waiting z false)) → SubmissionsRepresent e (put_up (Query r) d)
   request_told z r represents acked same is put =
       shown e (put_up (Query r) d) u put
-      (put_stands c e d s u (Query r) d.n st acked same.epoch (same.n ∙ st.n) (ap (λ said. lines said.settled) same.said) (ap (λ said. lines said.waiting) same.said ∙ sym (append-nil (lines c.said.waiting))) refl)
+      (put_stands c e d s u (Query r) d.n (stands c d s is represents) acked same.epoch (same.n ∙ (stands c d s is represents).n) (ap (λ said. lines said.settled) same.said) (ap (λ said. lines said.waiting) same.said ∙ sym (append-nil (lines c.said.waiting))) refl)
     where
       u : SessionView ItemOut
       u = with_waiting s (queued s.waiting z false)
 
-      st : Stands c d s
-      st = stands c d s is represents
-
   pub handled_told : (y : Down) (rest : List Down) → SubmissionsRepresent c d → SameSaid c e → c.session ≡ Some s → e.session ≡ Some (with_waiting s (counted_in s.waiting)) → SubmissionsRepresent e (moved_down y rest d)
   handled_told y rest represents same is handled =
       shown e (moved_down y rest d) (with_waiting s (counted_in s.waiting)) handled (record {
-        epoch = same.epoch ∙ st.epoch;
-        n = same.n ∙ st.n;
-        online = st.online;
-        settled = ap (λ said. lines said.settled) same.said ∙ st.settled;
-        waiting = ap (λ said. lines said.waiting) same.said ∙ st.waiting;
-        kinds = st.kinds;
+        epoch = same.epoch ∙ (stands c d s is represents).epoch;
+        n = same.n ∙ (stands c d s is represents).n;
+        online = (stands c d s is represents).online;
+        settled = ap (λ said. lines said.settled) same.said ∙ (stands c d s is represents).settled;
+        waiting = ap (λ said. lines said.waiting) same.said ∙ (stands c d s is represents).waiting;
+        kinds = (stands c d s is represents).kinds;
       })
-    where
-      st : Stands c d s
-      st = stands c d s is represents
 
 -- nothing more is put
 nothing_put : (d : Sessions) → put_all [] d ≡ d

@@ -33,7 +33,7 @@ use Rattle.sim_1_applications.specs.Events.{goes_offline, put_up, reads_bound}
 use Rattle.sim_1_applications.specs.Stanzas.{Carbons, Presence, messages}
 use Rattle.sim_1_applications.specs.Reported.{mark_of, said_among, said_in}
 use Rattle.sim_5_devices.proofs.Lines.{lines, lines_as, lines_in, marked, marked_lines}
-use Rattle.sim_5_devices.proofs.Shown.{Stands, has_none, nothing_waiting, past_lines, report_parts, stands}
+use Rattle.sim_5_devices.proofs.Shown.{has_none, nothing_waiting, past_lines, report_parts, stands}
 use Rattle.sim_5_devices.specs.Told.{IsBinding, IsEntering}
 use Rattle.xml_writer.specs.Items.{Closing, ItemOut}
 
@@ -90,14 +90,11 @@ module _ (c : ClientView ItemOut) (d : Sessions) (represents : SubmissionsRepres
     said =
         ap lines (append-nil (c.said.settled ++ map (in_state state.Undecided) c.said.waiting))
         ∙ map-append device.said_line c.said.settled (map (in_state state.Undecided) c.said.waiting)
-        ∙ ap₂ (λ xs ys. xs ++ ys) st.settled
-        (lines_in state.Undecided c.said.waiting ∙ ap (map (marked Undecided)) st.waiting ∙ marked_lines Waiting Undecided (messages (outstanding d)))
+        ∙ ap₂ (λ xs ys. xs ++ ys) (stands c d s is represents).settled
+        (lines_in state.Undecided c.said.waiting ∙ ap (map (marked Undecided)) (stands c d s is represents).waiting ∙ marked_lines Waiting Undecided (messages (outstanding d)))
         ∙ sym (report_parts (goes_offline d));
     waiting = refl;
   }
-    where
-      st : Stands c d s
-      st = stands c d s is represents
 
   given_up : SubmissionsRepresent (dropped c) (goes_offline d)
   given_up = by c.session refl

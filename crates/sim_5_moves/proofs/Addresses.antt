@@ -20,11 +20,8 @@ use Rattle.cmd_schedule.specs.Grammar.{is_name}
 joined_bare : (account : List ℕ) → is_name account ≡ true → IsJoined (Some account) domain None
 joined_bare account is = are_joined (Some account) domain None (record { local_stays = local_stays account is; domain_stays = domain_stays; resource_stays = tt })
 
-spelled_bare : (account : List ℕ) → address_text (Some account) domain None ≡ bare_address account
-spelled_bare account = append-nil ((account ++ 64 ∷ []) ++ domain) ∙ append_assoc account (64 ∷ []) domain
-
 pub no_resource : (account : List ℕ) → is_name account ≡ true → resource_of (bare_address account) ≡ None
-no_resource account is = subst (λ t. resource_of t ≡ None) (spelled_bare account) (joined_bare account is).resource_is
+no_resource account is = subst (λ t. resource_of t ≡ None) (append-nil ((account ++ 64 ∷ []) ++ domain) ∙ append_assoc account (64 ∷ []) domain) (joined_bare account is).resource_is
 
 joined_full : (account device : List ℕ) → is_name account ≡ true → is_name device ≡ true → IsJoined (Some account) domain (Some device)
 joined_full account device is named =

@@ -30,6 +30,7 @@ use Rattle.srv_core.specs.Table.{at_open, at_word}
 use Rattle.sim_5_moves.proofs.Flagged.{Flagged, FlaggedAs, flagged_about, flags_begin, flags_end, owns_about}
 use Rattle.sim_5_moves.proofs.NonStanzaActs.{IsAbout, then_non_stanza}
 use Rattle.sim_5_moves.proofs.NonStanzaRows.{non_stanza_parting}
+use Rattle.sim_5_moves.proofs.Mutes.{all_any}
 use Rattle.sim_5_moves.specs.Coming.{MayBind, behind_item}
 use Rattle.srv_handlers.specs.Bindings.{binding_as, chosen, former_of}
 use Rattle.sim_3_items.specs.Served.{FlagsRepresent, IsOfDevice, ServerSimulates}
@@ -128,11 +129,7 @@ module _ (owned : List Owned) (names : List (List ℕ)) (k account : ℕ) (o : O
       runs_on keep owned names takes h (behind_item k (bind_item resource) h).server_state goes.domain goes.accounts goes.archives goes.sessions runs
 
   pub bind_silent : (moment : ℕ) → takes_reported moment (behind_item k (bind_item resource) h).outs ≡ []
-  bind_silent moment = (bind_goes (λ s. Unit {0}) (λ s t number accounts resources available carbons priority is. tt) (each (less (session_named account resource h.sessions) h.sessions)) tt).told moment
-    where
-      each : (ss : List (Session ItemOut)) → AllByRecursion (λ s. Unit {0}) ss
-      each [] = tt
-      each (s ∷ ss) = (tt, each ss)
+  bind_silent moment = (bind_goes (λ s. Unit {0}) (λ s t number accounts resources available carbons priority is. tt) (all_any (less (session_named account resource h.sessions) h.sessions)) tt).told moment
 
   pub bind_flags : (d : Sessions) → IsRule h.sessions h.next → FlagsRepresent account resource (behind_item k (bind_item resource) h).server_state (binds d)
   bind_flags d rule = λ live t found.

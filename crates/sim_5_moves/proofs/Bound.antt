@@ -24,7 +24,7 @@ use Rattle.sim_5_moves.specs.WordsRunWords.{IsBare, IsDeviceOf}
 use Rattle.xml_writer.specs.Items.{ItemOut}
 
 module _ (who : Identity) (logins : ℕ → Login) (h : ServerState ItemOut) (wires : Table ItemWire) (v : View ItemOut) (k : ℕ) (p : IsFirst who logins h wires v k Bind) where
-  kept : LinkKept v
+  abbrev kept : LinkKept v
   kept = kept_here who logins h wires v k Bind p
 
   ready : p.conn.phase ≡ Ready

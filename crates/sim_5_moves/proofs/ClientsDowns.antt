@@ -168,7 +168,7 @@ module _ (schedule : WireView) (b : Bounds) (small : AreSmall b) (says : ℕ) (w
   timely : AreInTime (noted t.out.notes) old.device.sessions.now
   timely = subst (λ ds. AreInTime ds old.device.sessions.now) (sym done_so) (reads_in_time (around x old.device) old.device z (puts_of r) paged (ups_are r asked_so))
 
-  done : (end : Sessions) × DoesInterleaved stanzas_read (labels_of follows.moves) old.device.sessions end × IsDevice stanzas_read (seen follows.next) end
+  abbrev done : (end : Sessions) × DoesInterleaved stanzas_read (labels_of follows.moves) old.device.sessions end × IsDevice stanzas_read (seen follows.next) end
   done = moves_done stanzas_read follows.moves old.view follows.next old.device.sessions p.shown.reached follows.leads old.sessions
 
   abbrev goes_so : DeviceGoes schedule after i o history (noted t.out.notes) old.device.sessions old.view
@@ -231,7 +231,7 @@ module _ (schedule : WireView) (b : Bounds) (small : AreSmall b) (says : ℕ) (w
   silent : spoken_in events ≡ []
   silent = act_spoken i (session_steps schedule w x i o old z known goes_so.end interleaved) ClientHandles
 
-  leads : (j : ℕ) (e f : Device) → slice_get x.devices j ≡ Some e → slice_get next_world.devices j ≡ Some f → LeadsTo e f
+  abbrev leads : (j : ℕ) (e f : Device) → slice_get x.devices j ≡ Some e → slice_get next_world.devices j ≡ Some f → LeadsTo e f
   leads j e f at after_at = leads_along events x next_world j e f ground.taken ground.read (all_between j i (session_steps schedule w x i o old z known goes_so.end interleaved)) reaches at after_at
 
   asked_still : next.reading.asked ≤ b.pages + 1

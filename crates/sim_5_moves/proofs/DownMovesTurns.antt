@@ -1,5 +1,5 @@
 -- On some words a client notes nothing down of stanzas, and its user has what he had.
-use Rattle.std.proofs.Common.{◌≡◌, ◌⊎◌, ℕ, Bool, true, false, List, [], Option, Some, None, Result, Ok, Err, codes, if◌then◌else◌, refl, sym, subst, inl, inr}
+use Rattle.std.proofs.Common.{◌≡◌, ℕ, Bool, true, false, List, [], Option, Some, None, Result, Ok, Err, codes, if◌then◌else◌, refl, sym, subst, inl, inr}
 use Rattle.cl_core.specs.Steps.{online_in, stream_condition}
 use Rattle.cl_login.specs.LoginRows as rows
 use Rattle.cl_login.specs.LoginRows.{other_fault}
@@ -8,7 +8,7 @@ use Rattle.cl_login.specs.declared.answers.Next.{Next}
 use Rattle.cl_login.specs.declared.answers.Next.TheVariants as next
 use Rattle.cl_login.specs.declared.login_state.LoginState.{LoginState}
 use Rattle.cl_login.specs.declared.login_state.LoginState.TheVariants as state
-use Rattle.sim_4_links_follow.proofs.AllReads.{counts_read, end_read, expected, login_read}
+use Rattle.sim_4_links_follow.proofs.AllReads.{counts_read, end_read, expected, login_read, no_count}
 use Rattle.sim_4_links_follow.proofs.Turning.{element_at, header_at, on_element}
 use Rattle.sim_4_links_follow.proofs.Working.{phase_here}
 use Rattle.cl_handlers.specs.Clients.{ClientStep, ClientView}
@@ -135,10 +135,6 @@ module _ (d : ItemDevice) where
 -- ---- words
 
 module _ (who : Identity) (logins : ℕ → Login) (d : ItemDevice) (wires : Table ItemWire) (v : View ItemOut) (k : ℕ) where
-  never : (TooHigh ≡ Conflict) ⊎ (TooHigh ≡ Constraint) → ⊥
-  never (inl e) = cc e
-  never (inr e) = cc e
-
   pub word_calm : (word : DownWord ItemOut) (p : IsNextDown who logins d wires v k word) → IsSilentWord word → IsCalm d.client (client_step_on (down_item who (logins k) k (is_after_login p.conn.client) word) d)
   word_calm Head p is = header_calm d d.client.phase
   word_calm Feat p is = elim (expected who logins d wires v k Feat p) [
@@ -152,7 +148,7 @@ module _ (who : Identity) (logins : ℕ → Login) (d : ItemDevice) (wires : Tab
   word_calm (Down Req) p is = let e = expected who logins d wires v k (Down Req) p in request_item d (phase_here who logins d wires v k (Down Req) p (InOnline e.0.number) e.2)
   word_calm (Err Conflict) p is = error_item d (codes "conflict")
   word_calm (Err Constraint) p is = error_item d (codes "resource-constraint")
-  word_calm (Err TooHigh) p is = absurd (never (expected who logins d wires v k (Err TooHigh) p))
+  word_calm (Err TooHigh) p is = absurd (no_count (expected who logins d wires v k (Err TooHigh) p))
   word_calm End p is = absurd (expected who logins d wires v k End p)
   word_calm _ p is = absurd is
 

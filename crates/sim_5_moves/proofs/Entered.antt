@@ -160,5 +160,8 @@ module _ (schedule : WireView) (b : Bounds) (says : ℕ) (w : ItemWorld) (x : Ap
       flags = flags_there schedule b says w x c sorted.0 there sorted.2 (ap (λ (s : Sessions). s.row) ends_so);
     }
 
-    pub entered_runs : MoveSimulates schedule b says (Down c.position) w x c.runs
+    abbrev IsRunSo : Type 0
+    IsRunSo = MoveSimulates schedule b says (Down c.position) w x c.runs
+
+    pub entered_runs : IsRunSo
     entered_runs = heard_runs schedule b says w x c (acted_by schedule b says w x c ReadEnabled there) acts

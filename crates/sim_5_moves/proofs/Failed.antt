@@ -68,5 +68,8 @@ module _ (schedule : WireView) (b : Bounds) (says : ℕ) (w : ItemWorld) (x : Ap
       flags = flags_there schedule b says w x c sorted.0 there sorted.2 (ap (λ (s : Sessions). s.row) ends_so);
     }
 
-    pub failed_runs : MoveSimulates schedule b says (Down c.position) w x c.runs
+    abbrev IsRunSo : Type 0
+    IsRunSo = MoveSimulates schedule b says (Down c.position) w x c.runs
+
+    pub failed_runs : IsRunSo
     failed_runs = heard_runs schedule b says w x c (acted_by schedule b says w x c Drop there) drops

@@ -11,6 +11,7 @@ use Rattle.sim_1_applications.specs.Devices.{Device, NoRow, Present, Row, Sessio
 use Rattle.sim_1_applications.specs.Events.{ReadBound, binds, counts, end_row, is_present, reads_bound}
 use Rattle.sim_5_moves.specs.WordsRunWords.{IsBare, binds_between}
 use Rattle.xml_writer.specs.Items.{ItemOut}
+use Rattle.sim_5_devices.proofs.Given.{stays_away}
 
 pub not_present : (r : Row) → r ≢ Present → is_present r ≡ false
 not_present NoRow other = refl
@@ -69,15 +70,9 @@ module _ (account : ℕ) (resource : List ℕ) (h : ServerState ItemOut) where
       let gone = not_present d.row absent in
       (f.0 ∙ sym (ap (λ b. b && d.now.available) gone), f.1 ∙ sym (ap (λ b. b && d.now.carbons) gone), f.2)
 
-  absent_still : (xs : List SessionStep) (d last : Sessions) → SessionSteps xs d last → d.row ≢ Present → last.row ≢ Present
-  absent_still [] d last session_steps absent = subst (λ (e : Sessions). e.row ≢ Present) (sym session_steps) absent
-  absent_still (Binds ∷ xs) d last session_steps absent = absent_still xs (binds d) last session_steps.1 (λ e. let no_way : ⊥ = cc in no_way)
-  absent_still (Counts ∷ xs) d last session_steps absent = absurd (absent (session_steps.0 (with_sessions_of d) refl).0)
-  absent_still (Ends ∷ xs) d last session_steps absent = absent_still xs (end_row d) last session_steps.1 (λ e. let no_way : ⊥ = cc in no_way)
-
   pub bound_absent : (xs : List SessionStep) (d last : Sessions) → binds_between xs ≡ true → SessionSteps xs d last → last.row ≢ Present
   bound_absent [] d last some session_steps = absurd (false≢true some)
-  bound_absent (Binds ∷ xs) d last some session_steps = absent_still xs (binds d) last session_steps.1 (λ e. let no_way : ⊥ = cc in no_way)
+  bound_absent (Binds ∷ xs) d last some session_steps = stays_away xs (binds d) last session_steps.1 (λ e. let no_way : ⊥ = cc in no_way)
   bound_absent (Counts ∷ xs) d last some session_steps = bound_absent xs (counts d) last some session_steps.1
   bound_absent (Ends ∷ xs) d last some session_steps = bound_absent xs (end_row d) last some session_steps.1
 

@@ -4,12 +4,10 @@ use Rattle.std.proofs.lemmas.Bool.{cases_Bool, eq-eqb, false≢true}
 use Rattle.std.proofs.lemmas.Option.{none-some}
 use Rattle.std.specs.List.{AllByRecursion, find}
 use Rattle.std.specs.Option.{option_map}
-use Rattle.std.specs.Result.{result_ok}
 use Rattle.srv_state.specs.State.{ServerState, Step, full_address}
 use Rattle.srv_state.specs.Steps as steps
 use Rattle.srv_state.specs.Steps.{Say, act, acted, put, shut}
 use Rattle.srv_state.specs.Streams.{parting_where, standing_of}
-use Rattle.srv_state.specs.Words.{is_long}
 use Rattle.srv_state.specs.declared.connection.Phase.TheVariants as phase
 use Rattle.srv_state.specs.declared.connection.Standing.{Standing}
 use Rattle.srv_state.specs.declared.connection.Tries.TheVariants as tries
@@ -31,15 +29,13 @@ use Rattle.im_replies.specs.Streams.{error_item}
 use Rattle.im_replies.specs.declared.conditions.StreamCondition.TheVariants.{Conflict}
 use Rattle.sim_5_moves.proofs.RepliesFlags.{found_has}
 use Rattle.sim_5_moves.proofs.Walks.{Goes, IsSteady, then_put, then_shut}
-use Rattle.sim_4_links_follow.proofs.BindReads.{bind_elem, bind_word, resource_asked, resource_chosen}
-use Rattle.sim_4_links_follow.proofs.HandMoves.{kept_here, row_here}
+use Rattle.sim_4_links_follow.proofs.HandMoves.{kept_here}
 use Rattle.sim_4_links_follow.proofs.Leavings.{unseated}
+use Rattle.sim_4_links_follow.proofs.Binds.{bind_step}
 use Rattle.sim_3_images.proofs.RuleKept.{named_gone}
 use Rattle.sim_4_links_follow.specs.Taking.{IsFirst, on_item}
-use Rattle.srv_handlers.specs.Bindings.{binding_as, chosen, former_of}
+use Rattle.srv_handlers.specs.Bindings.{former_of}
 use Rattle.sim_1_applications.proofs.Lists.{all_append}
-use Rattle.im_stanza.specs.Readings.{stanza_of}
-use Rattle.srv_core.specs.Ready.{at_ready_or_bound}
 use Rattle.sim_5_moves.specs.WordsRunWords.{IsBare}
 use Rattle.xml_writer.specs.Items.{Closing, ItemOut}
 
@@ -68,7 +64,7 @@ parting_goes account resource k (Some f) error z s next goes =
     (then_shut P ready f s (put f Closing (put f error next)) (then_put P ready f Closing s (put f error next) (then_put P ready f error s next goes)))
 
 module _ (who : Identity) (logins : ℕ → Login) (h : ServerState ItemOut) (wires : Table ItemWire) (v : View ItemOut) (k : ℕ) (p : IsFirst who logins h wires v k Bind) where
-  kept : LinkKept v
+  abbrev kept : LinkKept v
   kept = kept_here who logins h wires v k Bind p
 
   ready : p.conn.phase ≡ Ready
@@ -82,15 +78,6 @@ module _ (who : Identity) (logins : ℕ → Login) (h : ServerState ItemOut) (wi
 
   abbrev standing : Standing
   standing = standing_of (record { entropy = (logins k).yours; phase = phase.Ready who.account; tries = tries.Three })
-
-  -- the server binds
-  bind_step : on_item k (up_item who (logins k) Bind) h ≡ acted itself (binding_as itself k who.account (codes "bind") (Some who.resource) h) (step_of h)
-  bind_step =
-      row_here who logins h wires v k Bind p Ready (item.Element (bind_elem who.resource)) ready
-      ∙ ap (λ w. acted itself (at_ready_or_bound itself k who.account w (option_map told (session_at k h.sessions)) standing h) (step_of h)) (bind_word who.resource)
-      ∙ ap (λ o. acted itself (at_ready_or_bound itself k who.account (word.Stanza (is_long (bind_elem who.resource)) (stanza_of (bind_elem who.resource))) (option_map told o) standing h) (step_of h)) none_here
-      ∙ ap (λ r. acted itself (binding_as itself k who.account (codes "bind") (result_ok (chosen h.next r)) h) (step_of h)) (resource_asked who.resource)
-      ∙ ap (λ r. acted itself (binding_as itself k who.account (codes "bind") (result_ok r) h) (step_of h)) (resource_chosen h.next who.resource p.normal.chosen p.normal.resource)
 
   abbrev IsNew : Session ItemOut → Type 0
   IsNew = IsUncounted who.account who.resource
@@ -122,7 +109,7 @@ module _ (who : Identity) (logins : ℕ → Login) (h : ServerState ItemOut) (wi
 
   bind_goes : Goes IsNew (step_of h) (on_item k (up_item who (logins k) Bind) h)
   bind_goes =
-      subst (Goes IsNew (step_of h)) (sym bind_step)
+      subst (Goes IsNew (step_of h)) (sym (bind_step who logins h wires v k p))
       (parting_goes who.account who.resource k (former_of (option_map ended_of (session_named who.account who.resource h.sessions))) (error_item Conflict) (bound_item (codes "bind") (full_address who.account who.resource h)) (step_of h) first first_goes)
 
   uncounted : (s : Session ItemOut) → session_named who.account who.resource (on_item k (up_item who (logins k) Bind) h).server_state.sessions ≡ Some s → s.shown.counted ≡ false

@@ -73,7 +73,7 @@ module _ (schedule : WireView) (b : Bounds) (says : ℕ) (w : ItemWorld) (x : Ap
     reached : LinkReached r.view
     reached = prompt_runs awaits r.view r.prompt
 
-    done : (end : Sessions) × DoesInterleaved stanzas_read (labels_of follows.moves) r.device.sessions end × IsDevice stanzas_read (seen follows.next) end
+    abbrev done : (end : Sessions) × DoesInterleaved stanzas_read (labels_of follows.moves) r.device.sessions end × IsDevice stanzas_read (seen follows.next) end
     done = moves_done stanzas_read follows.moves r.view follows.next r.device.sessions reached follows.leads r.sessions
 
     abbrev g : DeviceGoes schedule (moved m w) i o (history_for schedule x.takes o) (Drops ∷ []) r.device.sessions r.view

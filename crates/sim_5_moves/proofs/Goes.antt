@@ -56,7 +56,7 @@ module _ (schedule : WireView) (b : Bounds) (small : AreSmall b) (says : ℕ) (w
       let most = small.dials in
       omega (arith, next, dialled, most)
 
-  pub reached : (i : ℕ) (o : Owned) (old : DeviceSimulates schedule w x i o) → LinkReached old.view
+  abbrev pub reached : (i : ℕ) (o : Owned) (old : DeviceSimulates schedule w x i o) → LinkReached old.view
   reached i o old = prompt_runs awaits old.view old.prompt
 
   pub countable : (i : ℕ) (o : Owned) (old : DeviceSimulates schedule w x i o) → AreCountable old.view

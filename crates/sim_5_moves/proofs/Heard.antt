@@ -3,7 +3,6 @@ use Rattle.std.proofs.Common.{◌≡◌, ℕ, ◌+◌, ◌⊎◌, ◌==◌, ◌&
 use Rattle.std.proofs.lemmas.Bool.{and_parts, cases_Bool, eq-eqb, eqb-true, false≢true, or_left, or_right}
 use Rattle.std.proofs.lemmas.List.{map-append}
 use Rattle.std.proofs.lemmas.Option.{same_Some}
-use Rattle.std.specs.Cmp.Lexicographic.{nat_list_eq_equiv}
 use Rattle.std.specs.List.{AllByRecursion, list_any, slice_get}
 use Rattle.std.specs.Option.{option_map}
 use Rattle.std.specs.Str.{bytes_eq}
@@ -47,6 +46,7 @@ use Rattle.sim_1_applications.specs.Reported.{history_at}
 use Rattle.im_stanza.specs.Views.{MessageView}
 use Rattle.xml_trees.specs.Trees.{Elem}
 use Rattle.xml_writer.specs.Items.{ItemOut}
+use Rattle.mam_log.proofs.Orders.{bytes_eq-sym}
 
 -- ---- items that are read as stanzas, and are built as they are read
 
@@ -101,14 +101,11 @@ module _ {keep : ℕ} {owned : List Owned} {names : List (List ℕ)} {takes : Li
 
   -- ---- by names
 
-  rendered : (a b : List ℕ) → bytes_eq a b ≡ bytes_eq b a
-  rendered a b = nat_list_eq_equiv.symm a b
-
   senders_is : of_senders ≡ bytes_eq p.account o.account
-  senders_is = same_name x s.shown.account u.shown.account o.account p.account x.session.account v.account ∙ rendered o.account p.account
+  senders_is = same_name x s.shown.account u.shown.account o.account p.account x.session.account v.account ∙ bytes_eq-sym o.account p.account
 
   recipients_is : of_recipients ≡ bytes_eq p.account m.to
-  recipients_is = same_name x account u.shown.account m.to p.account at v.account ∙ rendered m.to p.account
+  recipients_is = same_name x account u.shown.account m.to p.account at v.account ∙ bytes_eq-sym m.to p.account
 
   one_of_both : (of_senders || of_recipients) ≡ concerns p.account take
   one_of_both = ap₂ (λ a b. a || b) senders_is recipients_is

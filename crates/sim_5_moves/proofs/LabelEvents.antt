@@ -1,8 +1,8 @@
 -- What the server gives in the links is what the events of the applications need.
-use Rattle.std.proofs.Common.{◌≡◌, ◌≢◌, ◌⊎◌, ℕ, ◌&&◌, Bool, true, false, List, [], ◌∷◌, ◌++◌, map, refl, sym, ap, subst, ◌∙◌, append-nil, inl, inr}
+use Rattle.std.proofs.Common.{◌≡◌, ◌≢◌, ◌⊎◌, ℕ, Bool, true, false, List, [], ◌∷◌, ◌++◌, map, refl, sym, ap, subst, ◌∙◌, inl, inr}
 use Rattle.sim_3_items.specs.Labels.{Takes, gives_all}
 use Rattle.sim_2_events.specs.Lists.{IsCounting, Stanzas}
-use Rattle.sim_5_devices.proofs.Given.{given_at_once, taken_at_once}
+use Rattle.sim_5_devices.proofs.Given.{given_at_once, taken_at_once, none_put}
 use Rattle.sim_5_devices.proofs.Sorted.{enable_at, with_sessions}
 use Rattle.sim_5_devices.specs.Labels.{Binds, Counts, DoesInterleaved, Ends, IsGivenAtOnce, IsTakenAtOnce, SessionStep, SessionSteps, session_stepped}
 use Rattle.sim_1_applications.specs.Devices.{Device, Row, Sessions, Take}
@@ -14,7 +14,7 @@ use Rattle.sim_1_applications.specs.Stanzas.Down.{Live}
 use Rattle.sim_1_applications.specs.Stanzas.Up.{Message}
 use Rattle.sim_5_moves.proofs.ReplyEvents.{session_steps_ended}
 use Rattle.sim_5_moves.specs.Handled.{IsHeardOf, IsRepliedTo, IsTakenOf, IsToldOf}
-use Rattle.sim_5_moves.proofs.MessageEvents.{none_put}
+use Rattle.std.proofs.lemmas.Bool.{and_parts}
 
 -- ---- who hears behind drifts
 
@@ -32,12 +32,8 @@ hears_on t j e (Counts ∷ xs) d there by here = hears_on t j e xs (session_step
 hears_on t j e (Ends ∷ xs) d there by here = absurd (stays_away xs (session_stepped Ends d) there by.1 (λ same. cc) here)
 
 heard_present : (t : Take) (j : ℕ) (e : Device) → hears_of t j e ≡ true → e.sessions.row ≡ Present
-heard_present t j e is = go e.sessions.row refl (sure (is_present e.sessions.row) _ is)
+heard_present t j e is = go e.sessions.row refl ((and_parts (is_present e.sessions.row) _ is).0)
   where
-    sure : (a b : Bool) → (a && b) ≡ true → a ≡ true
-    sure true b so = refl
-    sure false b so = absurd (let no_way : ⊥ = cc in no_way)
-
     go : (row : Row) → e.sessions.row ≡ row → is_present row ≡ true → row ≡ Present
     go NoRow same so = absurd (let no_way : ⊥ = cc in no_way)
     go Unread same so = absurd (let no_way : ⊥ = cc in no_way)

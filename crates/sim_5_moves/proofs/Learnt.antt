@@ -115,5 +115,8 @@ module _ (schedule : WireView) (b : Bounds) (says : ℕ) (w : ItemWorld) (x : Ap
       flags = flags_there schedule b says w x c sorted.0 there sorted.2 (ap (λ (y : Sessions). y.row) l.is);
     }
 
-    pub learns_runs : MoveSimulates schedule b says (Down c.position) w x c.runs
+    abbrev IsRunSo : Type 0
+    IsRunSo = MoveSimulates schedule b says (Down c.position) w x c.runs
+
+    pub learns_runs : IsRunSo
     learns_runs = heard_runs schedule b says w x c (acted_by schedule b says w x c (Acknowledge l.count) there) acts

@@ -1,24 +1,21 @@
 -- A message that is taken, amid drifts, is an event of the world of the applications.
-use Rattle.std.proofs.Common.{◌≡◌, ◌≢◌, ℕ, zero, suc, ◌+◌, ◌==◌, Bool, true, List, [], ◌∷◌, ◌++◌, Some, length, refl, sym, ap, ap₂, subst, ◌∙◌, append-nil, arith, inl, inr, if◌then◌else◌}
+use Rattle.std.proofs.Common.{◌≡◌, ◌≢◌, ℕ, zero, suc, ◌+◌, ◌==◌, Bool, true, List, [], ◌∷◌, ◌++◌, Some, length, refl, sym, ap, ap₂, subst, ◌∙◌, arith, inl, inr, if◌then◌else◌}
 use Rattle.std.proofs.lemmas.Bool.{cases_Bool, eq-eqb, eqb-true, false≢true, ne_eqb}
 use Rattle.std.proofs.lemmas.Option.{none-some, same_Some}
 use Rattle.std.specs.List.{slice_get}
 use Rattle.std.specs.Option.{option_map}
 use Rattle.sim_2_events.specs.Acts.{MayAct}
 use Rattle.sim_5_devices.proofs.AllSessionSteps.{all_session_step, reaches_both, spoken_both}
+use Rattle.sim_5_devices.proofs.Given.{none_put}
 use Rattle.sim_5_devices.specs.Labels.{AllStep, HasSessionSteps, SessionStep, SessionSteps}
 use Rattle.sim_1_applications.proofs.Worlds.{get_each, length_each}
 use Rattle.sim_1_applications.specs.Devices.{AppWorld, Device, Sessions, Take, last_of}
-use Rattle.sim_1_applications.specs.Events.{Act, Around, At, Reaches, around, becomes, each_from, flagged, give, hear, hears_of, is_among, is_number_among, moved_up, own, put_down, served, taken_by, taking, told, ServerHandles}
+use Rattle.sim_1_applications.specs.Events.{Act, Around, At, Reaches, around, becomes, each_from, flagged, give, hear, hears_of, is_among, is_number_among, moved_up, own, served, taken_by, taking, told, ServerHandles}
 use Rattle.sim_1_applications.specs.Stanzas.{Submission, Up}
 use Rattle.sim_1_applications.specs.Stanzas.Down.{Bounced}
 use Rattle.sim_1_applications.specs.Stanzas.Up.{Message}
 use Rattle.sim_5_moves.proofs.FullQueues.{Full, full_from}
 use Rattle.sim_5_moves.specs.Handled.{AreHandled, IsTakenOf, IsToldOf, take_at, takes_with}
-
--- nothing is put
-pub none_put : (s : Sessions) → put_down [] s ≡ s
-none_put s = ap (λ l. record s { now = record s.now { down_rest = l } }) (append-nil s.now.down_rest)
 
 pub there_too : {A B : Type 0} (xs : List A) (ys : List B) (j : ℕ) (a : A) → length xs ≡ length ys → slice_get xs j ≡ Some a → (b : B) × (slice_get ys j ≡ Some b)
 there_too [] ys j a long at = absurd (none-some a at)

@@ -19,6 +19,10 @@ use Rattle.sim_3_items.specs.Served.{FlagsRepresent, ServerSimulates}
 use Rattle.sim_1_applications.specs.Devices.{Sessions, Take}
 use Rattle.xml_writer.specs.Items.{ItemOut}
 
+pub all_any : (ss : List (Session ItemOut)) → AllByRecursion (λ s. Unit {0}) ss
+all_any [] = tt
+all_any (s ∷ ss) = (tt, all_any ss)
+
 module _ (h : ServerState ItemOut) (k : ℕ) (z : ItemOut) (is : IsNonStanza z) where
   non_stanza_goes : (P : Session ItemOut → Type 0) → IsAbout P → AllByRecursion P h.sessions → Goes P (step_of h) (behind_item k z h)
   non_stanza_goes P about all = then_non_stanza P about (at_open itself k (read_of z) (standing_at k h) h) (open_non_stanza k z (standing_at k h) h is) (step_of h) (step_of h) (stands P (step_of h) all)
@@ -29,11 +33,7 @@ module _ (h : ServerState ItemOut) (k : ℕ) (z : ItemOut) (is : IsNonStanza z) 
       runs_on keep owned names takes h (behind_item k z h).server_state goes.domain goes.accounts goes.archives goes.sessions runs
 
   pub non_stanza_silent : (moment : ℕ) → takes_reported moment (behind_item k z h).outs ≡ []
-  non_stanza_silent moment = (non_stanza_goes (λ s. Unit {0}) (λ s t number account resource available carbons priority is. tt) (each h.sessions)).told moment
-    where
-      each : (ss : List (Session ItemOut)) → AllByRecursion (λ s. Unit {0}) ss
-      each [] = tt
-      each (s ∷ ss) = (tt, each ss)
+  non_stanza_silent moment = (non_stanza_goes (λ s. Unit {0}) (λ s t number account resource available carbons priority is. tt) (all_any h.sessions)).told moment
 
   pub non_stanza_flags : (account : ℕ) (resource : List ℕ) (d : Sessions) → IsRule h.sessions h.next → FlagsRepresent account resource h d → FlagsRepresent account resource (behind_item k z h).server_state d
   non_stanza_flags account resource d rule represents = λ live t found.

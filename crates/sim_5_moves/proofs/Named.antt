@@ -182,5 +182,8 @@ module _ (schedule : WireView) (b : Bounds) (says : ℕ) (w : ItemWorld) (x : Ap
           flags = fresh_flags (who schedule b says w x c) was.logins w.server was.view was.device.sessions m may was.sessions was.represents.server was.flags (end schedule b says w x c) rest.available rest.carbons;
         }
 
-    pub named_runs : MoveSimulates schedule b says (Down c.position) w x c.runs
+    abbrev IsRunSo : Type 0
+    IsRunSo = MoveSimulates schedule b says (Down c.position) w x c.runs
+
+    pub named_runs : IsRunSo
     named_runs = heard_runs schedule b says w x c next acts

@@ -1,7 +1,6 @@
 -- A stanza is the first word on its way down to a device: what is known of it, and of the client.
-use Rattle.std.proofs.Common.{◌≡◌, ℕ, ◌+◌, option_map, Bool, true, false, All, List, [], ◌∷◌, ◌++◌, map, Option, Some, None, refl, sym, ap, subst, ◌∙◌}
+use Rattle.std.proofs.Common.{◌≡◌, ℕ, ◌+◌, option_map, true, All, List, [], ◌∷◌, ◌++◌, map, Option, Some, refl, sym, ap, subst, ◌∙◌}
 use Rattle.std.proofs.lemmas.List.{append_cancel_left, map-append}
-use Rattle.std.proofs.lemmas.List.Elements.{All-head, All-tail}
 use Rattle.std.proofs.lemmas.Option.{same_Some}
 use Rattle.mam_archive.specs.Entries.{EntryView}
 use Rattle.sim_4_links_follow.proofs.Turning.{own_session}
@@ -18,9 +17,9 @@ use Rattle.sim_2_links.proofs.Numbers.{reached_rises}
 use Rattle.sim_2_links.proofs.Reached.{link_kept}
 use Rattle.sim_2_links.proofs.Seen.{move_seen}
 use Rattle.sim_2_links.specs.Events.{Heard, IsSeenAs, LinkEvent, May, Seen, SeenSession, own_number, seen}
-use Rattle.sim_2_links.specs.LinkMoves.{IsDownStanza, read_if}
+use Rattle.sim_2_links.specs.LinkMoves.{read_if}
 use Rattle.sim_2_links.specs.Links.{LinkKept}
-use Rattle.sim_2_links.specs.Machine.{LinkMoves, LinkReached, ReadsStanza}
+use Rattle.sim_2_links.specs.Machine.{LinkMoves, ReadsStanza}
 use Rattle.sim_2_links.specs.Stages.{Conn}
 use Rattle.sim_2_links.specs.Views.{Own, Table, View, alter, has, with_at}
 use Rattle.sim_2_links.specs.Wires.{left_down, send_up}
@@ -52,7 +51,7 @@ may_hear : (z : ItemOut) (s next : Seen ItemOut) (p : ℕ) (e : Option (LinkEven
 may_hear z s next p e is so = (let at = subst (λ e. IsSeenAs e s next) is so in at.0)
 
 module _ (who : Identity) (logins : ℕ → Login) (d : ItemDevice) (wires : Table ItemWire) (v : View ItemOut) (k : ℕ) (z : ItemOut) (p : IsNextDown who logins d wires v k (Down (St z))) where
-  kept : LinkKept v
+  abbrev kept : LinkKept v
   kept = link_kept v p.shown.reached
 
   abbrev after : Conn ItemOut

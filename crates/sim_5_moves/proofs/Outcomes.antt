@@ -98,6 +98,12 @@ module _ {keep : ℕ} {owned : List Owned} {names : List (List ℕ)} {takes : Li
     sessions = devices_stay owned names (counting (told s) (acts_on s h e)) (step_of h) all_pass x.runs.sessions;
   }
 
+  abbrev RunsAfter : Type 0
+  RunsAfter = ServerSimulates keep owned names (takes ++ new) next
+
+  abbrev TellsAfter : Type 0
+  TellsAfter = takes_reported h.moment (following s h e).outs ≡ map (take_reported owned) new
+
   module _ (account : ℕ) (is : IsKnown x account) where
     row : acts_on s h e ≡ carrying as_it_is (as_sent o.device m (told s) h account) (archs o.device m (told s) h account) (route o.device m (told s) h account) h
     row = row_carries x account is.at is.position
@@ -105,13 +111,13 @@ module _ {keep : ℕ} {owned : List Owned} {names : List (List ℕ)} {takes : Li
     taken_so : IsBooked h (Some (taken_here x account is.at)) next (following s h e).outs
     taken_so = booked (told s) h (acts_on s h e) (Some (taken_here x account is.at)) (ap marks row ∙ carried_marks o.device m (told s) h account)
 
-    runs_taken : ServerSimulates keep owned names (takes ++ new) next
+    runs_taken : RunsAfter
     runs_taken =
         subst (λ more. ServerSimulates keep owned names (takes ++ more) next) (sym (new_is true is.known))
         (goes_on (Some (taken_here x account is.at)) taken_so (take ∷ [])
         (archives_more x account is.at next (following s h e).outs taken_so))
 
-    told_taken : takes_reported h.moment (following s h e).outs ≡ map (take_reported owned) new
+    told_taken : TellsAfter
     told_taken =
         taken_so.notes
         ∙ ap (λ (y : EntryView). let note : Told = record { moment = h.moment; from = y.from; to = y.to; origin = y.origin } in note ∷ []) (entry_same x account)
@@ -124,12 +130,12 @@ module _ {keep : ℕ} {owned : List Owned} {names : List (List ℕ)} {takes : Li
     none_so : IsBooked h None next (following s h e).outs
     none_so = booked (told s) h (acts_on s h e) None (ap marks refused)
 
-    runs_same : ServerSimulates keep owned names (takes ++ new) next
+    runs_same : RunsAfter
     runs_same =
         subst (λ more. ServerSimulates keep owned names (takes ++ more) next) (sym (new_is false nobody))
         (goes_on None none_so [] (archives_same x next (following s h e).outs none_so))
 
-    told_none : takes_reported h.moment (following s h e).outs ≡ map (take_reported owned) new
+    told_none : TellsAfter
     told_none = none_so.notes ∙ ap (map (take_reported owned)) (sym (new_is false nobody))
 
   pub runs_after : ServerSimulates keep owned names (takes ++ new) next

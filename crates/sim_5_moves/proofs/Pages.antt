@@ -4,7 +4,6 @@ use Rattle.std.proofs.lemmas.Bool.{cases_lt}
 use Rattle.std.proofs.lemmas.Option.{none-some, slice_get_within}
 use Rattle.std.specs.List.{AllByRecursion, slice_get}
 use Rattle.std.specs.Option.{IfSome, option_map}
-use Rattle.std.specs.Prelude.{nat_lt}
 use Rattle.mam_archive.specs.Entries.{AreKept, EntryView, entry_numbered}
 use Rattle.mam_archive.specs.Ids.{id_of}
 use Rattle.srv_state.specs.State.{Kept, ServerState}
@@ -22,8 +21,7 @@ use Rattle.sim_3_items.specs.Meant.{Fits, IsEntryNumber, IsPage}
 use Rattle.sm_live.specs.declared.told.SessionInfo.{SessionInfo}
 use Rattle.mam_pages.specs.Cuts.{CutView}
 use Rattle.mam_pages.specs.Kept.{kept_by}
-use Rattle.mam_pages.proofs.Walked.{shorter}
-use Rattle.mam_pages.specs.PageOf.{index_of_page, page_of}
+use Rattle.mam_pages.specs.PageOf.{page_of}
 use Rattle.srv_handlers.specs.Requests.{asker_of, envelope_of, paging, sending_entries, sending_entry}
 use Rattle.im_replies.specs.Requests.{iq_error_item}
 use Rattle.im_requests.specs.Messages.{queryid_text}
@@ -31,6 +29,7 @@ use Rattle.sim_1_applications.specs.Stanzas.Down.{Res}
 use Rattle.sim_1_applications.specs.Pages.{IsGiven, stanzas_of}
 use Rattle.im_stanza.specs.Views.{IqView}
 use Rattle.xml_writer.specs.Items.{ItemOut}
+use Rattle.law_limits.proofs.RequestsKept.{index_few}
 
 -- ---- a page of what an archive keeps
 
@@ -48,11 +47,6 @@ pub record IsCut (entries : List EntryView) (cut : CutView) : Type 0 where
   pub all : AllByRecursion (IsThere entries) cut.numbers
   pub count : Fits cut.count
   pub index : Fits cut.first_index
-
--- the page's first entry stands among all
-index_within : (all page : List EntryView) → index_of_page all page ≤ length all
-index_within all [] = omega arith
-index_within all (e ∷ es) = shorter (λ f. nat_lt f.number e.number) all
 
 numbers_there : (all xs : List EntryView) → ((i : ℕ) (e : EntryView) → slice_get xs i ≡ Some e → IsThere all e.number) → AllByRecursion (IsThere all) (map number_of xs)
 numbers_there all [] each = tt
@@ -88,7 +82,7 @@ module _ (keep last : ℕ) (kept : List EntryView) (known : AreKept keep last ke
       record {
         all = numbers_there kept (take most (kept_after n last kept)) (λ i e at. there (n - purged last kept + i) e (get_in_drop (n - purged last kept) kept i e (get_in_take most (kept_after n last kept) i e at)));
         count = omega (arith, highest, known.within);
-        index = omega (arith, highest, known.within, index_within kept (take most (kept_after n last kept)));
+        index = omega (arith, highest, known.within, index_few kept (take most (kept_after n last kept)));
       }
 
   pub page_there : (owner : List ℕ) (after : Option ℕ) (most : ℕ) → most ≤ 100 → IsGiven last after → IfSome (page_of (kept_by owner kept) (query_after (option_map id_of after) most)) (IsCut kept)

@@ -1,5 +1,5 @@
 -- The accounts of a server by their names, and its addresses.
-use Rattle.std.proofs.Common.{◌≡◌, ℕ, List, [], ◌∷◌, ◌++◌, Some, refl, ap, ◌∙◌}
+use Rattle.std.proofs.Common.{◌≡◌, ℕ, List, ◌∷◌, ◌++◌, Some, ap, ◌∙◌}
 use Rattle.std.proofs.lemmas.Option.{slice_get-map}
 use Rattle.std.specs.List.{slice_get}
 use Rattle.std.specs.Option.{option_map}
@@ -13,17 +13,14 @@ use Rattle.cmd_report.specs.Addresses.{domain}
 use Rattle.cmd_schedule.specs.Contents.{Owned}
 use Rattle.sim_3_items.specs.Served.{IsConfigured}
 use Rattle.xml_writer.specs.Items.{ItemOut}
-
-names_there : (names : List (List ℕ)) → names_of (accounts_at_start names) ≡ names
-names_there [] = refl
-names_there (name ∷ names) = ap (λ l. name ∷ l) (names_there names)
+use Rattle.sim_3_images.proofs.BookedReports.{names_same}
 
 name_there : (names : List (List ℕ)) (position : ℕ) (name : List ℕ) → slice_get names position ≡ Some name → name_of (slice_get (accounts_at_start names) position) ≡ name
 name_there names position name at = ap name_of (slice_get-map account_at_start names position ∙ ap (option_map account_at_start) at)
 
 module _ (names : List (List ℕ)) (h : ServerState ItemOut) (is : IsConfigured names h) where
   pub names_are : names_of h.accounts ≡ names
-  names_are = ap names_of is.accounts ∙ names_there names
+  names_are = ap names_of is.accounts ∙ names_same names
 
   pub bare_is : (position : ℕ) (name : List ℕ) → slice_get names position ≡ Some name → bare_address position h ≡ report.bare_address name
   bare_is position name at =

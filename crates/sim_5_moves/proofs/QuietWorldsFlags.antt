@@ -18,6 +18,7 @@ use Rattle.sim_1_applications.specs.Events.{binds, counts, end_row, is_present}
 use Rattle.sim_5_moves.proofs.Following.{bound_absent, session_steps_show}
 use Rattle.sim_5_moves.specs.WordsRunWords.{binds_between}
 use Rattle.xml_writer.specs.Items.{ItemOut}
+use Rattle.sim_4_links_follow.proofs.MomentRows.{no_session}
 
 -- a session without a stage has no flags in the applications
 abbrev pub IsNamedBare : Sessions → Type 0
@@ -38,10 +39,6 @@ pub none_live : (o : Option (Row ItemOut)) → row_number o ≡ None → o ≡ N
 none_live None is = refl
 none_live (Some r) is = absurd (none-some r.number (sym is))
 
-pub none_shown : (o : Option (Session ItemOut)) → IsRowRepresented None o → o ≡ None
-none_shown None shown = refl
-none_shown (Some s) shown = absurd shown
-
 -- a session is shown by the row that there is
 pub record HasRow (o : Option (Row ItemOut)) (s : Session ItemOut) : Type 0 where
   pub row : Row ItemOut
@@ -54,6 +51,13 @@ has_row None (Some t) s shown found = absurd shown
 has_row (Some r) None s shown found = absurd shown
 has_row (Some r) (Some t) s shown found = record { row = r; is = refl; shown = subst (IsRowOf r) (same_Some t s found) shown }
 
+-- the session that is seen under its number is the row's
+pub seen_counted : (u : View ItemOut) (row : Row ItemOut) → LinkKept u → u.row ≡ Some row → (t : SeenSession ItemOut) → (seen u).sessions row.number ≡ Some t → t.counted ≡ row.counted
+seen_counted u row kept is t at =
+    let k = kept.row row is in
+    let same : seen_session k.session ≡ t = same_Some (seen_session k.session) t (sym (ap seen_as k.is) ∙ at) in
+    ap (λ (x : SeenSession ItemOut). x.counted) (sym same) ∙ sym k.counted
+
 module _ (r : Stanzas ItemOut) (who : Identity) (h next : ServerState ItemOut) (logins others : ℕ → Login) (v u : View ItemOut) (kept : LinkKept u)
     (before : ServerRepresents who logins h v) (following : ServerRepresents who others next u) (d last : Sessions) (was : IsDevice r (seen v) d) (is : IsDevice r (seen u) last)
     (xs : List SessionStep) (session_steps : SessionSteps xs d last) (bare : IsNamedBare d) (flags : FlagsRepresent who.account who.resource h d) (go : DoFlagsGo who.account who.resource h next) where
@@ -61,7 +65,7 @@ module _ (r : Stanzas ItemOut) (who : Identity) (h next : ServerState ItemOut) (
   nobody : d.row ≡ NoRow → session_named who.account who.resource h.sessions ≡ None
   nobody none =
       let live = no_row v d (row_number v.row) was.row none in
-      none_shown (session_named who.account who.resource h.sessions) (subst (λ o. IsRowRepresented o (session_named who.account who.resource h.sessions)) (none_live v.row live) before.row)
+      no_session (session_named who.account who.resource h.sessions) (subst (λ o. IsRowRepresented o (session_named who.account who.resource h.sessions)) (none_live v.row live) before.row)
 
   module _ (s : Session ItemOut) (found : session_named who.account who.resource next.sessions ≡ Some s) where
     priority_is : s.shown.priority ≡ pos 0
@@ -108,18 +112,11 @@ module _ (r : Stanzas ItemOut) (who : Identity) (h next : ServerState ItemOut) (
       | inr new ↦ absurd (false≢true (sym (new s found).3 ∙ has.shown.counted ∙ so))
     ]
 
-    -- the session that is seen under its number
-    same_counted : (t : SeenSession ItemOut) → (seen u).sessions row.number ≡ Some t → t.counted ≡ row.counted
-    same_counted t at =
-        let k = kept.row row has.is in
-        let same : seen_session k.session ≡ t = same_Some (seen_session k.session) t (sym (ap seen_as k.is) ∙ at) in
-        ap (λ (x : SeenSession ItemOut). x.counted) (sym same) ∙ sym k.counted
-
     by_row : IsRow (seen u) last.row (Some row.number) → Wanted
-    by_row (t, at, inl (epoch, gone)) = unread (sym (same_counted t at) ∙ ap (λ (x : SeenSession ItemOut). x.counted) (is.unread row.number t at epoch)) gone
+    by_row (t, at, inl (epoch, gone)) = unread (sym (seen_counted u row kept has.is t at) ∙ ap (λ (x : SeenSession ItemOut). x.counted) (is.unread row.number t at epoch)) gone
     by_row (t, at, inr (epoch, there)) = elim (cases_Bool row.counted) [
       | inl so ↦ counted so there
-      | inr un ↦ named un there (sym (is.now row.number t at epoch).stage ∙ ap (λ b. stage_of b t.known) (same_counted t at ∙ un))
+      | inr un ↦ named un there (sym (is.now row.number t at epoch).stage ∙ ap (λ b. stage_of b t.known) (seen_counted u row kept has.is t at ∙ un))
     ]
 
     wanted : Wanted

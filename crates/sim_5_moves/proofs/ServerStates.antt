@@ -1,19 +1,14 @@
 -- What a server that runs has of a device and its account.
-use Rattle.std.proofs.Common.{◌≡◌, ℕ, ◌-◌, ◌≤◌, min, List, ◌∷◌, ◌++◌, Some, length, refl, sym, ap, subst, ◌∙◌, arith}
+use Rattle.std.proofs.Common.{◌≡◌, ℕ, ◌-◌, ◌≤◌, min, List, ◌∷◌, ◌++◌, length, refl, sym, ap, subst, ◌∙◌, arith}
 use Rattle.std.proofs.lemmas.List.{length-drop}
-use Rattle.std.proofs.lemmas.Option.{slice_get-map}
-use Rattle.std.specs.List.{slice_get}
 use Rattle.std.specs.Option.{option_map}
 use Rattle.mam_archive.proofs.Newest.{kept_again}
 use Rattle.mam_archive.proofs.NumberedEntries.{numbered_following}
 use Rattle.mam_archive.specs.Entries.{AreKept, EntryView, newest}
-use Rattle.srv_state.specs.State.{Kept, ServerState, address_shown, archive_at, name_of, session_address, shown_of}
+use Rattle.srv_state.specs.State.{Kept, ServerState, address_shown, session_address, shown_of}
 use Rattle.srv_state.specs.State as context
-use Rattle.cmd_network.specs.Starting.{account_at_start}
 use Rattle.sim_5_moves.specs.Around.{IsArchiveKept, IsAround}
 use Rattle.sm_live.specs.Sessions.{Session, told}
-use Rattle.srv_login.specs.Accounts.{bare_text}
-use Rattle.srv_login.specs.declared.account.Account.{Account}
 use Rattle.sim_5_moves.specs.Replied.{IsSessionOf, around_of}
 use Rattle.cmd_report.specs.Addresses.{bare_address, full_address}
 use Rattle.cmd_schedule.specs.Contents.{Owned}
@@ -22,6 +17,7 @@ use Rattle.sim_1_applications.specs.Devices.{Take, last_of}
 use Rattle.sim_1_applications.proofs.Rendered.{history_few, history_follows, history_long}
 use Rattle.sim_1_applications.specs.Reported.{history_at}
 use Rattle.xml_writer.specs.Items.{ItemOut}
+use Rattle.sim_5_moves.proofs.Positions.{bare_is}
 
 -- ---- archives
 
@@ -48,15 +44,9 @@ module _ (keep : ℕ) (owned : List Owned) (takes : List Take) (account : List �
 -- ---- addresses
 
 module _ (keep : ℕ) (owned : List Owned) (names : List (List ℕ)) (takes : List Take) (h : ServerState ItemOut) (runs : ServerSimulates keep owned names takes h) where
-  pub bare_is : (position : ℕ) (name : List ℕ) → slice_get names position ≡ Some name → context.bare_address position h ≡ bare_address name
-  bare_is position name there =
-      let account : slice_get h.accounts position ≡ Some (account_at_start name) =
-      ap (λ (accounts : List Account). slice_get accounts position) runs.configured.accounts ∙ slice_get-map account_at_start names position ∙ ap (option_map account_at_start) there in
-      λ i. bare_text (name_of (account i)) (runs.configured.domain i)
-
   module _ (o : Owned) (s : Session ItemOut) (session : IsSessionOf o names h s) where
     pub own_bare : context.bare_address s.shown.account h ≡ bare_address o.account
-    own_bare = bare_is s.shown.account o.account session.account
+    own_bare = bare_is names h runs.configured s.shown.account o.account session.account
 
     pub own_full : session_address s.shown.number h ≡ full_address o.account o.device
     own_full =

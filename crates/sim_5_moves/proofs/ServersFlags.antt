@@ -5,25 +5,26 @@ use Rattle.srv_state.specs.State.{ServerState}
 use Rattle.sim_3_items.specs.Identities.{Identity, Login}
 use Rattle.sim_3_items.specs.Servers.{IsRow as IsRowOf, IsRowRepresented, ServerRepresents}
 use Rattle.sim_3_items.specs.Items.{stanzas_read}
-use Rattle.sim_2_links.specs.Events.{SeenSession, row_number, seen, seen_as, seen_session}
+use Rattle.sim_2_links.specs.Events.{SeenSession, row_number, seen}
 use Rattle.sim_2_links.specs.Links.{LinkKept}
 use Rattle.sim_2_links.specs.Views.{Row, View}
 use Rattle.sim_2_events.specs.Lists.{IsDevice, IsRow}
 use Rattle.sm_live.specs.Sessions.{Session, session_named}
-use Rattle.sim_5_moves.proofs.QuietWorldsFlags.{no_row, none_live, none_shown}
+use Rattle.sim_5_moves.proofs.QuietWorldsFlags.{no_row, none_live, seen_counted}
 use Rattle.sim_5_moves.specs.Silent.{AreFlagsKept}
 use Rattle.sim_5_moves.proofs.Interleaved.{IsAfter}
 use Rattle.sim_3_items.specs.Served.{FlagsRepresent}
 use Rattle.sim_1_applications.specs.Devices.{NoRow, Present, Row as DeviceRow, Sessions, Unread}
 use Rattle.sim_1_applications.specs.Events.{is_present}
 use Rattle.xml_writer.specs.Items.{ItemOut}
+use Rattle.sim_4_links_follow.proofs.MomentRows.{no_session}
 
 -- ---- where the applications have no session, the server has none
 
 nobody : (who : Identity) (logins : ℕ → Login) (h : ServerState ItemOut) (v : View ItemOut) (d : Sessions) → ServerRepresents who logins h v → IsDevice stanzas_read (seen v) d → d.row ≡ NoRow → session_named who.account who.resource h.sessions ≡ None
 nobody who logins h v d represents is none =
     let live = no_row v d (row_number v.row) is.row none in
-    none_shown (session_named who.account who.resource h.sessions) (subst (λ o. IsRowRepresented o (session_named who.account who.resource h.sessions)) (none_live v.row live) represents.row)
+    no_session (session_named who.account who.resource h.sessions) (subst (λ o. IsRowRepresented o (session_named who.account who.resource h.sessions)) (none_live v.row live) represents.row)
 
 -- a session of a device that is left is one of priority 0
 pub priority_kept : (who : Identity) (logins : ℕ → Login) (h next : ServerState ItemOut) (v : View ItemOut) (d : Sessions) → ServerRepresents who logins h v → IsDevice stanzas_read (seen v) d → AreFlagsKept who.account who.resource h next
@@ -62,13 +63,6 @@ module _ (who : Identity) (logins : ℕ → Login) (next : ServerState ItemOut) 
     abbrev Wanted : Type 0
     Wanted = (s.shown.available ≡ (is_present last.row && last.now.available)) × (s.shown.carbons ≡ (is_present last.row && last.now.carbons)) × (s.shown.priority ≡ pos 0)
 
-    -- the session that is seen under its number
-    same_counted : (t : SeenSession ItemOut) → (seen u).sessions row.number ≡ Some t → t.counted ≡ row.counted
-    same_counted t at =
-        let k = kept.row row has.is in
-        let same : seen_session k.session ≡ t = same_Some (seen_session k.session) t (sym (ap seen_as k.is) ∙ at) in
-        ap (λ (x : SeenSession ItemOut). x.counted) (sym same) ∙ sym k.counted
-
     unread : row.counted ≡ false → last.row ≡ Unread → Wanted
     unread un at =
         let f = has.shown.quiet un in
@@ -82,7 +76,7 @@ module _ (who : Identity) (logins : ℕ → Login) (next : ServerState ItemOut) 
         (f.0 ∙ (λ k. is_present (same k) && sym back.available k), f.1 ∙ (λ k. is_present (same k) && sym back.carbons k), f.2)
 
     by_row : IsRow (seen u) last.row (Some row.number) → Wanted
-    by_row (t, at, inl (epoch, gone)) = unread (sym (same_counted t at) ∙ ap (λ (x : SeenSession ItemOut). x.counted) (is.unread row.number t at epoch)) gone
+    by_row (t, at, inl (epoch, gone)) = unread (sym (seen_counted u row kept has.is t at) ∙ ap (λ (x : SeenSession ItemOut). x.counted) (is.unread row.number t at epoch)) gone
     by_row (t, at, inr (epoch, there)) = present there
 
     wanted : Wanted

@@ -1,5 +1,5 @@
 -- A message to an account that exists goes up: the server takes it, and those hear of it who hear of it in the applications.
-use Rattle.std.proofs.Common.{◌≡◌, ◌≢◌, ℕ, ◌==◌, ◌&&◌, ◌||◌, not, Bool, true, false, List, [], ◌∷◌, ◌++◌, Some, map, pos, refl, sym, ap, subst, ◌∙◌, if◌then◌else◌, arith}
+use Rattle.std.proofs.Common.{◌≡◌, ◌≢◌, ℕ, ◌==◌, ◌&&◌, ◌||◌, not, true, false, List, [], ◌∷◌, ◌++◌, Some, map, pos, refl, sym, ap, subst, ◌∙◌, if◌then◌else◌, arith}
 use Rattle.std.proofs.lemmas.Bool.{false≢true}
 use Rattle.std.proofs.lemmas.List.{map-append}
 use Rattle.std.specs.List.{AllByRecursion, slice_get}
@@ -54,15 +54,9 @@ use Rattle.sim_4_links_follow.specs.Steps.{IsGivenIn, takes_it, takes_nothing}
 use Rattle.sim_5_moves.specs.Running.{DeviceSimulates, IsOwned, history_for, keep_in, names_of, DoesBy}
 use Rattle.xml_writer.specs.Items.{ItemOut}
 use Rattle.sim_5_moves.proofs.ReadStanzas.{given_does, taken_does}
+use Rattle.sim_1_applications.proofs.Worlds.{never}
 
 -- ---- who hears of a take is counted
-
-never : (p b n c e : Bool) → (p && ((b && false) || (n && false && c && e))) ≡ false
-never false b n c e = refl
-never true true true c e = refl
-never true true false c e = refl
-never true false true c e = refl
-never true false false c e = refl
 
 unheard : (t : Take) (j : ℕ) (d : Device) → d.sessions.now.available ≡ false → d.sessions.now.carbons ≡ false → hears_of t j d ≡ false
 unheard t j d available carbons =

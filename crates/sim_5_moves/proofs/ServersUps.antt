@@ -42,7 +42,7 @@ module _ (schedule : WireView) (b : Bounds) (right : IsLineList schedule) (small
     by_word (UpTraffic (Ack n)) is = silent (subst IsSilent (sym is) tt)
     by_word Foot is = silent (subst IsSilent (sym is) tt)
 
-    item_runs : MoveSimulates schedule b says (Up position) w x runs
+    abbrev item_runs : MoveSimulates schedule b says (Up position) w x runs
     item_runs = by_word g.has.word refl
 
   by_items : (wire : ItemWire) → slice_get w.wires position ≡ Some wire → (items : List ItemOut) → wire.up.items ≡ items → MoveSimulates schedule b says (Up position) w x runs

@@ -81,7 +81,7 @@ module _ (schedule : WireView) (b : Bounds) (says : ℕ) (m : ItemMove) (w : Ite
     reached : LinkReached old.view
     reached = prompt_runs awaits old.view old.prompt
 
-    done : (end : Sessions) × DoesInterleaved stanzas_read (labels_of f.moves) old.device.sessions end × IsDevice stanzas_read (seen f.next) end
+    abbrev done : (end : Sessions) × DoesInterleaved stanzas_read (labels_of f.moves) old.device.sessions end × IsDevice stanzas_read (seen f.next) end
     done = moves_done stanzas_read f.moves old.view f.next old.device.sessions reached f.leads old.sessions
 
     abbrev end : Sessions

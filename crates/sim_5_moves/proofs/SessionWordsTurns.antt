@@ -1,5 +1,5 @@
 -- What the client does on each of these words.
-use Rattle.std.proofs.Common.{◌≡◌, ℕ, ◌+◌, true, false, List, [], ◌∷◌, Some, None, length, codes, if◌then◌else◌, is_ok, not, Option, refl, ap, subst, ◌∙◌, arith}
+use Rattle.std.proofs.Common.{◌≡◌, ℕ, ◌+◌, true, [], ◌∷◌, Some, None, codes, if◌then◌else◌, is_ok, not, Option, refl, ap, subst, ◌∙◌, arith}
 use Rattle.std.proofs.Math.Nat.{mod-lt}
 use Rattle.base_lemmas.proofs.HexDigits.{length-hex16_of}
 use Rattle.cl_core.specs.Steps.{online_in, told_row}
@@ -7,10 +7,11 @@ use Rattle.sim_4_links_follow.proofs.AllReads.{expected}
 use Rattle.sim_4_links_follow.proofs.Counted.{not_too_high}
 use Rattle.sim_4_links_follow.proofs.Turning.{on_element, own_session}
 use Rattle.sim_4_links_follow.proofs.Working.{kept_here, phase_here}
+use Rattle.sim_4_links_follow.proofs.SessionReads.{some_digits}
 use Rattle.cl_handlers.specs.AckRows.{acknowledges, counts_too_high}
 use Rattle.cl_handlers.specs.Clients.{ClientStep}
 use Rattle.cl_handlers.specs.LoginSteps.{other_element}
-use Rattle.cl_handlers.specs.SessionRows.{asks, attaches, begins, begins_epoch, enabling_with, failed_row, is_empty, resumed_in, resuming_with}
+use Rattle.cl_handlers.specs.SessionRows.{asks, attaches, begins, begins_epoch, enabling_with, failed_row, resumed_in, resuming_with}
 use Rattle.cl_handlers.specs.Speech.{in_items}
 use Rattle.cl_handlers.specs.declared.phase.Phase.TheVariants as phase
 use Rattle.sm_resumption.specs.declared.answers.TheConstants.{RESUMABLE_SECONDS}
@@ -45,10 +46,6 @@ use Rattle.im_stanza.specs.declared.kinds.IqKind.TheVariants.{Result}
 use Rattle.im_stanza.specs.Written.{iq_elem}
 use Rattle.xml_trees.specs.Trees.{Elem, child, no_nodes}
 use Rattle.xml_writer.specs.Items.{ItemOut}
-
-some_digits : (text : List ℕ) → length text ≡ 16 → is_empty text ≡ false
-some_digits [] size = absurd (let no_way : ⊥ = cc in no_way)
-some_digits (b ∷ bs) size = refl
 
 may_of : (e : LinkEvent ItemOut) (s next : Seen ItemOut) (told : Option (LinkEvent ItemOut)) → told ≡ Some e → IsSeenAs told s next → May e s
 may_of e s next told is so = (let at = subst (λ e. IsSeenAs e s next) is so in at.0)

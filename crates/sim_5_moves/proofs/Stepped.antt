@@ -20,7 +20,7 @@ use Rattle.sim_4_links_follow.proofs.Servings.{IsLive, live_of}
 use Rattle.xml_writer.specs.Items.{ItemOut}
 
 module _ (who : Identity) (logins : ℕ → Login) (h : ServerState ItemOut) (wires : Table ItemWire) (v : View ItemOut) (k : ℕ) (z : ItemOut) (p : IsFirst who logins h wires v k (Up (St z))) (x : IsOfSession who h z) where
-  there : HasThere v k p.conn.phase true
+  abbrev there : HasThere v k p.conn.phase true
   there = expected_up v k p.conn (Up (St z)) p.rest (kept_here who logins h wires v k (Up (St z)) p) p.is p.first
 
   live : IsLive who h there.0

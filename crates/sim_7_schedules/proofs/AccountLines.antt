@@ -12,9 +12,6 @@ use Rattle.cmd_world.specs.WorldReports.{account_lines, account_where}
 abbrev pub archive_of_name : ℕ → (List ℕ → List EntryView) → List ℕ → Kept
 archive_of_name keep history name = record { owner = bare_address name; keep = keep; last = length (history name); entries = newest keep (history name) }
 
-one_more : (p i : ℕ) → p + 1 + i ≡ p + suc i
-one_more p i = omega arith
-
 lines_from : (keep : ℕ) (history : List ℕ → List EntryView) (archives : List Kept) (position : ℕ) (names : List (List ℕ))
     → ((i : ℕ) (name : List ℕ) → slice_get names i ≡ Some name → slice_get archives (position + i) ≡ Some (archive_of_name keep history name))
     → account_lines position names archives ≡ map (λ name. reported.account_line keep (history name) name) names
@@ -23,7 +20,7 @@ lines_from keep history archives position (name ∷ names) are =
     let same : position ≡ position + 0 = omega arith in
     let here : slice_get archives position ≡ Some (archive_of_name keep history name) = ap (slice_get archives) same ∙ are 0 name refl in
     ap₂ (λ o (lines : List AccountView). account_where name o ++ lines) here
-    (lines_from keep history archives (position + 1) names (λ i other at. ap (slice_get archives) (one_more position i) ∙ are (suc i) other at))
+    (lines_from keep history archives (position + 1) names (λ i other at. ap (slice_get archives) (let next : position + 1 + i ≡ position + suc i = omega arith in next) ∙ are (suc i) other at))
 
 pub lines_are : (keep : ℕ) (history : List ℕ → List EntryView) (archives : List Kept) (names : List (List ℕ))
     → ((i : ℕ) (name : List ℕ) → slice_get names i ≡ Some name → slice_get archives i ≡ Some (archive_of_name keep history name))

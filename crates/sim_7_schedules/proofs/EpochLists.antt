@@ -1,7 +1,6 @@
 -- Lists of the sessions of a device, one session after the other: those of an epoch are those of its session.
-use Rattle.std.proofs.Common.{◌≡◌, ◌≢◌, ℕ, zero, suc, ◌+◌, ◌-◌, ◌<◌, ◌≤◌, ◌==◌, cond, false, List, [], ◌∷◌, ◌++◌, Some, length, map, refl, sym, ap, ap₂, ◌∙◌, subst, arith, append_assoc, inl, inr}
+use Rattle.std.proofs.Common.{◌≡◌, ◌≢◌, ℕ, zero, suc, ◌+◌, ◌-◌, ◌<◌, ◌≤◌, ◌==◌, cond, List, [], ◌∷◌, ◌++◌, Some, length, map, refl, sym, ap, ap₂, ◌∙◌, subst, arith, append_assoc}
 use Rattle.std.proofs.lemmas.Bool.{eq-eqb}
-use Rattle.std.proofs.lemmas.Bool.Decides.{eqb_tells}
 use Rattle.std.proofs.lemmas.List.{append-nil, length_push, map-append}
 use Rattle.std.proofs.lemmas.List.Elements.{filter-append}
 use Rattle.std.proofs.lemmas.Option.{none-some, same_Some}
@@ -136,8 +135,3 @@ pub at_past : (past : List Session) (now s : Session) (e : ℕ) → slice_get pa
 at_past [] now s e at = absurd (none-some s at)
 at_past (t ∷ past) now s zero at = at
 at_past (t ∷ past) now s (suc e) at = at_past past now s e at
-
--- of all that are mapped
-pub all_unmapped : {A B : Type 0} (P : B → Type 0) (f : A → B) (xs : List A) → AllByRecursion P (map f xs) → AllByRecursion (λ x. P (f x)) xs
-all_unmapped P f [] all = tt
-all_unmapped P f (x ∷ xs) all = (all.0, all_unmapped P f xs all.1)

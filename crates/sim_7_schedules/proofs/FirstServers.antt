@@ -3,7 +3,7 @@ use Rattle.std.proofs.Common.{◌≡◌, ℕ, ◌-◌, List, [], Some, map, slic
 use Rattle.std.proofs.lemmas.List.{length-map}
 use Rattle.std.proofs.lemmas.Option.{slice_get-map}
 use Rattle.std.specs.Option.{option_map}
-use Rattle.mam_archive.specs.Entries.{EntryView, newest}
+use Rattle.mam_archive.specs.Entries.{EntryView}
 use Rattle.srv_state.specs.State.{Kept, ServerState}
 use Rattle.cmd_network.specs.Starting.{account_at_start, accounts_at_start}
 use Rattle.sim_3_images.specs.ItemStarts.{items_at_start}
@@ -16,10 +16,6 @@ use Rattle.sim_1_applications.specs.Runs.{owned_of}
 use Rattle.sim_5_moves.specs.Running.{keep_in, names_of}
 use Rattle.xml_writer.specs.Items.{ItemOut}
 use lib.Seq.{drop-nil}
-
--- of no entries the newest are none
-none_newest : (keep : ℕ) → newest {A = EntryView} keep [] ≡ []
-none_newest keep = drop-nil (0 - keep)
 
 abbrev first_kept : ℕ → Account → Kept
 first_kept keep a = empty_kept domain keep a.name
@@ -36,7 +32,7 @@ module _ (schedule : WireView) where
   archives_shown : ArchivesRepresent (keep_in schedule) (owned_of schedule) (names_of schedule) [] first_server_state
   archives_shown position name there =
       kept_there (keep_in schedule) position (names_of schedule) name there
-      ∙ ap (λ (l : List EntryView). Some (record (empty_kept domain (keep_in schedule) name) { entries = l })) (sym (none_newest (keep_in schedule)))
+      ∙ ap (λ (l : List EntryView). Some (record (empty_kept domain (keep_in schedule) name) { entries = l })) (sym (drop-nil (0 - keep_in schedule)))
 
   pub server_begins : ServerSimulates (keep_in schedule) (owned_of schedule) (names_of schedule) [] first_server_state
   server_begins = record {

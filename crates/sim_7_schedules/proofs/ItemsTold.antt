@@ -1,5 +1,5 @@
 -- An item that comes to a device on its connection makes no fault that its client tells, by the word that it is.
-use Rattle.std.proofs.Common.{◌≡◌, ◌⊎◌, ℕ, ◌+◌, ◌≤◌, Bool, true, false, cond, List, Option, Some, None, Result, Ok, Err, codes, length, refl, sym, ap, subst, ◌∙◌, inl, inr, arith}
+use Rattle.std.proofs.Common.{◌≡◌, ℕ, ◌+◌, ◌≤◌, Bool, true, false, cond, List, Option, Some, None, Result, Ok, Err, codes, length, refl, sym, ap, subst, ◌∙◌, inl, inr, arith}
 use Rattle.std.proofs.lemmas.Bool.{false≢true}
 use Rattle.std.proofs.lemmas.List.{length-map}
 use Rattle.std.proofs.lemmas.Option.{none-some, same_Some}
@@ -50,7 +50,7 @@ use Rattle.sim_3_items.specs.ItemPipes.{ItemWire}
 use Rattle.sim_3_items.specs.ItemWorlds.{ItemDevice, ItemWorld, read_of, silent_client_step}
 use Rattle.sim_2_links.proofs.WithPremises.{prompt_runs}
 use Rattle.sim_2_links.specs.Words.{Ack, Bound, Chal, Conflict, Constraint, Down, DownWord, Client, Enabled, End, Err as ErrWord, Failed, Feat, Head, InAuth, InBind, InEnable, InFeatures1, InFeatures2, InOnline, InResponse, InResume, Req, Resumed, St, Succ, TooHigh}
-use Rattle.sim_4_links_follow.proofs.AllReads.{expected}
+use Rattle.sim_4_links_follow.proofs.AllReads.{expected, no_count}
 use Rattle.sim_4_links_follow.proofs.DownWords.{next_down}
 use Rattle.sim_4_links_follow.proofs.Turning.{element_at, on_element, own_session}
 use Rattle.sim_4_links_follow.proofs.Working.{kept_here, phase_here}
@@ -77,10 +77,6 @@ use Rattle.xml_writer.specs.Items.{Closing, ItemOut, Opening, Whole}
 none_shown : {A B : Type 0} (f : A → B) (o : Option A) → option_map f o ≡ None → o ≡ None
 none_shown f None is = refl
 none_shown f (Some a) is = absurd (none-some (f a) (sym is))
-
-never : (TooHigh ≡ Conflict) ⊎ (TooHigh ≡ Constraint) → ⊥
-never (inl e) = cc e
-never (inr e) = cc e
 
 features_fair : (following : Bool) → IsFairItem (read_of (features_item following))
 features_fair true = λ named. absurd (false≢true named)
@@ -222,7 +218,7 @@ module _ (schedule : WireView) (b : Bounds) (small : AreSmall b) (says : ℕ) (w
   fair_word (Down (Ack h)) p = λ named. absurd (false≢true named)
   fair_word (ErrWord Conflict) p = λ named. inl refl
   fair_word (ErrWord Constraint) p = λ named. inr refl
-  fair_word (ErrWord TooHigh) p = absurd (never (expected who old.logins d (by_number w.wires) old.view (position + 1) (ErrWord TooHigh) p))
+  fair_word (ErrWord TooHigh) p = absurd (no_count (expected who old.logins d (by_number w.wires) old.view (position + 1) (ErrWord TooHigh) p))
   fair_word End p = tt
 
   kept_word : (word : DownWord ItemOut) (p : At word) → IsStanzaAt d.client (read_of (item word p)) → IsKept (item word p) × (IsLeft (client_step_on (item word p) d) → ⊥)
@@ -243,7 +239,7 @@ module _ (schedule : WireView) (b : Bounds) (small : AreSmall b) (says : ℕ) (w
   kept_word (Down (Ack h)) p at = absurd (false≢true at.1)
   kept_word (ErrWord Conflict) p at = absurd (false≢true at.1)
   kept_word (ErrWord Constraint) p at = absurd (false≢true at.1)
-  kept_word (ErrWord TooHigh) p at = absurd (never (expected who old.logins d (by_number w.wires) old.view (position + 1) (ErrWord TooHigh) p))
+  kept_word (ErrWord TooHigh) p at = absurd (no_count (expected who old.logins d (by_number w.wires) old.view (position + 1) (ErrWord TooHigh) p))
   kept_word End p at = absurd at
 
   -- no count is too high
@@ -316,7 +312,7 @@ module _ (schedule : WireView) (b : Bounds) (small : AreSmall b) (says : ℕ) (w
   low_word (Down (Ack h)) p = count_low h p
   low_word (ErrWord Conflict) p = error_low (codes "conflict")
   low_word (ErrWord Constraint) p = error_low (codes "resource-constraint")
-  low_word (ErrWord TooHigh) p = λ high gone. never (comes (ErrWord TooHigh) p)
+  low_word (ErrWord TooHigh) p = λ high gone. no_count (comes (ErrWord TooHigh) p)
   low_word End p = λ high gone. high
 
   -- ---- the item

@@ -158,7 +158,7 @@ module _ (schedule : WireView) (right : IsLineList schedule) (d : ℕ) (o : Owne
       by_items [] none = subst IsLate (sym (ap (λ e. served_by position e w) late.there ∙ ap (λ l. served_first position l w) none)) late
       by_items (i ∷ items) pipe = item_late i items pipe
 
-      up_late : IsLate (moved (Up position) w)
+      abbrev up_late : IsLate (moved (Up position) w)
       up_late = by_items late.wire.up.items refl
 
     -- ---- items

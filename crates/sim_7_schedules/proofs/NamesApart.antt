@@ -1,5 +1,5 @@
 -- No two devices of a schedule have one name.
-use Rattle.std.proofs.Common.{◌≡◌, ℕ, ◌+◌, false, not, List, [], ◌∷◌, ◌++◌, length, map, refl, sym, ap, subst, append-nil, append_assoc}
+use Rattle.std.proofs.Common.{◌≡◌, ℕ, false, not, List, [], ◌∷◌, ◌++◌, length, map, refl, sym, ap, subst, append-nil, append_assoc}
 use Rattle.std.proofs.lemmas.Bool.{and_parts, not-true, or_parts}
 use Rattle.std.specs.List.{AllByRecursion, flat_map}
 use Rattle.std.specs.Prelude.{IsTrue, ◌&&◌, nat_lt}
@@ -28,9 +28,6 @@ abbrev pub AreApart : List (List ℕ) → Type 0
 AreApart [] = Unit {0}
 AreApart (name ∷ names) = IsApart name names × AreApart names
 
-flipped : (a b : List ℕ) → bytes_eq a b ≡ false → bytes_eq b a ≡ false
-flipped a b is = bytes_eq-from_other b a (λ same. other-from_bytes_eq a b is (sym same))
-
 with_last : (P : List ℕ → Type 0) (xs : List (List ℕ)) (x : List ℕ) → AllByRecursion P xs → P x → AllByRecursion P (xs ++ x ∷ [])
 with_last P [] x all is = (is, tt)
 with_last P (y ∷ ys) x all is = (all.0, with_last P ys x all.1 is)
@@ -39,7 +36,7 @@ with_new : (names : List (List ℕ)) (name : List ℕ) → AreApart names → is
 with_new [] name are new = (tt, tt)
 with_new (n ∷ names) name are new =
     let parts = or_parts (bytes_eq name n) (is_among name names) new in
-    (with_last (λ other. (bytes_eq n other ≡ false) × (bytes_eq other n ≡ false)) names name are.0 (flipped name n parts.0, parts.0), with_new names name are.1 parts.1)
+    (with_last (λ other. (bytes_eq n other ≡ false) × (bytes_eq other n ≡ false)) names name are.0 (bytes_eq-from_other n name (λ same. other-from_bytes_eq name n parts.0 (sym same)), parts.0), with_new names name are.1 parts.1)
 
 -- ---- the lines of a schedule
 

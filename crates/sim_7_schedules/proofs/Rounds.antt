@@ -1,5 +1,5 @@
 -- In a pass, and in each round of a run, a device asks for one page at most.
-use Rattle.std.proofs.Common.{◌≡◌, ◌⊎◌, ℕ, zero, suc, ◌+◌, ◌≤◌, Bool, true, false, List, [], ◌∷◌, ◌++◌, Some, length, refl, sym, ap, ◌∙◌, subst, arith, inl, inr}
+use Rattle.std.proofs.Common.{◌≡◌, ◌⊎◌, ℕ, zero, suc, ◌+◌, ◌≤◌, Bool, true, false, List, [], ◌++◌, Some, length, refl, sym, ap, ◌∙◌, subst, arith, inl, inr}
 use Rattle.std.proofs.lemmas.Bool.{cases_eq}
 use Rattle.std.proofs.lemmas.List.Concat.{flat_map-append}
 use Rattle.std.proofs.lemmas.Option.{same_Some}
@@ -25,6 +25,7 @@ use Rattle.sim_7_schedules.proofs.Positions.{MakesNone, here_at, here_of, up_mak
 use Rattle.law_payloads.specs.AsRead.{last_moment}
 use Rattle.sim_7_schedules.proofs.Wires.{down_moment}
 use Rattle.sim_7_schedules.proofs.Positions as positions
+use Rattle.sim_3_images.proofs.UpMoves.{moved_joined}
 
 -- ---- states
 

@@ -42,10 +42,11 @@ use Rattle.sim_1_applications.specs.Stanzas.{Submission, messages}
 use Rattle.sim_1_applications.proofs.Ground.{lines_of_device}
 use Rattle.sim_1_applications.proofs.Owners.{names_differ}
 use Rattle.sim_1_applications.proofs.WireSteps.{wire_stand}
+use Rattle.sim_1_applications.proofs.Taken.{of_mapped}
 use Rattle.sim_1_applications.specs.Reported as reported
 use Rattle.sim_1_applications.specs.Reported.{mark_of, said_of, take_of}
 use Rattle.sim_1_applications.specs.Runs.{begins, owned_of, steps_in}
-use Rattle.sim_7_schedules.proofs.EpochLists.{Have, IsBetween, accepted_in, accepted_none, accepted_numbered, all_unmapped, at_last, at_past, between, found_at, have_all, joined, put_in, put_none, put_numbered, said_same}
+use Rattle.sim_7_schedules.proofs.EpochLists.{Have, IsBetween, accepted_in, accepted_none, accepted_numbered, at_last, at_past, between, found_at, have_all, joined, put_in, put_none, put_numbered, said_same}
 use Rattle.sim_7_schedules.proofs.ReachedEpochs.{all_reached}
 use Rattle.sim_7_schedules.proofs.SessionPairs.{found_pair, has_epoch, pair_of}
 use Rattle.sim_7_schedules.specs.Messages.{AreTold, HasMessages, Told, messages_in, of_epoch, said_lines, taken_of, told, told_said, told_taken}
@@ -167,12 +168,12 @@ module _ (s : WireView) (right : IsLineList s) (W : ByteWorld) (x : sessions.App
 
   said_within : (d : DeviceState) → slice_get W.devices i ≡ Some d → AllByRecursion (λ (line : SaidLine). HasEpoch pairs_of_view line.epoch) (said_lines d)
   said_within d at =
-      all_unmapped (λ (m : Told). HasEpoch pairs_of_view m.epoch) told_said (said_lines d)
+      of_mapped (λ (m : Told). HasEpoch pairs_of_view m.epoch) told_said (said_lines d)
       (subst (AllByRecursion (λ (m : Told). HasEpoch pairs_of_view m.epoch)) (sym (put_all d at)) (lines_between put_in put_none put_have))
 
   taken_within : AllByRecursion (λ (line : TakeLine). HasEpoch pairs_of_view line.epoch) (taken_of o.device W.takes)
   taken_within =
-      all_unmapped (λ (m : Told). HasEpoch pairs_of_view m.epoch) told_taken (taken_of o.device W.takes)
+      of_mapped (λ (m : Told). HasEpoch pairs_of_view m.epoch) told_taken (taken_of o.device W.takes)
       (subst (AllByRecursion (λ (m : Told). HasEpoch pairs_of_view m.epoch)) (sym handled_all) (lines_between (accepted_in x.accounts) (accepted_none x.accounts) handled_have))
 
   each_told : (number e : ℕ) (p : Pair) → pairs_of_view number ≡ Some p → p.epoch ≡ Some e → HasMessages W i o e p

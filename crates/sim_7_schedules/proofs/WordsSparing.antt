@@ -2,11 +2,9 @@
 use Rattle.std.proofs.Common.{◌≡◌, ℕ, ◌+◌, Bool, true, false, List, [], ◌∷◌, ◌++◌, Option, Some, None, Ok, Err, codes, cond, length, nat_le, refl, sym, ap, subst, ◌∙◌, ◌⊎◌, inl, inr}
 use Rattle.std.proofs.lemmas.Option.{none-some, same_Some}
 use Rattle.std.specs.Option.{option_map}
-use Rattle.std.specs.Result.{result_ok}
 use Rattle.srv_state.specs.State.{ServerState, Step, full_address, with_sessions}
 use Rattle.srv_state.specs.Steps.{Act, Ask, Close, Say, acted}
 use Rattle.srv_state.specs.Streams.{parting_where, standing_of}
-use Rattle.srv_state.specs.Words.{is_long}
 use Rattle.srv_state.specs.declared.connection.Phase.TheVariants as phase
 use Rattle.srv_state.specs.declared.connection.Standing.{Standing}
 use Rattle.srv_state.specs.declared.connection.Tries.TheVariants as tries
@@ -21,7 +19,6 @@ use Rattle.sim_3_items.specs.ItemWorlds.{itself}
 use Rattle.sim_2_links.proofs.Expected.{expected_up}
 use Rattle.sim_2_links.specs.Views.{Table, View, on_phase}
 use Rattle.sim_2_links.specs.Words.{Auth, Bind, Enable, Foot, Hdr, Ready, Resp, Restart, ResumeAt, Start, Up, UpWord}
-use Rattle.sim_4_links_follow.proofs.BindReads.{bind_elem, bind_word, resource_asked, resource_chosen}
 use Rattle.sim_4_links_follow.proofs.Found.{found_on}
 use Rattle.sim_3_images.proofs.RuleKept.{found_is, numbered_here}
 use Rattle.sim_4_links_follow.proofs.HandMoves.{kept_here, row_here}
@@ -29,18 +26,17 @@ use Rattle.sim_4_links_follow.proofs.Leavings.{unseated}
 use Rattle.sim_4_links_follow.proofs.LoginRows.{auth_step, response_step, restart_step, start_step}
 use Rattle.sim_4_links_follow.proofs.ResumeRows.{IsOwnSession, own_session}
 use Rattle.sim_4_links_follow.proofs.StrangeRows.{resume_step}
+use Rattle.sim_4_links_follow.proofs.Binds.{bind_step}
 use Rattle.sim_4_links_follow.specs.Taking.{IsFirst, on_item}
-use Rattle.sm_live.specs.Sessions.{Session, after_resume, ended_of, fresh, is_named, is_too_high, less, resent, resume_answer, resume_ok, resumes, send_count, session_at, session_named, session_resumed, told, with_session, without}
+use Rattle.sm_live.specs.Sessions.{Session, after_resume, ended_of, fresh, is_named, is_too_high, less, resent, resume_answer, resume_ok, resumes, send_count, session_at, session_named, session_resumed, with_session, without}
 use Rattle.im_replies.specs.Management.{resumed_item}
 use Rattle.im_replies.specs.Requests.{bound_item}
 use Rattle.im_replies.specs.Streams.{error_item, too_high_item}
 use Rattle.im_replies.specs.declared.conditions.StreamCondition.TheVariants as stream
 use Rattle.sm_resumption.specs.Previds.{previd_of}
 use Rattle.sm_resumption.specs.declared.answers.ResumeFault.TheVariants.{TooHigh}
-use Rattle.srv_handlers.specs.Bindings.{binding_as, chosen, former_of}
+use Rattle.srv_handlers.specs.Bindings.{former_of}
 use Rattle.srv_handlers.specs.Resumptions.{asking, resent_where, resuming, saying}
-use Rattle.im_stanza.specs.Readings.{stanza_of}
-use Rattle.srv_core.specs.Ready.{at_ready_or_bound}
 use Rattle.sim_7_schedules.proofs.OtherSessions.{NotAt, NotOf, Spares, asking_spares, changed_others, fresh_others, not_at, not_of, others, parting_spares, saying_spares, then_sparing, without_others}
 use Rattle.xml_writer.specs.Items.{Closing, ItemOut}
 
@@ -87,19 +83,11 @@ module _ (who : Identity) (logins : ℕ → Login) (h : ServerState ItemOut) (wi
     ready : p.conn.phase ≡ Ready
     ready = expected_up v k p.conn Bind p.rest (kept_here who logins h wires v k Bind p) p.is p.first
 
-    nobody : session_at k h.sessions ≡ None
+    abbrev nobody : session_at k h.sessions ≡ None
     nobody = unseated who logins h v (kept_here who logins h wires v k Bind p) p.server k p.conn p.is (ap (λ q. on_phase q p.conn.ending p.conn.gone) ready)
 
     abbrev standing : Standing
     standing = standing_of (record { entropy = (logins k).yours; phase = phase.Ready who.account; tries = tries.Three })
-
-    bind_step : on_item k (up_item who (logins k) Bind) h ≡ acted itself (binding_as itself k who.account (codes "bind") (Some who.resource) h) (step_of h)
-    bind_step =
-        row_here who logins h wires v k Bind p Ready (item.Element (bind_elem who.resource)) ready
-        ∙ ap (λ w. acted itself (at_ready_or_bound itself k who.account w (option_map told (session_at k h.sessions)) standing h) (step_of h)) (bind_word who.resource)
-        ∙ ap (λ o. acted itself (at_ready_or_bound itself k who.account (word.Stanza (is_long (bind_elem who.resource)) (stanza_of (bind_elem who.resource))) (option_map told o) standing h) (step_of h)) nobody
-        ∙ ap (λ r. acted itself (binding_as itself k who.account (codes "bind") (result_ok (chosen h.next r)) h) (step_of h)) (resource_asked who.resource)
-        ∙ ap (λ r. acted itself (binding_as itself k who.account (codes "bind") (result_ok r) h) (step_of h)) (resource_chosen h.next who.resource p.normal.chosen p.normal.resource)
 
     -- where this is the older session with the device's name
     less_others : (o : Option (Session ItemOut)) → session_named who.account who.resource h.sessions ≡ o → others who.account who.resource (less o h.sessions) ≡ others who.account who.resource h.sessions
@@ -113,7 +101,7 @@ module _ (who : Identity) (logins : ℕ → Login) (h : ServerState ItemOut) (wi
     bind_spares : Left (on_item k (up_item who (logins k) Bind) h)
     bind_spares =
         let o = session_named who.account who.resource h.sessions in
-        subst Left (sym bind_step)
+        subst Left (sym (bind_step who logins h wires v k p))
         (then_sparing who.account who.resource h (parting_where itself (former_of (option_map ended_of o)) (error_item stream.Conflict) (Say k (bound_item (codes "bind") (full_address who.account who.resource h)) ∷ []))
         (parting_spares who.account who.resource h (former_of (option_map ended_of o)) (error_item stream.Conflict) (Say k (bound_item (codes "bind") (full_address who.account who.resource h)) ∷ []) (former o refl) tt)
         (record { server_state = record h { sessions = less o h.sessions ++ fresh h.next who.account who.resource k ∷ []; next = h.next + 1 }; outs = [] })
