@@ -148,17 +148,12 @@ module _ (schedule : WireView) (each : EachMoveSimulates schedule) (from : Views
       (IsInRound top n p (moved (Tick 0) w)) _ (tick_goes told says 0 w x top n p runs round)
       (λ y here mid. ups_go (then_told told (Tick 0) w) says position some.0 (moved (Tick 0) w) y top n p here mid))
 
-  -- moves, and then others
-  all_joined : (first second : List ItemMove) (w : ItemWorld) → all_moved (first ++ second) w ≡ all_moved second (all_moved first w)
-  all_joined [] second w = refl
-  all_joined (m ∷ first) second w = all_joined first second (moved m w)
-
   pub up_line : (told : Telling) (says position : ℕ) (first : List ItemMove) (ended : Bool) (w : ItemWorld) (x : AppWorld) (top n p : ℕ) → AreServedUps position first → WorldFrom schedule from told says w x → IsInRound top n p w x →
       Goes schedule from (told_along (first ++ moved_where (UpEnd position) ended) w told) says (all_moved (first ++ moved_where (UpEnd position) ended) w) x (IsInRound top n p (all_moved (first ++ moved_where (UpEnd position) ended) w))
   up_line told says position first ended w x top n p is runs round =
       subst (λ (t : Telling). Goes schedule from t says (all_moved (first ++ moved_where (UpEnd position) ended) w) x (IsInRound top n p (all_moved (first ++ moved_where (UpEnd position) ended) w)))
       (sym (told_joined first (moved_where (UpEnd position) ended) w told))
-      (subst (λ v. Goes schedule from (told_along (moved_where (UpEnd position) ended) (all_moved first w) (told_along first w told)) says v x (IsInRound top n p v)) (sym (all_joined first (moved_where (UpEnd position) ended) w))
+      (subst (λ v. Goes schedule from (told_along (moved_where (UpEnd position) ended) (all_moved first w) (told_along first w told)) says v x (IsInRound top n p v)) (sym (moved_joined first (moved_where (UpEnd position) ended) w))
       (then schedule from (told_along first w told) (told_along (moved_where (UpEnd position) ended) (all_moved first w) (told_along first w told)) says (all_moved first w) (all_moved (moved_where (UpEnd position) ended) (all_moved first w)) x
       (IsInRound top n p (all_moved first w)) _ (served_goes told says position first w x top n p is runs round)
       (λ y here mid. by ended (told_along first w told) (all_moved first w) y here mid)))
@@ -235,7 +230,7 @@ module _ (schedule : WireView) (each : EachMoveSimulates schedule) (from : Views
       subst (λ (t : Telling). Goes schedule from t says (all_moved (downs position count ++ moved_where (DownEnd position) ended) w) x (IsInRound (n + 1) n (position + 1) (all_moved (downs position count ++ moved_where (DownEnd position) ended) w)))
       (sym (told_joined (downs position count) (moved_where (DownEnd position) ended) w told))
       (subst (λ v. Goes schedule from (told_along (moved_where (DownEnd position) ended) (all_moved (downs position count) w) (told_along (downs position count) w told)) says v x (IsInRound (n + 1) n (position + 1) v))
-      (sym (all_joined (downs position count) (moved_where (DownEnd position) ended) w))
+      (sym (moved_joined (downs position count) (moved_where (DownEnd position) ended) w))
       (then schedule from (told_along (downs position count) w told) (told_along (moved_where (DownEnd position) ended) (all_moved (downs position count) w) (told_along (downs position count) w told)) says (all_moved (downs position count) w)
       (all_moved (moved_where (DownEnd position) ended) (all_moved (downs position count) w)) x (AreHanded n position (all_moved (downs position count) w)) _
       (downs_go told says position count w x n few timely runs (handed_of n position w x round))
