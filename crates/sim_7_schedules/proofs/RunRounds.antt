@@ -97,12 +97,12 @@ module _ (s : WireView) (i : ℕ) (o : Owned) (owned : IsOwned s i o) where
       let c1 = conn_of p v1 W1 x1 go.1 here1 in
       let c2 = conn_of p v2 W2 x2 go.3.1 here2 in
       let rest = moves_go (round_from (p + 1) count) ess v2 last W2 x2 go.3.3 in
-      let down = any_goes (of v1) (of v2) (go.3.2 i o owned) in
+      let down = any_goes (LabelsAreNotedIn (Down p All) W1 i) (of v1) (of v2) (go.3.2 i o owned) in
       let flows2 : is_flowing c2.0.wires ≡ true = flows_along IsAny rest.moves (of v2) (of last) (p + 1) c2.0 d rest.leads c2.1 at flows in
       let flows1 : is_flowing c1.0.wires ≡ true = flows_along IsAny down.moves (of v1) (of v2) (p + 1) c1.0 c2.0 down.leads c1.1 c2.1 flows2 in
       record {
         taken = of v1;
-        up = any_goes (of views) (of v1) (go.2 i o owned);
+        up = any_goes (LabelsAreNotedIn (Up p All) W i) (of views) (of v1) (go.2 i o owned);
         up_empty = (c1.0, c1.1, up_none p c1.0 v1 W x1 go.1 c1.1 flows1);
         read = of v2;
         down = down;
@@ -122,7 +122,7 @@ module _ (s : WireView) (i : ℕ) (o : Owned) (owned : IsOwned s i o) where
             (round_first p count es fs ess views last W x d go (subst (λ q. HasHere i q (all_moved (round_from (p + 1) count) (moved (Down p All) (moved (Up p All) W)))) (sym same) here) (subst (λ q. (of last).conns (q + 1) ≡ Some d) (sym same) at) flows)
         | inr other ↦
             begins_earlier (position + 1) (of views) (of go.3.0) (of last)
-            (goes_both (of views) (of go.0) (of go.3.0) (any_goes (LabelsAreNotedIn m W i) (of views) (of go.0) (go.2 i o owned)) (any_goes (of go.0) (of go.3.0) (go.3.2 i o owned)))
+            (goes_both (of views) (of go.0) (of go.3.0) (any_goes (LabelsAreNotedIn (Up p All) W i) (of views) (of go.0) (go.2 i o owned)) (any_goes (LabelsAreNotedIn (Down p All) (moved (Up p All) W) i) (of go.0) (of go.3.0) (go.3.2 i o owned)))
             (round_in position (p + 1) count ess go.3.0 last (moved (Down p All) (moved (Up p All) W)) (state_after (state_after x es) fs) d go.3.3 (omega (arith, from, other)) (omega (arith, below)) here at flows)
       ]
 
