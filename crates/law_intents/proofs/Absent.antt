@@ -1,11 +1,11 @@
 -- A try that is absent wasn't taken.
-use Rattle.std.proofs.Common.{◌≡◌, ℕ, zero, suc, ◌+◌, ◌-◌, ◌<◌, ◌≤◌, ◌==◌, Bool, true, false, List, [], ◌∷◌, ◌++◌, Option, Some, None, length, refl, sym, ap, ◌∙◌, subst, append_assoc, arith, inl, inr}
+use Rattle.std.proofs.Common.{◌≡◌, ℕ, zero, ◌+◌, ◌-◌, ◌<◌, ◌≤◌, ◌==◌, true, false, List, ◌∷◌, ◌++◌, length, sym, ap, ◌∙◌, subst, append_assoc, arith, inl, inr}
 use Rattle.std.specs.List.{AllByRecursion, filter, list_any, slice_get}
 use Rattle.std.specs.Option.{option_map_or}
 use Rattle.std.specs.Prelude.{◌&&◌, ◌||◌, drop}
 use Rattle.std.proofs.Math.Seq.{drop-append_seam}
 use Rattle.std.specs.Str.{bytes_eq}
-use Rattle.std.proofs.lemmas.Bool.{cases_Bool, eqb-true}
+use Rattle.std.proofs.lemmas.Bool.{cases_Bool, eqb-true, and_parts}
 use Rattle.std.proofs.lemmas.Slice.Eq.{bytes_eq-Decides}
 use Rattle.sim_1_applications.specs.Devices.{Take, concerns, last_of}
 use Rattle.sim_1_applications.specs.Kept.{is_of}
@@ -13,7 +13,7 @@ use Rattle.sim_1_applications.proofs.Archives.{last_grows}
 use Rattle.law_intents.specs.Intents.{Try, has_hole_from, is_entry, is_taken, is_try}
 use Rattle.law_intents.proofs.Numbers.{hole_behind, last_or, last_or_append, no_hole_has}
 use Rattle.law_intents.proofs.Since.{Since}
-use Rattle.law_intents.proofs.Splits.{Found, any_there, each_of, entry_there, first_true, found, number_there, same_rest, second_true, two_splits}
+use Rattle.law_intents.proofs.Splits.{Found, any_there, each_of, entry_there, found, number_there, same_rest, two_splits}
 
 -- what was known when the try was made, and what its device has now
 pub record Tried (i : ℕ) (t : Try) (account : List ℕ) (takes : List Take) (log : List ℕ) : Type 0 where
@@ -31,10 +31,10 @@ module _ (i e l : ℕ) (t : Try) (account : List ℕ) (takes : List Take) (log :
     (home : AllByRecursion (λ x. x.account ≡ account) (filter (is_of i) takes)) (whole : has_hole_from t.logged 0 log ≡ false) (missing : list_any (is_entry i t account takes) (drop t.logged log) ≡ false) where
   module _ (f : Found Take (is_try i t) takes) where
     device : (f.one.device == i) ≡ true
-    device = first_true (f.one.device == i) (f.one.said.epoch == t.epoch && f.one.said.n == t.n) f.is
+    device = (and_parts (f.one.device == i) (f.one.said.epoch == t.epoch && f.one.said.n == t.n) f.is).0
 
     epoch : f.one.said.epoch ≡ t.epoch
-    epoch = eqb-true f.one.said.epoch t.epoch (first_true (f.one.said.epoch == t.epoch) (f.one.said.n == t.n) (second_true (f.one.device == i) (f.one.said.epoch == t.epoch && f.one.said.n == t.n) f.is))
+    epoch = eqb-true f.one.said.epoch t.epoch ((and_parts (f.one.said.epoch == t.epoch) (f.one.said.n == t.n) ((and_parts (f.one.device == i) (f.one.said.epoch == t.epoch && f.one.said.n == t.n) f.is).1)).0)
 
     mine : f.one.account ≡ account
     mine = each_of i (λ x. x.account ≡ account) f.before f.one f.after device (subst (λ ts. AllByRecursion (λ (x : Take). x.account ≡ account) (filter (is_of i) ts)) f.are home)

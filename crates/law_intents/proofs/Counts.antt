@@ -1,9 +1,9 @@
 -- How many takes there are of the tries of an intent.
-use Rattle.std.proofs.Common.{◌≡◌, ℕ, zero, suc, ◌+◌, ◌-◌, ◌≤◌, ◌<◌, ◌==◌, Bool, true, false, cond, List, [], ◌∷◌, ◌++◌, Option, Some, None, length, map, refl, sym, ap, ◌∙◌, subst, arith, inl, inr, ◌⊎◌}
+use Rattle.std.proofs.Common.{◌≡◌, ℕ, zero, suc, ◌-◌, ◌≤◌, ◌<◌, ◌==◌, Bool, true, false, cond, List, [], ◌∷◌, ◌++◌, Option, Some, None, length, map, refl, sym, ap, ◌∙◌, subst, arith, inl, inr}
 use Rattle.std.specs.List.{AllByRecursion, filter, list_any, slice_get}
 use Rattle.std.specs.Option.{option_map_or}
 use Rattle.std.specs.Prelude.{◌&&◌, ◌||◌, drop, take}
-use Rattle.std.proofs.lemmas.Bool.{cases_Bool, eqb-true, or_right}
+use Rattle.std.proofs.lemmas.Bool.{cases_Bool, eqb-true, or_right, and_parts, or_parts}
 use Rattle.std.proofs.lemmas.List.{take-append-drop}
 use Rattle.sim_1_applications.specs.Stanzas.{Submission, messages}
 use Rattle.sim_1_applications.specs.Devices.{AppWorld, Device, Session, Take, concerns, log_of, up_put}
@@ -15,12 +15,13 @@ use Rattle.sim_1_applications.proofs.Lists.{all_front, all_rest}
 use Rattle.sim_1_applications.proofs.Numbered.{messages_append}
 use Rattle.sim_1_applications.proofs.TakenOnes as ones
 use Rattle.law_intents.specs.Intents.{Try, all_sessions, is_acknowledged, is_entry, is_logged, is_submission, is_taken, is_try, taken_of}
-use Rattle.law_intents.proofs.Splits.{Found, any_filter, any_get, any_there, first_true, found, none_of_two, second_true}
+use Rattle.law_intents.proofs.Splits.{Found, any_filter, any_get, found}
+use Rattle.std.proofs.Math.Bool.{or-false}
 
 pub none_of_none : {A : Type 0} (p : A → Bool) (xs : List A) → list_any p xs ≡ false → filter p xs ≡ []
 none_of_none p [] none = refl
 none_of_none p (x ∷ xs) none =
-    let parts = none_of_two (p x) (list_any p xs) none in
+    let parts = or_parts (p x) (list_any p xs) none in
     ap (λ b. cond b (x ∷ filter p xs) (filter p xs)) parts.0 ∙ none_of_none p xs parts.1
 
 pub some_of_any : {A : Type 0} (p : A → Bool) (xs : List A) → list_any p xs ≡ true → 1 ≤ length (filter p xs)
@@ -42,10 +43,10 @@ later_ones i t m (x ∷ takes) is all = chosen (x.device == i) (later_ones i t m
     differs before = elim (cases_Bool (is_submission t x.said)) [
       | inr other ↦ other
       | inl same ↦
-          let e : m.epoch ≡ t.epoch = eqb-true m.epoch t.epoch (first_true (m.epoch == t.epoch) (m.n == t.n) is) in
-          let n : m.n ≡ t.n = eqb-true m.n t.n (second_true (m.epoch == t.epoch) (m.n == t.n) is) in
-          let f : x.said.epoch ≡ t.epoch = eqb-true x.said.epoch t.epoch (first_true (x.said.epoch == t.epoch) (x.said.n == t.n) same) in
-          let o : x.said.n ≡ t.n = eqb-true x.said.n t.n (second_true (x.said.epoch == t.epoch) (x.said.n == t.n) same) in
+          let e : m.epoch ≡ t.epoch = eqb-true m.epoch t.epoch ((and_parts (m.epoch == t.epoch) (m.n == t.n) is).0) in
+          let n : m.n ≡ t.n = eqb-true m.n t.n ((and_parts (m.epoch == t.epoch) (m.n == t.n) is).1) in
+          let f : x.said.epoch ≡ t.epoch = eqb-true x.said.epoch t.epoch ((and_parts (x.said.epoch == t.epoch) (x.said.n == t.n) same).0) in
+          let o : x.said.n ≡ t.n = eqb-true x.said.n t.n ((and_parts (x.said.epoch == t.epoch) (x.said.n == t.n) same).1) in
           absurd (elim before [ inl low ↦ never m.epoch x.said.epoch t.epoch e f low | inr both ↦ never m.n x.said.n t.n n o both.1 ])
     ]
       where
@@ -83,7 +84,7 @@ heads : (i : ℕ) (x : Take) (takes : List Take) (tries : List Try) → AllByRec
     (list_any (λ u. is_try i u x) tries ≡ false) × AllByRecursion (λ u. is_taken i u takes ≡ false) tries
 heads i x takes [] all = (refl, tt)
 heads i x takes (u ∷ tries) all =
-    let parts = none_of_two (is_try i u x) (is_taken i u takes) all.0 in
+    let parts = or_parts (is_try i u x) (is_taken i u takes) all.0 in
     let rest = heads i x takes tries all.1 in
     (ap (λ b. b || list_any (λ v. is_try i v x) tries) parts.0 ∙ rest.0, (parts.1, rest.1))
 
@@ -92,13 +93,9 @@ pub taken_of_newest : (i : ℕ) (t : Try) (tries : List Try) (takes : List Take)
 taken_of_newest i t tries [] all = refl
 taken_of_newest i t tries (x ∷ takes) all =
     let parts = heads i x takes tries all in
-    let same : (is_try i t x || list_any (λ u. is_try i u x) tries) ≡ is_try i t x = ap (λ b. is_try i t x || b) parts.0 ∙ or_false (is_try i t x) in
+    let same : (is_try i t x || list_any (λ u. is_try i u x) tries) ≡ is_try i t x = ap (λ b. is_try i t x || b) parts.0 ∙ or-false (is_try i t x) in
     ap (λ b. cond b (x ∷ taken_of i (t ∷ tries) takes) (taken_of i (t ∷ tries) takes)) same
     ∙ ap (λ l. cond (is_try i t x) (x ∷ l) l) (taken_of_newest i t tries takes parts.1)
-  where
-    or_false : (b : Bool) → (b || false) ≡ b
-    or_false true = refl
-    or_false false = refl
 
 -- ---- what is logged, or acknowledged, was taken
 
@@ -143,13 +140,13 @@ acknowledged_is w i d t taken at is =
     (subst (AllByRecursion (λ m. is_among m.to w.accounts ≡ true → ones.is_taken_of i m w.takes ≡ true)) split sorted.got) in
     let mine = each_one (λ m. is_among m.to w.accounts ≡ true → ones.is_taken_of i m w.takes ≡ true) g.before g.one g.after
     (subst (AllByRecursion (λ m. is_among m.to w.accounts ≡ true → ones.is_taken_of i m w.takes ≡ true)) g.are got) in
-    same_key g.one (first_true (is_submission t g.one) (is_among g.one.to w.accounts) g.is) w.takes
-    (mine (second_true (is_submission t g.one) (is_among g.one.to w.accounts) g.is))
+    same_key g.one ((and_parts (is_submission t g.one) (is_among g.one.to w.accounts) g.is).0) w.takes
+    (mine ((and_parts (is_submission t g.one) (is_among g.one.to w.accounts) g.is).1))
   where
     same_key : (m : Submission) → is_submission t m ≡ true → (takes : List Take) → ones.is_taken_of i m takes ≡ true → is_taken i t takes ≡ true
     same_key m is takes known =
-        let e : m.epoch ≡ t.epoch = eqb-true m.epoch t.epoch (first_true (m.epoch == t.epoch) (m.n == t.n) is) in
-        let n : m.n ≡ t.n = eqb-true m.n t.n (second_true (m.epoch == t.epoch) (m.n == t.n) is) in
+        let e : m.epoch ≡ t.epoch = eqb-true m.epoch t.epoch ((and_parts (m.epoch == t.epoch) (m.n == t.n) is).0) in
+        let n : m.n ≡ t.n = eqb-true m.n t.n ((and_parts (m.epoch == t.epoch) (m.n == t.n) is).1) in
         ap (λ k. list_any (λ (x : Take). (x.device == i) && (x.said.epoch == k && x.said.n == t.n)) takes) (sym e)
         ∙ ap (λ k. list_any (λ (x : Take). (x.device == i) && (x.said.epoch == m.epoch && x.said.n == k)) takes) (sym n)
         ∙ known

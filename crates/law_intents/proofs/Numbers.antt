@@ -1,12 +1,12 @@
 -- The numbers of a log.
-use Rattle.std.proofs.Common.{◌≡◌, ℕ, zero, suc, ◌+◌, ◌<◌, ◌≤◌, ◌==◌, Bool, true, false, List, [], ◌∷◌, ◌++◌, Option, Some, None, length, refl, sym, ap, ◌∙◌, arith, inl, inr}
+use Rattle.std.proofs.Common.{◌≡◌, ℕ, zero, ◌+◌, ◌<◌, ◌≤◌, ◌==◌, Bool, true, false, List, [], ◌∷◌, ◌++◌, length, refl, sym, ap, ◌∙◌, arith, inl, inr}
 use Rattle.std.specs.List.{list_any}
 use Rattle.std.specs.Prelude.{◌||◌, not}
-use Rattle.std.proofs.lemmas.Bool.{cases_Bool, eq-eqb, eqb-true, or_right}
+use Rattle.std.proofs.lemmas.Bool.{cases_Bool, eq-eqb, eqb-true, or_right, or_parts}
 use Rattle.sim_1_applications.specs.Answers.{last_in}
 use Rattle.sim_1_applications.specs.Events.{number_or_none}
 use Rattle.law_intents.specs.Intents.{has_hole_from}
-use Rattle.law_intents.proofs.Splits.{none_of_two, not_false}
+use Rattle.law_intents.proofs.Splits.{not_false}
 
 abbrev pub last_or : ℕ → List ℕ → ℕ
 last_or n [] = n
@@ -25,7 +25,7 @@ last_or_none (x ∷ y ∷ xs) = last_or_none (y ∷ xs)
 pub no_hole_has : (p : ℕ → Bool) (before : ℕ) (ns : List ℕ) → has_hole_from zero before ns ≡ false → (x : ℕ) → before < x → x ≤ last_or before ns → p x ≡ true → list_any p ns ≡ true
 no_hole_has p before [] none x above within is = absurd (omega arith)
 no_hole_has p before (n ∷ ns) none x above within is =
-    let parts = none_of_two (not (n == before + 1)) (has_hole_from zero n ns) none in
+    let parts = or_parts (not (n == before + 1)) (has_hole_from zero n ns) none in
     let next : n ≡ before + 1 = eqb-true n (before + 1) (not_false (n == before + 1) parts.0) in
     elim (cases_Bool (x == n)) [
       | inl same ↦ (let e : x ≡ n = eqb-true x n same in ap (λ b. b || list_any p ns) (ap p (sym e) ∙ is))

@@ -1,36 +1,20 @@
 -- Lists of takes, split at one of them.
-use Rattle.std.proofs.Common.{◌≡◌, ℕ, zero, suc, ◌+◌, ◌-◌, ◌<◌, ◌≤◌, ◌==◌, Bool, true, false, cond, List, [], ◌∷◌, ◌++◌, Option, Some, None, length, refl, sym, ap, ◌∙◌, subst, arith, inl, inr, ◌⊎◌}
+use Rattle.std.proofs.Common.{◌≡◌, ℕ, zero, suc, ◌+◌, ◌<◌, ◌≤◌, ◌==◌, Bool, true, false, cond, List, [], ◌∷◌, ◌++◌, Some, length, refl, sym, ap, ◌∙◌, subst, arith, inl, inr, ◌⊎◌}
 use Rattle.std.specs.List.{AllByRecursion, filter, list_any, slice_get}
 use Rattle.std.specs.Prelude.{◌&&◌, ◌||◌, not}
-use Rattle.std.proofs.lemmas.Bool.{cases_Bool, eqb-true, ne_eqb, or_right}
+use Rattle.std.proofs.lemmas.Bool.{cases_Bool, ne_eqb, or_right, or_parts}
 use Rattle.std.proofs.lemmas.List.{length-append}
 use Rattle.std.proofs.lemmas.List.Elements.{filter-append}
 use Rattle.sim_1_applications.specs.Devices.{Take, concerns, last_of}
 use Rattle.sim_1_applications.specs.Kept.{is_of}
 use Rattle.sim_1_applications.proofs.Lists.{all_rest}
-use Rattle.law_intents.specs.Intents.{Try, is_taken, is_try}
+use Rattle.law_intents.specs.Intents.{Try, is_taken}
 
 -- ---- truths
-
-pub first_true : (b c : Bool) → (b && c) ≡ true → b ≡ true
-first_true true c e = refl
-first_true false c e = absurd (let bad : ⊥ = cc in bad)
-
-pub second_true : (b c : Bool) → (b && c) ≡ true → c ≡ true
-second_true true c e = e
-second_true false c e = absurd (let bad : ⊥ = cc in bad)
-
-pub not_true : (b : Bool) → not b ≡ true → b ≡ false
-not_true true e = absurd (let bad : ⊥ = cc in bad)
-not_true false e = refl
 
 pub not_false : (b : Bool) → not b ≡ false → b ≡ true
 not_false true e = refl
 not_false false e = absurd (let bad : ⊥ = cc in bad)
-
-pub none_of_two : (b c : Bool) → (b || c) ≡ false → (b ≡ false) × (c ≡ false)
-none_of_two true c e = absurd (let bad : ⊥ = cc in bad)
-none_of_two false c e = (refl, e)
 
 -- ---- splits
 
@@ -75,7 +59,7 @@ any_behind p (x ∷ xs) ys is = or_right (p x) (list_any p (xs ++ ys)) (any_behi
 
 pub none_both : {A : Type 0} (p : A → Bool) (xs ys : List A) → list_any p xs ≡ false → list_any p ys ≡ false → list_any p (xs ++ ys) ≡ false
 none_both p [] ys first second = second
-none_both p (x ∷ xs) ys first second = (let parts = none_of_two (p x) (list_any p xs) first in ap (λ b. b || list_any p (xs ++ ys)) parts.0 ∙ none_both p xs ys parts.1 second)
+none_both p (x ∷ xs) ys first second = (let parts = or_parts (p x) (list_any p xs) first in ap (λ b. b || list_any p (xs ++ ys)) parts.0 ∙ none_both p xs ys parts.1 second)
 
 pub any_get : {A : Type 0} (p : A → Bool) (xs : List A) (k : ℕ) (x : A) → slice_get xs k ≡ Some x → p x ≡ true → list_any p xs ≡ true
 any_get p [] k x at is = absurd (let bad : ⊥ = cc in bad)

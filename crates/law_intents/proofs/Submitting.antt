@@ -1,13 +1,13 @@
 -- Tries along events, and a new one.
-use Rattle.std.proofs.Common.{◌≡◌, ℕ, zero, suc, ◌+◌, ◌≤◌, ◌<◌, ◌==◌, Bool, true, false, cond, List, [], ◌∷◌, ◌++◌, Option, Some, None, length, refl, sym, ap, ◌∙◌, subst, append_assoc, arith, inl, inr}
-use Rattle.std.specs.List.{AllByRecursion, filter, list_any, slice_get}
+use Rattle.std.proofs.Common.{◌≡◌, ℕ, ◌≤◌, ◌<◌, true, false, List, [], ◌++◌, Some, sym, ap, ◌∙◌, subst, append_assoc, arith}
+use Rattle.std.specs.List.{AllByRecursion, filter, slice_get}
 use Rattle.std.specs.Prelude.{◌&&◌, nat_lt, not}
-use Rattle.std.proofs.lemmas.Bool.{eq-eqb, ltb-true}
+use Rattle.std.proofs.lemmas.Bool.{ltb-true, and_parts, not-true}
 use Rattle.std.proofs.lemmas.List.{append-nil}
 use Rattle.sim_1_applications.specs.Stanzas.{Submission}
 use Rattle.sim_1_applications.specs.Devices.{Device, Take, AppWorld, epoch_of, last_of, log_of}
-use Rattle.sim_1_applications.specs.Kept.{Read, Taken, ends_at, handled, is_of, numbers_by, top_of}
-use Rattle.sim_1_applications.proofs.Lists.{all_rest, all_weaker}
+use Rattle.sim_1_applications.specs.Kept.{Read, Taken, ends_at, handled, is_of, numbers_by}
+use Rattle.sim_1_applications.proofs.Lists.{all_weaker}
 use Rattle.sim_1_applications.proofs.Tiles.{log_last, numbers_last, top_within}
 use Rattle.law_intents.specs.Intents.{IsNext, Notes, Try, has_hole, is_absent, is_logged, is_taken, is_try}
 use Rattle.law_intents.proofs.Absent.{Tried, absent_is_not_taken}
@@ -15,7 +15,7 @@ use Rattle.law_intents.proofs.Ends.{le_two, numbers_append}
 use Rattle.law_intents.proofs.Nexts.{Prev, epoch_rises}
 use Rattle.law_intents.proofs.Handled.{handled_within, none_numbered}
 use Rattle.law_intents.proofs.Numbers.{last_or, last_or_none}
-use Rattle.law_intents.proofs.Splits.{first_true, none_both, none_of_epoch, not_true, second_true}
+use Rattle.law_intents.proofs.Splits.{none_both, none_of_epoch}
 use Rattle.law_intents.proofs.Watching.{Watched}
 
 -- it wasn't taken, and its epoch is over
@@ -80,10 +80,10 @@ log_within i w d read at =
 pub absent_is_gone : (i : ℕ) (t : Try) (o : Notes) (w : AppWorld) (d : Device) → Taken w → Read w → slice_get w.devices i ≡ Some d → Watched i w o d →
     Tried i t d.account w.takes (log_of d.reading) → is_absent i t o w.takes d ≡ true → Gone i t w.takes (epoch_of d.sessions)
 absent_is_gone i t o w d taken read at watched tried absent =
-    let later : t.epoch < o.sure = ltb-true t.epoch o.sure (first_true (nat_lt t.epoch o.sure) (not (has_hole t.logged (log_of d.reading)) && not (is_logged i t w.takes d)) absent) in
-    let rest = second_true (nat_lt t.epoch o.sure) (not (has_hole t.logged (log_of d.reading)) && not (is_logged i t w.takes d)) absent in
-    let whole = not_true (has_hole t.logged (log_of d.reading)) (first_true (not (has_hole t.logged (log_of d.reading))) (not (is_logged i t w.takes d)) rest) in
-    let missing = not_true (is_logged i t w.takes d) (second_true (not (has_hole t.logged (log_of d.reading))) (not (is_logged i t w.takes d)) rest) in
+    let later : t.epoch < o.sure = ltb-true t.epoch o.sure ((and_parts (nat_lt t.epoch o.sure) (not (has_hole t.logged (log_of d.reading)) && not (is_logged i t w.takes d)) absent).0) in
+    let rest = (and_parts (nat_lt t.epoch o.sure) (not (has_hole t.logged (log_of d.reading)) && not (is_logged i t w.takes d)) absent).1 in
+    let whole = not-true (has_hole t.logged (log_of d.reading)) ((and_parts (not (has_hole t.logged (log_of d.reading))) (not (is_logged i t w.takes d)) rest).0) in
+    let missing = not-true (is_logged i t w.takes d) ((and_parts (not (has_hole t.logged (log_of d.reading))) (not (is_logged i t w.takes d)) rest).1) in
     record {
       none = absent_is_not_taken i o.sure watched.sure.l t d.account w.takes (log_of d.reading) tried watched.sure.since later
           (over watched.sure.read (log_ends i w d read at)) (taken.devices i d at).takes.home whole missing;

@@ -1,13 +1,13 @@
 -- What an observer's notes stand for, along events and looks.
-use Rattle.std.proofs.Common.{◌≡◌, ℕ, zero, suc, ◌+◌, ◌≤◌, ◌<◌, ◌==◌, Bool, true, false, cond, List, [], ◌∷◌, ◌++◌, Option, Some, None, length, refl, sym, ap, ◌∙◌, subst, arith, inl, inr, ◌⊎◌}
-use Rattle.std.specs.List.{AllByRecursion, filter, slice_get}
+use Rattle.std.proofs.Common.{◌≡◌, ℕ, ◌+◌, ◌≤◌, ◌==◌, Bool, true, false, cond, ◌++◌, Some, None, length, refl, sym, ap, ◌∙◌, subst, arith, inl, inr, le_refl}
+use Rattle.std.specs.List.{filter, slice_get}
 use Rattle.std.specs.Prelude.{drop}
 use Rattle.std.proofs.lemmas.Bool.{eqb-true}
 use Rattle.std.proofs.lemmas.List.{length-append}
 use Rattle.std.proofs.lemmas.Option.{slice_get_within}
-use Rattle.sim_1_applications.specs.Devices.{Device, Reading, Take, Tile, AppWorld, epoch_of, last_of}
+use Rattle.sim_1_applications.specs.Devices.{Device, Reading, Take, AppWorld, epoch_of, last_of}
 use Rattle.sim_1_applications.specs.Events as events
-use Rattle.sim_1_applications.specs.Kept.{AreTiles, Read, Taken, ends_at, is_of}
+use Rattle.sim_1_applications.specs.Kept.{AreTiles, Read, ends_at, is_of}
 use Rattle.sim_1_applications.proofs.Fresh.{Seen}
 use Rattle.sim_1_applications.proofs.Lists.{all_weaker}
 use Rattle.law_intents.specs.Intents.{Notes, has_complete, observed}
@@ -75,22 +75,19 @@ longer i w next x prev = above (length x.reading.tiles) (length prev.d.reading.t
     above : (a b c : ℕ) → a ≡ b + c → b ≤ a
     above a b c is = omega arith
 
-itself : (n : ℕ) → n ≤ n
-itself n = omega arith
-
 present_moves : (i : ℕ) (event : events.AppEvent) (w next : AppWorld) (x : Device) → events.Moves event w next → slice_get next.devices i ≡ Some x → (prev : Prev i w next x) →
     Mark i (epoch_of prev.d.sessions) (length prev.d.reading.tiles) w prev.d → Mark i (epoch_of x.sessions) (length x.reading.tiles) next x
 present_moves i event w next x is at prev kept = elim prev.epoch [
   | inl same ↦
       subst (λ e. Mark i e (length x.reading.tiles) next x) (sym same)
-      (mark_moves i (epoch_of prev.d.sessions) (length prev.d.reading.tiles) (length x.reading.tiles) event w next x is at prev (itself (epoch_of prev.d.sessions)) (longer i w next x prev) kept)
+      (mark_moves i (epoch_of prev.d.sessions) (length prev.d.reading.tiles) (length x.reading.tiles) event w next x is at prev (le_refl (epoch_of prev.d.sessions)) (longer i w next x prev) kept)
   | inr more ↦
       record {
         l = last_of next.takes x.account;
         first = length x.reading.tiles;
         since = since_now i (epoch_of x.sessions) x.account next.takes;
         seen = fresh_seen (last_of next.takes x.account) x.reading more.1;
-        few = itself (length x.reading.tiles);
+        few = le_refl (length x.reading.tiles);
       }
 ]
 
@@ -98,7 +95,7 @@ pub ends_next : (i : ℕ) (w next : AppWorld) (x : Device) (prev : Prev i w next
 ends_next i w next x prev read at =
     let last = last_of next.takes x.account in
     let tiles : AreTiles next.keep 0 0 last (prev.d.reading.tiles ++ prev.tiles.0) = subst (AreTiles next.keep 0 0 last) prev.tiles.1 (read.devices i x at).tiles.tiles in
-    let grown = ends_grow next.keep 0 0 last prev.d.reading.tiles prev.tiles.0 read.keep (itself 0) tiles in
+    let grown = ends_grow next.keep 0 0 last prev.d.reading.tiles prev.tiles.0 read.keep (le_refl 0) tiles in
     subst (λ ts. ends_at w.keep 0 prev.d.reading.tiles ≤ ends_at next.keep 0 ts) (sym prev.tiles.1)
     (subst (λ k. ends_at k 0 prev.d.reading.tiles ≤ ends_at next.keep 0 (prev.d.reading.tiles ++ prev.tiles.0)) prev.keep grown)
 
@@ -106,7 +103,7 @@ pub watched_moves : (i : ℕ) (o : Notes) (event : events.AppEvent) (w next : Ap
     Watched i w o prev.d → Watched i next o x
 watched_moves i o event w next x is read at prev kept = record {
   present = present_moves i event w next x is at prev kept.present;
-  noted = mark_moves i o.seen o.mark o.mark event w next x is at prev kept.rises (itself o.mark) kept.noted;
+  noted = mark_moves i o.seen o.mark o.mark event w next x is at prev kept.rises (le_refl o.mark) kept.noted;
   sure = record {
     l = kept.sure.l;
     since = since_next i o.sure kept.sure.l w next x prev (le_two kept.low kept.rises) kept.sure.since;
@@ -124,7 +121,7 @@ watched_looks i o w d read at kept = record {
   noted = marked (epoch_of d.sessions == o.seen) refl;
   sure = surely (has_complete (drop o.mark d.reading.tiles)) refl;
   low = highest (has_complete (drop o.mark d.reading.tiles));
-  rises = itself (epoch_of d.sessions);
+  rises = le_refl (epoch_of d.sessions);
 }
   where
     marked : (b : Bool) → (epoch_of d.sessions == o.seen) ≡ b → Mark i (epoch_of d.sessions) (cond b o.mark (length d.reading.tiles)) w d
@@ -142,7 +139,7 @@ watched_looks i o w d read at kept = record {
           since = kept.noted.since;
           read = le_two (kept.noted.seen.tiles whole.index whole.tile whole.at (le_two kept.noted.few whole.late))
               (le_two (answered_at w.keep 0 0 last d.reading.tiles tiles whole.index whole.tile whole.at)
-              (complete_ends w.keep 0 0 last d.reading.tiles read.keep (itself 0) tiles whole.index whole.tile whole.at whole.whole));
+              (complete_ends w.keep 0 0 last d.reading.tiles read.keep (le_refl 0) tiles whole.index whole.tile whole.at whole.whole));
         }
 
     highest : (c : Bool) → cond c o.seen o.sure ≤ epoch_of d.sessions

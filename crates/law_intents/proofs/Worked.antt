@@ -3,14 +3,13 @@ use Rattle.std.proofs.Common.{◌≡◌, ℕ, ◌==◌, Bool, true, false, List,
 use Rattle.std.specs.List.{slice_get}
 use Rattle.std.specs.Option.{option_map_or}
 use Rattle.std.specs.Prelude.{◌&&◌, nat_lt, is_some}
-use Rattle.std.proofs.lemmas.Bool.{eqb-true, ltb-true}
+use Rattle.std.proofs.lemmas.Bool.{eqb-true, ltb-true, and_parts}
 use Rattle.sim_1_applications.specs.Devices.{Device, epoch_of, last_of, log_of, new_device}
 use Rattle.sim_1_applications.specs.Events.{AppEvent, Moves, after}
 use Rattle.sim_1_applications.specs.Events.AppEvent.{At}
 use Rattle.sim_1_applications.specs.Events.Act.{Bind, ReadBound, Enable, ReadEnabled, End, Drop, Say, CatchUp, ServerHandles, ClientHandles}
 use Rattle.sim_1_applications.proofs.Legal.{happens, runs}
 use Rattle.law_intents.specs.Intents.{Happens, IntentEvent, IntentMoves, IntentReached, IntentReaches, IntentWorld, IsNext, Looks, MaySubmit, Tries, Try, intent_beginning, is_absent, is_logged, observed}
-use Rattle.law_intents.proofs.Splits.{first_true, second_true}
 
 -- ---- a test of what may happen
 
@@ -45,11 +44,11 @@ submits s d (t ∷ tries) is = is
 
 is_next_of : (d : Device) (t : Try) → is_next d t ≡ true → IsNext d t
 is_next_of d t is =
-    let rest = second_true (t.epoch == epoch_of d.sessions) (nat_lt d.sessions.n t.n && t.logged == length (log_of d.reading)) is in
+    let rest = (and_parts (t.epoch == epoch_of d.sessions) (nat_lt d.sessions.n t.n && t.logged == length (log_of d.reading)) is).1 in
     record {
-      epoch = eqb-true t.epoch (epoch_of d.sessions) (first_true (t.epoch == epoch_of d.sessions) (nat_lt d.sessions.n t.n && t.logged == length (log_of d.reading)) is);
-      n = ltb-true d.sessions.n t.n (first_true (nat_lt d.sessions.n t.n) (t.logged == length (log_of d.reading)) rest);
-      logged = eqb-true t.logged (length (log_of d.reading)) (second_true (nat_lt d.sessions.n t.n) (t.logged == length (log_of d.reading)) rest);
+      epoch = eqb-true t.epoch (epoch_of d.sessions) ((and_parts (t.epoch == epoch_of d.sessions) (nat_lt d.sessions.n t.n && t.logged == length (log_of d.reading)) is).0);
+      n = ltb-true d.sessions.n t.n ((and_parts (nat_lt d.sessions.n t.n) (t.logged == length (log_of d.reading)) rest).0);
+      logged = eqb-true t.logged (length (log_of d.reading)) ((and_parts (nat_lt d.sessions.n t.n) (t.logged == length (log_of d.reading)) rest).1);
     }
 
 moves_on : (event : IntentEvent) (s : IntentWorld) → can event s ≡ true → IntentMoves 0 event s (next_world event s)
@@ -65,14 +64,14 @@ moves_on (Tries t) s is = tries (slice_get s.world.devices 0) refl is
   where
     tries : (o : Option Device) → slice_get s.world.devices 0 ≡ o → option_map_or (λ d. may_submit s d s.tries && is_next d t) o false ≡ true → IntentMoves 0 (Tries t) s (next_world (Tries t) s)
     tries None at is = absurd (let bad : ⊥ = cc in bad)
-    tries (Some d) at is = (d, at, submits s d s.tries (first_true (may_submit s d s.tries) (is_next d t) is), is_next_of d t (second_true (may_submit s d s.tries) (is_next d t) is), refl)
+    tries (Some d) at is = (d, at, submits s d s.tries ((and_parts (may_submit s d s.tries) (is_next d t) is).0), is_next_of d t ((and_parts (may_submit s d s.tries) (is_next d t) is).1), refl)
 
 all_on : (events : List IntentEvent) (s : IntentWorld) → all_can events s ≡ true → IntentReaches 0 events s (last_world events s)
 all_on [] s is = refl
 all_on (event ∷ events) s is = (
   next_world event s,
-  moves_on event s (first_true (can event s) (all_can events (next_world event s)) is),
-  all_on events (next_world event s) (second_true (can event s) (all_can events (next_world event s)) is),
+  moves_on event s ((and_parts (can event s) (all_can events (next_world event s)) is).0),
+  all_on events (next_world event s) ((and_parts (can event s) (all_can events (next_world event s)) is).1),
 )
 
 -- ---- two devices, of ann and bob; the first one's user has the intent
