@@ -19,6 +19,7 @@ ghost use Rattle.sm_outbox.specs.Submissions.{all_said};
 
 use crate::faults::{CatchUpStart, SayFault};
 use crate::page_requests::catch_up;
+use crate::replacing::{replace_framer, replace_phase};
 use crate::steps::{take_fault, take_items};
 use crate::user::say;
 use base_io::{ListOf, NoMemory};
@@ -32,10 +33,18 @@ use std::marker::Model;
 use xml_framer::{FeedFault, Framer, Items, Limits};
 
 /// A client: what it keeps over connections, and the framer of its connection, where one stands.
-#[derive(Drop)]
 pub struct Client {
     framer: Option<Framer>,
     state: ClientState,
+}
+
+// Written out, so that who drops a client doesn't prove again how each part of it is dropped.
+impl Drop for Client {
+    fn drop(self) {
+        let Client { framer, state } = self;
+        drop(framer);
+        drop(state);
+    }
 }
 
 impl Model for Client {
@@ -57,7 +66,7 @@ fn take_first(state: &mut ClientState, alloc: Global, items: Items, out: &mut Cl
     ensures { (due : List Item) → IsFrontOf items.items due → IsStopped in_bytes (client_step_of state.old out.old) due (client_step_of state.new out.new) }
 {
     match take_items(state, alloc, items, out) {
-        Ok(()) => state.phase = Phase::Apart,
+        Ok(()) => replace_phase(&mut state.phase, Phase::Apart),
         Err(NoMemory) => {}
     }
 }
@@ -86,13 +95,6 @@ fn take_piece(
             Err(NoMemory)
         }
     }
-}
-
-// Puts another framer, or none, in the place of one. The drop of a framer has many branches: they stay in here.
-fn replace_framer(framer: &mut Option<Framer>, other: Option<Framer>)
-    ensures { framer.new ≡ other }
-{
-    *framer = other;
 }
 
 impl Client {
@@ -158,8 +160,8 @@ impl Client {
     pub fn gone(&mut self)
         ensures { (out : ClientOut) → fed_of self.new out ≡ leaves (fed_of self.old out) }
     {
-        self.framer = None;
-        self.state.phase = Phase::Apart;
+        replace_framer(&mut self.framer, None);
+        replace_phase(&mut self.state.phase, Phase::Apart);
     }
 
     /// The connection is lost, and the session ends too: of the submissions that wait it isn't known what became of them, and
@@ -168,8 +170,8 @@ impl Client {
         ensures table { (out : ClientOut) → fed_of self.new out ≡ forgets in_bytes (fed_of self.old out) }
         ensures value { self.new ≡ forgotten self.old }
     {
-        self.framer = None;
-        self.state.phase = Phase::Apart;
+        replace_framer(&mut self.framer, None);
+        replace_phase(&mut self.state.phase, Phase::Apart);
         self.state.drop_session();
     }
 

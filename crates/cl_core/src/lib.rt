@@ -11,6 +11,7 @@ mod making;
 mod online;
 mod page_requests;
 mod pages;
+mod replacing;
 mod requests;
 mod steps;
 mod user;

@@ -6,6 +6,7 @@ ghost use Rattle.cl_core.specs.Steps.{online_in, stanza_row};
 ghost use Rattle.cl_handlers.specs.ClientSteps.{left};
 ghost use Rattle.cl_handlers.specs.Views.{client_of, client_step_of};
 
+use crate::replacing::put_session;
 use crate::requests::take_iq;
 use base_io::NoMemory;
 use cl_handlers::{ClientOut, ClientState, is_stanza};
@@ -22,10 +23,11 @@ fn count(state: &mut ClientState)
         return;
     };
     session.count_handled();
-    state.session = Some(session);
+    put_session(&mut state.session, session);
 }
 
-// What a stanza does, but for its count.
+// What a stanza does, but for its count. What is large is dropped by a call: where its scope drops it, each of its fields
+// is a way of its own in the proof.
 fn take_stanza(
     state: &mut ClientState,
     alloc: Global,
@@ -36,9 +38,20 @@ fn take_stanza(
     ensures err { OnErr result (left (client_step_of state.new out.new) ≡ left (client_step_of state.old out.old)) }
 {
     match stanza {
-        Stanza::Message(message) => state.message(alloc, &message, out),
-        Stanza::Iq(iq) => take_iq(state, alloc, &iq, out),
-        Stanza::Presence(_) => Ok(()),
+        Stanza::Message(message) => {
+            let taken = state.message(alloc, &message, out);
+            drop(message);
+            taken
+        }
+        Stanza::Iq(iq) => {
+            let taken = take_iq(state, alloc, &iq, out);
+            drop(iq);
+            taken
+        }
+        Stanza::Presence(presence) => {
+            drop(presence);
+            Ok(())
+        }
     }
 }
 
@@ -73,10 +86,13 @@ pub(crate) fn online(
     ensures err { OnErr result (left (client_step_of state.new out.new) ≡ left (client_step_of state.old out.old)) }
 {
     if state.session.is_none() {
+        drop(tree);
         return Ok(());
     }
     if !is_stanza(tree.element()) {
-        return management(state, alloc, &tree, out);
+        let done = management(state, alloc, &tree, out);
+        drop(tree);
+        return done;
     }
     match stanza_of(alloc, tree) {
         Ok(stanza) => take_stanza(state, alloc, stanza, out)?,

@@ -15,6 +15,7 @@ ghost use Rattle.im_replies.specs.Management.{request_text};
 ghost use Rattle.im_requests.specs.Messages.{page_text, queryid_text};
 
 use crate::faults::CatchUpStart;
+use crate::replacing::put_session;
 use crate::user::OUTBOX_BOUND;
 use base_io::{Bytes, NoMemory, Text};
 use cl_handlers::{ClientOut, ClientState, make_room};
@@ -126,7 +127,7 @@ pub(crate) fn make_place(
         return Ok(());
     };
     let made = session.reserve(1);
-    state.session = Some(session);
+    put_session(&mut state.session, session);
     made
 }
 
@@ -150,7 +151,7 @@ pub(crate) fn put_page(
         return;
     };
     put_with_request(&mut session, stanza, request, is_attached, &mut out.bytes);
-    state.session = Some(session);
+    put_session(&mut state.session, session);
     state.pages = number;
 }
 

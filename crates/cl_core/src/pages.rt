@@ -18,6 +18,7 @@ ghost use Rattle.xml_trees.specs.Readers.{elements_of};
 ghost use Rattle.xml_trees.specs.Views.{nodes_view};
 
 use crate::page_requests::{Asking, asking_for, make_place, put_page};
+use crate::replacing::replace_phase;
 use base_io::{NoMemory, Text};
 use cl_handlers::{CatchUpFault, ClientOut, ClientState, Event, PeerFault, Phase};
 use im_mam::read_fin_element;
@@ -124,7 +125,7 @@ fn leave_full(state: &mut ClientState, out: &mut ClientOut)
     ensures { client_step_of state.new out.new ≡ PageRows.leaves_full (client_step_of state.old out.old) (client_of state.old).session }
 {
     if state.session.is_some() {
-        state.phase = Phase::Apart;
+        replace_phase(&mut state.phase, Phase::Apart);
         out.events
             .push_reserved(Event::Ended(PeerFault::Unacknowledged));
     }
@@ -285,7 +286,7 @@ fn break_full(state: &mut ClientState, out: &mut ClientOut)
 {
     if state.session.is_some() {
         state.log.break_off();
-        state.phase = Phase::Apart;
+        replace_phase(&mut state.phase, Phase::Apart);
         out.events
             .push_reserved(Event::Ended(PeerFault::Unacknowledged));
     }

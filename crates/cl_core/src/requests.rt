@@ -11,6 +11,7 @@ ghost use Rattle.xml_trees.specs.Views.{nodes_view};
 ghost use Rattle.xml_writer.specs.Items.{written_item};
 
 use crate::pages::answered;
+use crate::replacing::{put_session, replace_phase};
 use base_io::{Bytes, NoMemory};
 use cl_handlers::{ClientOut, ClientState, Event, PeerFault, Phase, make_room};
 use im_extensions::Ping;
@@ -100,11 +101,11 @@ pub(crate) fn put(
         return Ok(());
     };
     let put = put_or_full(&mut session, stanza, is_attached, out);
-    state.session = Some(session);
+    put_session(&mut state.session, session);
     if put? {
         return Ok(());
     }
-    state.phase = Phase::Apart;
+    replace_phase(&mut state.phase, Phase::Apart);
     out.events
         .push_reserved(Event::Ended(PeerFault::Unacknowledged));
     Ok(())

@@ -6,10 +6,12 @@ ghost use Rattle.std.specs.Prelude.{◌≡◌, Some, IfOk, OnErr, OnOk};
 ghost use Rattle.cl_core.specs.Feeds.{IsStopped, with_fault};
 ghost use Rattle.cl_handlers.specs.Speech.{in_bytes};
 ghost use Rattle.cl_core.specs.Steps.{element_row, element_step, item_step, items_run, stream_condition};
-ghost use Rattle.cl_handlers.specs.ClientSteps.{left};
+ghost use Rattle.cl_handlers.specs.ClientSteps.{ends, left};
+ghost use Rattle.cl_handlers.specs.declared.events.PeerFault.TheVariants.{Stream};
 ghost use Rattle.cl_handlers.specs.Views.{client_step_of};
 
 use crate::online::online;
+use crate::replacing::replace_phase;
 use base_io::{NoMemory, Text};
 use cl_handlers::{ClientOut, ClientState, PeerFault, Phase};
 use im_stanza::{STREAMS, stream_condition};
@@ -28,6 +30,8 @@ fn condition_of(alloc: Global, tree: &Tree) -> Result<Text, NoMemory>
     }
 }
 
+// A tree and an item are dropped by a call: where its scope drops it, each of its fields is a way of its own in the proof.
+
 // An element, by the phase.
 fn by_phase(
     state: &mut ClientState,
@@ -39,30 +43,46 @@ fn by_phase(
     ensures err { OnErr result (left (client_step_of state.new out.new) ≡ left (client_step_of state.old out.old)) }
 {
     let phase = mem::replace(&mut state.phase, Phase::Apart);
-    match phase {
+    let done = match phase {
         Phase::Apart => Ok(()),
         Phase::Login(login) => state.login(alloc, login, &tree, out),
         Phase::Features2 => {
-            state.phase = Phase::Features2;
+            replace_phase(&mut state.phase, Phase::Features2);
             state.features2(alloc, &tree, out)
         }
         Phase::Resuming => {
-            state.phase = Phase::Resuming;
+            replace_phase(&mut state.phase, Phase::Resuming);
             state.resuming(alloc, &tree, out)
         }
         Phase::Binding => {
-            state.phase = Phase::Binding;
+            replace_phase(&mut state.phase, Phase::Binding);
             state.binding(alloc, &tree, out)
         }
         Phase::Enabling => {
-            state.phase = Phase::Enabling;
+            replace_phase(&mut state.phase, Phase::Enabling);
             state.enabling(alloc, &tree, out)
         }
         Phase::Online => {
-            state.phase = Phase::Online;
-            online(state, alloc, tree, out)
+            replace_phase(&mut state.phase, Phase::Online);
+            return online(state, alloc, tree, out);
         }
-    }
+    };
+    drop(tree);
+    done
+}
+
+// A stream error, which ends the connection.
+fn end_by_error(
+    state: &mut ClientState,
+    alloc: Global,
+    tree: &Tree,
+    out: &mut ClientOut,
+) -> Result<(), NoMemory>
+    ensures ok { OnOk result (client_step_of state.new out.new ≡ ends (client_step_of state.old out.old) (Stream (stream_condition tree.now))) }
+    ensures err { OnErr result (left (client_step_of state.new out.new) ≡ left (client_step_of state.old out.old)) }
+{
+    let condition = condition_of(alloc, tree)?;
+    state.end(PeerFault::Stream(condition), out)
 }
 
 // An element.
@@ -76,8 +96,9 @@ fn take_element(
     ensures err { OnErr result (left (client_step_of state.new out.new) ≡ left (client_step_of state.old out.old)) }
 {
     if tree.element().is(STREAMS, "error") {
-        let condition = condition_of(alloc, &tree)?;
-        return state.end(PeerFault::Stream(condition), out);
+        let ended = end_by_error(state, alloc, &tree, out);
+        drop(tree);
+        return ended;
     }
     by_phase(state, alloc, tree, out)
 }
@@ -93,10 +114,14 @@ fn take_item(
     ensures err { OnErr result (left (client_step_of state.new out.new) ≡ left (client_step_of state.old out.old)) }
 {
     if state.is_apart() {
+        drop(item);
         return Ok(());
     }
     match item {
-        Item::Header { .. } => state.header(alloc, out),
+        Item::Header { header, .. } => {
+            drop(header);
+            state.header(alloc, out)
+        }
         Item::Element(tree) => take_element(state, alloc, tree, out),
         Item::Footer => state.end(PeerFault::Closed, out),
     }
@@ -116,7 +141,7 @@ pub(crate) fn take_items(
 {
     for item in items.into_items() {
         if let Err(NoMemory) = take_item(state, alloc, item, out) {
-            state.phase = Phase::Apart;
+            replace_phase(&mut state.phase, Phase::Apart);
             return Err(NoMemory);
         }
     }

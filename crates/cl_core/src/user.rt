@@ -9,6 +9,7 @@ ghost use Rattle.im_replies.specs.Management.{request_text};
 ghost use Rattle.xml_writer.specs.Items.{written_item};
 
 use crate::faults::SayFault;
+use crate::replacing::put_session;
 use base_io::{Bytes, NoMemory, Text};
 use cl_handlers::{ClientOut, ClientState};
 use im_replies::request;
@@ -92,7 +93,7 @@ fn submit(
         return Ok(());
     };
     let put = session.submit(stanza, request, is_attached, &mut out.bytes);
-    state.session = Some(session);
+    put_session(&mut state.session, session);
     put
 }
 

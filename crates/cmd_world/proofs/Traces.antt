@@ -129,8 +129,8 @@ stays_passes_where times (Some position) w = stays_passes times position w
 -- ---- lines
 
 -- the clock moves on by at most so many milliseconds
-record Passes (milliseconds : ℕ) (v w : ByteWorld) : Type 0 where
-  moment : v.moment ≤ w.moment + milliseconds
+pub record Passes (milliseconds : ℕ) (v w : ByteWorld) : Type 0 where
+  pub moment : v.moment ≤ w.moment + milliseconds
   accounts : v.accounts ≡ w.accounts
 
 passes : (milliseconds : ℕ) (v w : ByteWorld) → Stays v w → Passes milliseconds v w
@@ -151,7 +151,7 @@ passes_common (step.Catchup device most) n w =
     passes 0 _ w (by_move (λ position. moves.CatchUp position n most) (position_of device w.names) w (λ position. stays_caught_up position n most (slice_get w.devices position) w))
 passes_common (step.Tick milliseconds) n w = record { moment = omega arith; accounts = refl }
 
-passes_line : (s : WireStep) (n : ℕ) (w : ByteWorld) → Passes (ticked_of s) (all_moved (step_moves w.names (length w.wires) n s) w) w
+pub passes_line : (s : WireStep) (n : ℕ) (w : ByteWorld) → Passes (ticked_of s) (all_moved (step_moves w.names (length w.wires) n s) w) w
 passes_line (wire.Common s) n w = passes_common s n w
 passes_line (wire.Dial device) n w =
     passes 0 _ w (by_move moves.Dial (position_of device w.names) w (λ position. stays_dialed position (slice_get w.devices position) w))
@@ -185,7 +185,7 @@ may_ask (step.Tick milliseconds) above w may early =
     let few : milliseconds ≤ 1000000000 = leb-true milliseconds MOST_TICK may in
     omega (arith, few, early)
 
-may_step : (s : WireStep) (above : WireAbove) (w : ByteWorld) → IsTrue (may_run above s) → w.moment ≤ 253402207200000 → MayStep s w
+pub may_step : (s : WireStep) (above : WireAbove) (w : ByteWorld) → IsTrue (may_run above s) → w.moment ≤ 253402207200000 → MayStep s w
 may_step (wire.Common s) above w may early = may_ask s above w may early
 may_step (wire.Dial device) above w may early = tt
 may_step (wire.Forget device) above w may early = tt

@@ -7,6 +7,7 @@ mod dialing;
 mod hearing;
 mod outputs;
 mod report;
+mod restarting;
 mod runs;
 mod serving;
 mod steps;

@@ -130,6 +130,13 @@ onward_round kind k v last round kept =
     let c = onward_going kind round.read last round.rest b.0 in
     (c.0, tables_both v.sessions round.taken.sessions last.sessions a.1 (tables_both round.taken.sessions round.read.sessions last.sessions b.1 c.1))
 
+pub onward_rounds : {A : Type 0} (kind : LinkMove A → Type 0) (k n : ℕ) (v last : View A) → AreRounds kind k n v last → LinkKept v → LinkKept last × AreOnward v.sessions last.sessions
+onward_rounds {A = A} kind k zero v last same kept = (subst LinkKept (sym same) kept, λ p s is. (s, ap (λ (w : View A). w.sessions p) same ∙ is, still s))
+onward_rounds kind k (suc n) v last (next, round, more) kept =
+    let one = onward_round kind k v next round kept in
+    let rest = onward_rounds kind k n next last more one.0 in
+    (rest.0, tables_both v.sessions next.sessions last.sessions one.1 rest.1)
+
 -- ---- where nothing is on its way up, all is handled
 
 all_handled : {A : Type 0} (v : View A) (k q : ℕ) (c : Conn A) (s : Session A) → LinkKept v → v.here ≡ Some k → v.conns k ≡ Some c → is_flowing c.wires ≡ true → c.client ≡ InOnline q → up_words c.wires ≡ [] → v.sessions q ≡ Some s → s.up.put ≡ s.up.got

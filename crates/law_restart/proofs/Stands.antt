@@ -35,25 +35,25 @@ use Rattle.xml_writer.specs.Items.{ItemOut}
 
 -- ---- sessions on logins: of what was drawn, and of passwords that were proved, nothing is asked
 
-abbrev AnyBytes : ℕ → List ℕ → Type 0
+abbrev pub AnyBytes : ℕ → List ℕ → Type 0
 AnyBytes k entropy = Unit {0}
 
-abbrev AnyLogin : ℕ → ℕ → Type 0
+abbrev pub AnyLogin : ℕ → ℕ → Type 0
 AnyLogin k account = Unit {0}
 
-abbrev AreSeated : {A : Type 0} → List Account → ServerState A → Type 0
+abbrev pub AreSeated : {A : Type 0} → List Account → ServerState A → Type 0
 AreSeated accounts h = Stands AnyBytes AnyLogin accounts h
 
 -- what each event keeps
-record Goes {A : Type 0} (accounts : List Account) (w : Whole A) : Type 0 where
-  sound : IsSound w.server_state
-  same : w.server_state.accounts ≡ accounts
-  seated : AreSeated accounts w.server_state
-  parked : AllByRecursion (WasParkedBy w.server_state.moment) w.server_state.sessions
-  stamped : (account : ℕ) → IsStamped w.server_state.moment (archive_at account w.server_state)
-  framed : numbers_of w.framers ≡ numbers_of w.server_state.conns
+pub record Goes {A : Type 0} (accounts : List Account) (w : Whole A) : Type 0 where
+  pub sound : IsSound w.server_state
+  pub same : w.server_state.accounts ≡ accounts
+  pub seated : AreSeated accounts w.server_state
+  pub parked : AllByRecursion (WasParkedBy w.server_state.moment) w.server_state.sessions
+  pub stamped : (account : ℕ) → IsStamped w.server_state.moment (archive_at account w.server_state)
+  pub framed : numbers_of w.framers ≡ numbers_of w.server_state.conns
 
-stands_so : {A : Type 0} (accounts : List Account) (w : Whole A) → Goes accounts w → IsStanding w
+pub stands_so : {A : Type 0} (accounts : List Account) (w : Whole A) → Goes accounts w → IsStanding w
 stands_so accounts w goes = record {
   sound = goes.sound;
   alone = all_alone w.server_state.sessions goes.seated.single;
@@ -136,7 +136,7 @@ module _ {A : Type 0} (accounts : List Account) where
         let takes = (items_take say k t.items s).1 in
         stands_fault AnyBytes AnyLogin accounts say k t.state.fault (after_items say k t.items s) (takes.sound sound).numbers (takes.accounts ∙ same) (seated_items t.items s sound same seated)
 
-    piece_shuts : (piece : List ℕ) (o : Option framing.State) (s : Step A) → Shuts s (at_piece say k piece o s)
+    pub piece_shuts : (piece : List ℕ) (o : Option framing.State) (s : Step A) → Shuts s (at_piece say k piece o s)
     piece_shuts piece None s = shuts_nothing s
     piece_shuts piece (Some f) s =
         let t = turn_of piece f in
@@ -196,7 +196,7 @@ module _ {A : Type 0} (accounts : List Account) where
 
   -- ---- any event
 
-  goes_event : (say : ItemOut → A) (e : Event) (r : Run A) → MayHappen e r → Goes accounts r.server → Goes accounts (after_event say e r).server
+  pub goes_event : (say : ItemOut → A) (e : Event) (r : Run A) → MayHappen e r → Goes accounts r.server → Goes accounts (after_event say e r).server
   goes_event say (Connect k entropy now) r may goes = goes_comes k entropy now r.server may goes
   goes_event say (Bytes k piece now) r may goes = goes_brings say k piece now r goes
   goes_event say (Stop k piece count now) r may goes = goes_stop say k piece count now (framer_at k r.server.framers) r goes
@@ -215,7 +215,7 @@ within_at [] account within = tt
 within_at (a ∷ archives) zero within = within.0
 within_at (a ∷ archives) (suc account) within = within_at archives account within.1
 
-goes_first : {A : Type 0} (domain : List ℕ) (accounts : List Account) (archives : List Kept) (session now : ℕ) → AreWithin archives → 1 ≤ session → Goes accounts (at_restart {A = A} domain accounts archives session now)
+pub goes_first : {A : Type 0} (domain : List ℕ) (accounts : List Account) (archives : List Kept) (session now : ℕ) → AreWithin archives → 1 ≤ session → Goes accounts (at_restart {A = A} domain accounts archives session now)
 goes_first domain accounts archives session now within low = record {
   sound = record { numbers = low; accounts = record { sessions = tt; logins = tt }; archives = λ account. within_at archives account within };
   same = refl;

@@ -87,3 +87,11 @@ pub mod ItemsTold
 pub mod PiecesTold
 pub mod Timely
 pub mod AsksUnbound
+-- runs, and the links of devices
+pub mod Handing
+pub mod Along
+pub mod LinksShown
+pub mod RunRounds
+pub mod Connected
+pub mod Resumed
+pub mod Said

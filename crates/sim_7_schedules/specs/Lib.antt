@@ -22,3 +22,5 @@ pub mod LateWords
 pub mod Bound
 -- law: which faults there are
 pub mod Faults
+-- law: what a run brings
+pub mod LastLines

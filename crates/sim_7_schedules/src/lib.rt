@@ -13,6 +13,7 @@ mod laws_kept;
 mod lines;
 mod refused_lines;
 mod reports_of_worlds;
+mod runs;
 
 pub use binds::{nothing_older_is_taken_after_a_bind, nothing_older_is_taken_after_a_handled_bind};
 pub use each_move::each_move_runs;
@@ -29,3 +30,7 @@ pub use laws_kept::schedules_that_run_are_lawful;
 pub use lines::lines_run;
 pub use refused_lines::{lines_are_answered, lines_are_refused, moves_leave_refused};
 pub use reports_of_worlds::{reports_run, worlds_represent};
+pub use runs::{
+    a_run_is_rounds, connected_devices_are_online, sessions_that_stay_are_resumed,
+    what_was_said_is_taken,
+};

@@ -6,4 +6,4 @@ use Rattle.cl_core.proofs.online.take_stanza.Goals as goal
 
 pub returns-in-Message-clause-err : goal.returns-in-Message-clause-err
 returns-in-Message-clause-err c =
-    on_err_weaker c.message-in-Message.result (λ same. ap (λ (t : ClientStep (List ℕ) ℕ). left t) same) c.message-in-Message.ensures.err
+    on_err_weaker c.message-taken.result (λ same. ap (λ (t : ClientStep (List ℕ) ℕ). left t) same) c.message-taken.ensures.err
