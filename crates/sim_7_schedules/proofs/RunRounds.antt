@@ -22,7 +22,6 @@ use Rattle.sim_2_links.specs.Stages.{Conn}
 use Rattle.sim_2_links.specs.Views.{View}
 use Rattle.sim_2_links.specs.Wires.{down_words, is_flowing, up_words}
 use Rattle.sim_5_moves.specs.Running.{IsOwned}
-use Rattle.sim_5_moves.specs.Running as running
 use Rattle.sim_7_schedules.specs.Simulation.{MovesSimulate, SimulatesBy, Views}
 use Rattle.xml_writer.specs.Items.{ItemOut}
 
@@ -32,8 +31,8 @@ any_leads : (moves : List (LinkMove ItemOut)) (v last : View ItemOut) → LinkRe
 any_leads [] v last same = same
 any_leads (move ∷ moves) v last (next, by, more) = (next, tt, by, any_leads moves next last more)
 
-pub any_goes : (v last : View ItemOut) → running.Leads v last → Goes IsAny v last
-any_goes v last leads = record { moves = leads.0; leads = any_leads leads.0 v last leads.1 }
+pub any_goes : (v last : View ItemOut) (moves : List (LinkMove ItemOut)) → LinkReaches moves v last → Goes IsAny v last
+any_goes v last moves reaches = record { moves = moves; leads = any_leads moves v last reaches }
 
 leads_both : (moves more : List (LinkMove ItemOut)) (v mid last : View ItemOut) → Leads IsAny moves v mid → Leads IsAny more mid last → Leads IsAny (moves ++ more) v last
 leads_both [] more v mid last same then = subst (λ x. Leads IsAny more x last) same then
@@ -55,7 +54,7 @@ module _ (s : WireView) (i : ℕ) (o : Owned) (owned : IsOwned s i o) where
   moves_go [] [] views last W x go = record { moves = []; leads = ap of go }
   moves_go [] (es ∷ ess) views last W x go = absurd go
   moves_go (m ∷ ms) [] views last W x go = absurd go
-  moves_go (m ∷ ms) (es ∷ ess) views last W x go = goes_both (of views) (of go.0) (of last) (any_goes (of views) (of go.0) (go.2 i o owned)) (moves_go ms ess go.0 last (moved m W) (state_after x es) go.3)
+  moves_go (m ∷ ms) (es ∷ ess) views last W x go = goes_both (of views) (of go.0) (of last) (any_goes (of views) (of go.0) (go.2 i o owned).0 (go.2 i o owned).1) (moves_go ms ess go.0 last (moved m W) (state_after x es) go.3)
 
   -- the connection that the device has in a world
   pub conn_of : (position : ℕ) (views : Views s) (W : ByteWorld) (x : AppWorld) → SimulatesBy s W x views → HasHere i position W → (c : Conn ItemOut) × ((of views).conns (position + 1) ≡ Some c) × (((of views).here ≡ Some (position + 1)) ⊎ (is_flowing c.wires ≡ false))
@@ -96,12 +95,12 @@ module _ (s : WireView) (i : ℕ) (o : Owned) (owned : IsOwned s i o) where
       let c1 = conn_of p v1 W1 x1 go.1 here1 in
       let c2 = conn_of p v2 W2 x2 go.3.1 here2 in
       let rest = moves_go (round_from (p + 1) count) ess v2 last W2 x2 go.3.3 in
-      let down = any_goes (of v1) (of v2) (go.3.2 i o owned) in
+      let down = any_goes (of v1) (of v2) (go.3.2 i o owned).0 (go.3.2 i o owned).1 in
       let flows2 : is_flowing c2.0.wires ≡ true = flows_along IsAny rest.moves (of v2) (of last) (p + 1) c2.0 d rest.leads c2.1 at flows in
       let flows1 : is_flowing c1.0.wires ≡ true = flows_along IsAny down.moves (of v1) (of v2) (p + 1) c1.0 c2.0 down.leads c1.1 c2.1 flows2 in
       record {
         taken = of v1;
-        up = any_goes (of views) (of v1) (go.2 i o owned);
+        up = any_goes (of views) (of v1) (go.2 i o owned).0 (go.2 i o owned).1;
         up_empty = (c1.0, c1.1, up_none p c1.0 v1 W x1 go.1 c1.1 flows1);
         read = of v2;
         down = down;
@@ -121,7 +120,7 @@ module _ (s : WireView) (i : ℕ) (o : Owned) (owned : IsOwned s i o) where
             (round_first p count es fs ess views last W x d go (subst (λ q. HasHere i q (all_moved (round_from (p + 1) count) (moved (Down p All) (moved (Up p All) W)))) (sym same) here) (subst (λ q. (of last).conns (q + 1) ≡ Some d) (sym same) at) flows)
         | inr other ↦
             begins_earlier (position + 1) (of views) (of go.3.0) (of last)
-            (goes_both (of views) (of go.0) (of go.3.0) (any_goes (of views) (of go.0) (go.2 i o owned)) (any_goes (of go.0) (of go.3.0) (go.3.2 i o owned)))
+            (goes_both (of views) (of go.0) (of go.3.0) (any_goes (of views) (of go.0) (go.2 i o owned).0 (go.2 i o owned).1) (any_goes (of go.0) (of go.3.0) (go.3.2 i o owned).0 (go.3.2 i o owned).1))
             (round_in position (p + 1) count ess go.3.0 last (moved (Down p All) (moved (Up p All) W)) (state_after (state_after x es) fs) d go.3.3 (omega (arith, from, other)) (omega (arith, below)) here at flows)
       ]
 
