@@ -2,8 +2,9 @@
 
 Words, sums and the store of what the gate has proved on this machine are those of `rt` itself, whose Python is loaded as
 a module: so a check here is given exactly what the gate would give it. One thing is changed. rt asks for the crates
-below a crate by walking every path through crates.txt, thousands of times; here each answer is remembered. Some kits' rt
-has no such store: with these only what a tool here has built itself is known again.
+below a crate, and some kits' rt for the checksum of their files, by walking every path through crates.txt, thousands of
+times; here each answer is remembered. Some kits' rt has no such store: with these only what a tool here has built itself is
+known again.
 
 Nothing here writes into rt's store. Libraries stand in crates/NAME/out/rlib, where the gate leaves its own.
 """
@@ -25,20 +26,25 @@ EACH = 2_500_000_000
 
 
 def load():
-    """rt as a module, which remembers the crates below a crate."""
+    """rt as a module, which remembers the crates below a crate and the checksum of all of them."""
     found = shutil.which("rt") or sys.exit("there is no rt, which proves: see README.md")
     loader = importlib.machinery.SourceFileLoader("rt_of_kit", os.path.realpath(found))
     sys.dont_write_bytecode = True
     tool = importlib.util.module_from_spec(importlib.util.spec_from_loader("rt_of_kit", loader))
     loader.exec_module(tool)
-    walked = tool.rtlib.Crate.below
+    walked, summed = tool.rtlib.Crate.below, tool.rtlib.Crate.stamp
 
     def below(crate):
         if "found_below" not in crate.__dict__:
             crate.found_below = walked(crate)
         return list(crate.found_below)
 
-    tool.rtlib.Crate.below = below
+    def stamp(crate):
+        if "found_stamp" not in crate.__dict__:
+            crate.found_stamp = summed(crate)
+        return crate.found_stamp
+
+    tool.rtlib.Crate.below, tool.rtlib.Crate.stamp = below, stamp
     # a library holds what others can cite of it, and not its proofs, as under the gate
     tool.Crate.cuts_libraries = True
     tool.Crate.allowed = tool.handles_of(TOP)
