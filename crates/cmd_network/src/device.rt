@@ -58,6 +58,13 @@ impl Device {
         &self.name
     }
 
+    /// Its client.
+    pub fn client(&self) -> &Client
+        ensures { result.now ≡ self.now.client }
+    {
+        &self.client
+    }
+
     /// The place of the connection that it has. `None` where it never dialed, and where it left that one.
     pub fn here(&self) -> Option<usize>
         ensures { result ≡ self.now.here }

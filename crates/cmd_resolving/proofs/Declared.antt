@@ -28,10 +28,10 @@ use Rattle.cmd_intents.specs.Files.{FileView}
 use Rattle.cmd_resolving.proofs.Expanded.{expanded_world, line_in}
 
 -- what common steps of lines give
-abbrev gathered : {A : Type 0} → (Step → List A) → List WireLine → List A
+abbrev pub gathered : {A : Type 0} → (Step → List A) → List WireLine → List A
 gathered give lines = flat_map give (steps_of (flat_map (λ (line : WireLine). common_at line.number line.step) lines))
 
-gathered_append : {A : Type 0} (give : Step → List A) (xs ys : List WireLine) → gathered give (xs ++ ys) ≡ gathered give xs ++ gathered give ys
+pub gathered_append : {A : Type 0} (give : Step → List A) (xs ys : List WireLine) → gathered give (xs ++ ys) ≡ gathered give xs ++ gathered give ys
 gathered_append give xs ys =
     let common = λ (line : WireLine). common_at line.number line.step in
     let step = λ (line : Line). line.step in

@@ -35,14 +35,14 @@ both false b p q = p
 
 -- ---- the messages of intents are such as a line may have
 
-abbrev CanSay : OneIntent → Type 0
+abbrev pub CanSay : OneIntent → Type 0
 CanSay i = IsTrue (is_name i.to) × IsTrue (is_text i.text)
 
-abbrev CanAllSay : List OneIntent → Type 0
+abbrev pub CanAllSay : List OneIntent → Type 0
 CanAllSay [] = Unit {0}
 CanAllSay (i ∷ is) = CanSay i × CanAllSay is
 
-abbrev CanEachSay : List IntentsView → Type 0
+abbrev pub CanEachSay : List IntentsView → Type 0
 CanEachSay [] = Unit {0}
 CanEachSay (v ∷ vs) = CanAllSay v.intents × CanEachSay vs
 
@@ -568,6 +568,12 @@ stands_next f line lines s stands =
       can = one.can;
       few = one.few;
     }
+
+-- its lines of the run tick no more than it does
+pub line_ticked : (f : FileView) (line : WireLine) (lines : List WireLine) (s : Watching) → Stands f (line ∷ lines) s → ticked_in (lines_in (expansion.lines_of f line s)) ≤ ticked_of line.step
+line_ticked f line lines s stands =
+    let are = stands.are in
+    (line_listed stands.above line stands.count s (omega (arith, are.0, are.1)) are.2 are.3 stands.can stands.few f).ticked
 
 -- ---- a file
 

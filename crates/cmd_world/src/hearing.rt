@@ -57,7 +57,7 @@ fn hear_count(
 
 impl World {
     /// Bytes of the connection at a place are handed to its device.
-    pub(crate) fn down(&mut self, position: usize, count: Count) -> Result<(), NoMemory>
+    pub fn down(&mut self, position: usize, count: Count) -> Result<(), NoMemory>
         ensures { OnOk result (self.new ≡ moved (Down position count) self.old) }
     {
         if position >= self.wires.len() {

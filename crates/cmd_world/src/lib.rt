@@ -9,6 +9,7 @@ mod outputs;
 mod report;
 mod restarting;
 mod runs;
+mod seeing;
 mod serving;
 mod steps;
 mod users;

@@ -94,7 +94,7 @@ impl World {
     }
 
     /// Bytes of the connection at a place are handed to the server.
-    pub(crate) fn up(&mut self, position: usize, count: Count) -> Result<(), NoMemory>
+    pub fn up(&mut self, position: usize, count: Count) -> Result<(), NoMemory>
         ensures { OnOk result (self.new ≡ moved (Up position count) self.old) }
     {
         self.serve(position, count)?;

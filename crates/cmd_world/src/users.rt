@@ -9,7 +9,7 @@ use cmd_network::{cut_wire, put_up_wire};
 
 impl World {
     /// The user of the device at a place submits a message to an account, by a line of the schedule.
-    pub(crate) fn say(
+    pub fn say(
         &mut self,
         position: usize,
         line: u64,
@@ -29,7 +29,7 @@ impl World {
     }
 
     /// The user of the device at a place asks for the archive, by a line of the schedule.
-    pub(crate) fn catch_up(&mut self, position: usize, line: u64, most: u32) -> Result<(), NoMemory>
+    pub fn catch_up(&mut self, position: usize, line: u64, most: u32) -> Result<(), NoMemory>
         requires { (1 ≤ most) × (most ≤ 100) }
         ensures { OnOk result (self.new ≡ moved (CatchUp position line most) self.old) }
     {

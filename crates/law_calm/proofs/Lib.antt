@@ -10,3 +10,7 @@ pub mod Quiet
 pub mod Sparing
 pub mod Handled
 pub mod Settling
+-- ends
+pub mod StaysOpen
+pub mod SessionStays
+pub mod Unended

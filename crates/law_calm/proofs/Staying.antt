@@ -20,7 +20,7 @@ FlowedBefore c d = is_flowing d.wires ≡ true → is_flowing c.wires ≡ true
 same_flow : {A : Type 0} (c : Conn A) → FlowedBefore c c
 same_flow c = λ e. e
 
-foot_flow : {A : Type 0} (x : Wires A) → is_flowing (with_foot x) ≡ is_flowing x
+pub foot_flow : {A : Type 0} (x : Wires A) → is_flowing (with_foot x) ≡ is_flowing x
 foot_flow (Flow us ds) = refl
 foot_flow (Stop us ds lu ld) = refl
 

@@ -12,7 +12,7 @@ use Rattle.sim_1_applications.proofs.Lists.{all_append, all_filter, all_front, a
 use Rattle.sim_1_applications.proofs.Numbered.{messages_append}
 use Rattle.law_intents.specs.Intents.{Try, is_taken}
 
-numbers_within : (e n : ℕ) (ms : List Submission) → AreNumbered e n ms → AllByRecursion (λ m. (m.epoch ≡ e) × (m.n ≤ n + length ms)) ms
+pub numbers_within : (e n : ℕ) (ms : List Submission) → AreNumbered e n ms → AllByRecursion (λ m. (m.epoch ≡ e) × (m.n ≤ n + length ms)) ms
 numbers_within e n [] known = tt
 numbers_within e n (m ∷ ms) known =
     let is = known.1 in (

@@ -99,7 +99,7 @@ module _ (UpFits DownFits : ItemOut → Type 0) (ServerFits : ℕ → ServerStat
   }
 
   pub close_is : (i : ℕ) (w : ByteWorld) (v : ItemWorld) → WorldEncodes UpFits DownFits ServerFits ClientFits w v → IsMoved UpFits DownFits ServerFits ClientFits (Close i) w v
-  close_is i w v encodes = record { moves = items.Close i ∷ []; is_run = refl; encodes = by (slice_get w.devices i) (slice_get v.devices i) refl refl (encodes.devices i); notes = λ j. nothing_noted (slice_get w.devices j); reads = λ j. refl }
+  close_is i w v encodes = record { moves = items.Close i ∷ []; is_run = refl; encodes = by (slice_get w.devices i) (slice_get v.devices i) refl refl (encodes.devices i); notes = λ j. nothing_noted (slice_get w.devices j); reads = λ j. refl; gives = λ j. refl }
     where
       some : (d : DeviceState) (e : ItemDevice) → slice_get w.devices i ≡ Some d → slice_get v.devices i ≡ Some e → DeviceEncodes ClientFits d e → Closed i w v (Some d) (Some e)
       some d e found found_item h =

@@ -215,6 +215,7 @@ module _ (UpFits DownFits : ItemOut → Type 0) (ServerFits : ℕ → ServerStat
     encodes = by (slice_get w.devices i) (slice_get v.devices i) refl refl (encodes.devices i);
     notes = λ j. nothing_noted (slice_get w.devices j);
     reads = λ j. refl;
+    gives = λ j. refl;
   }
     where
       by : (od : Option DeviceState) (oe : Option ItemDevice) → slice_get w.devices i ≡ od → slice_get v.devices i ≡ oe → Both (DeviceEncodes ClientFits) od oe → Dialed i w v (slice_get w.devices i) (slice_get v.devices i)

@@ -27,6 +27,7 @@ use Rattle.sim_3_images.proofs.Beginnings.{closed_begun, entered_begun}
 use Rattle.sim_3_images.proofs.ItemsHeard.{client_step_fits, client_step_of_items, downs_are, downs_noted, many_down, many_of, nothing_either, set_twice}
 use Rattle.sim_3_images.proofs.Lookups.{set_changes}
 use Rattle.sim_3_images.proofs.NetworkMoves.{found_both}
+use Rattle.sim_3_images.proofs.PutsTold.{downs_give}
 use Rattle.sim_3_images.proofs.ReadsTold.{downs_read}
 use Rattle.sim_3_images.proofs.NotesTold.{calls_noted, down_end_noted, nothing_noted, silent_at, written_notes}
 use Rattle.sim_3_images.proofs.PipeSteps.{items_due}
@@ -429,4 +430,4 @@ module _ (UpFits DownFits : ItemOut → Type 0) (ServerFits : ℕ → ServerStat
   pub down_moves : (position : ℕ) (count : Count) (w : ByteWorld) (v : ItemWorld) → WorldEncodes UpFits DownFits ServerFits ClientFits w v → IsMoved UpFits DownFits ServerFits ClientFits (Down position count) w v
   down_moves position count w v encodes =
       let h = down_of position count w v encodes in
-      record { moves = downs position h.count ++ moved_where (items.DownEnd position) h.ended; is_run = (h.count, h.ended, refl); encodes = h.encodes; notes = h.noted; reads = λ i. sym (downs_read position h.count h.ended v i) }
+      record { moves = downs position h.count ++ moved_where (items.DownEnd position) h.ended; is_run = (h.count, h.ended, refl); encodes = h.encodes; notes = h.noted; reads = λ i. sym (downs_read position h.count h.ended v i); gives = λ i. sym (ap (map written_item) (downs_give position h.count h.ended v i)) }

@@ -19,11 +19,13 @@ use Rattle.sim_3_images.proofs.Lookups.{get_changed_other, get_changed_same}
 use Rattle.sim_3_images.specs.PipeEncodings.{dropped}
 use Rattle.sim_3_images.specs.EncodingsCores.{AreInOrder, CoresFit, IsInOrder, after_put, after_shut, writer_at, writer_of}
 use Rattle.sim_3_images.specs.ItemRuns.{ups}
+use Rattle.sim_3_images.specs.Puts.{all_item_gives, given_along, given_here, is_put_as_stanza, item_gives, item_given_first, item_given_on}
 use Rattle.sim_3_images.specs.Reads.{all_item_reads, item_read_first, item_read_on, item_reads, read_along, read_here, read_where}
+use Rattle.sim_3_images.proofs.PutsTold.{given_following, nothing_given}
 use Rattle.sim_3_images.proofs.ReadsTold.{read_following}
 use Rattle.sim_3_items.specs.ItemMoves.{Up, all_emitted, all_moved, emitted, moved, served_by, served_first, step_of, takes_reported}
 use Rattle.sim_3_items.specs.ItemPipes.{ItemPipe, ItemWire, handed_up, put_down, shut}
-use Rattle.sim_3_items.specs.ItemWorlds.{ItemWorld, Take, itself, read_of}
+use Rattle.sim_3_items.specs.ItemWorlds.{ItemDevice, ItemWorld, Take, itself, read_of}
 use Rattle.srv_core.specs.Table.{after_item, after_items, at_open}
 use Rattle.cmd_network.specs.Positions.{changed_at, changed_under}
 use Rattle.cmd_world.specs.Worlds.{number_at}
@@ -203,7 +205,7 @@ pub nothing_either : (b : Bool) → cond {A = List ItemOut} b [] [] ≡ []
 nothing_either true = refl
 nothing_either false = refl
 
-both_either : (b : Bool) (first second : List ItemOut) → cond b first [] ++ cond b second [] ≡ cond b (first ++ second) []
+pub both_either : (b : Bool) (first second : List ItemOut) → cond b first [] ++ cond b second [] ≡ cond b (first ++ second) []
 both_either true first second = refl
 both_either false first second = refl
 
@@ -322,4 +324,43 @@ module _ (UpFits DownFits : ItemOut → Type 0) (ServerFits : ℕ → ServerStat
         | inr gone ↦
             ap₂ (λ a b. a ++ b) mine (ap (λ u. all_item_reads (ups position n) u i) step ∙ none_read position n i one after.wire after.found gone.0) ∙ append-nil (cond (device == i) (read_here k (read_of x) v.server) [])
             ∙ ap (λ l. cond (device == i) l []) (sym (append-nil (read_here k (read_of x) v.server)) ∙ ap (λ l. read_here k (read_of x) v.server ++ l) (sym (nothing_read k (map read_of rest) d (no_conn (conn_at k d.server_state) gone.1))))
+      ]
+
+  -- ---- what the server puts then
+
+  none_given : (position n i : ℕ) (v : ItemWorld) (p : ItemWire) → slice_get v.wires position ≡ Some p → p.up.items ≡ [] → all_item_gives (ups position n) v i ≡ []
+  none_given position zero i v p found none = refl
+  none_given position (suc n) i v p found none =
+      let same : moved (Up position) v ≡ v = ap (λ o. served_by position o v) found ∙ ap (λ l. served_first position l v) none in
+      ap₂ (λ a b. a ++ b) (by (slice_get v.devices i)) (ap (λ u. all_item_gives (ups position n) u i) same ∙ none_given position n i v p found none)
+    where
+      by : (o : Option ItemDevice) → item_given_on position v o (slice_get v.wires position) ≡ []
+      by None = refl
+      by (Some d) = ap (item_given_on position v (Some d)) found ∙ ap (λ l. item_given_first d.client.account (number_at position) l v) none
+
+  pub ups_give : (many position i : ℕ) (first others : List ItemOut) (v : ItemWorld) (p : ItemWire) (e : ItemDevice) → slice_get v.devices i ≡ Some e → number_at position ≤ many → slice_get v.wires position ≡ Some p → p.up.items ≡ first ++ others → ServerFits many v.server → AllByRecursion UpFits first
+      → (writer_at (number_at position) v.server ≡ Some phase.First → IsHeaded first) → all_item_gives (ups position (length first)) v i ≡ given_along itself is_put_as_stanza e.client.account (number_at position) (map read_of first) (step_of v.server)
+  ups_give many position i [] others v p e dev few found items_are fits all comes = refl
+  ups_give many position i (x ∷ rest) others v p e dev few found items_are fits all comes =
+      let n = length rest in
+      let k = number_at position in
+      let who = e.client.account in
+      let d = after_item itself k (read_of x) (step_of v.server) in
+      let ws = changed_at position handed_up v.wires in
+      let one : ItemWorld = record v { server = d.server_state; wires = all_emitted d.outs ws; takes = v.takes ++ takes_reported v.moment d.outs } in
+      let step : moved (Up position) v ≡ one = ap (λ o. served_by position o v) found ∙ ap (λ l. served_first position l v) items_are in
+      let here : slice_get ws position ≡ Some (handed_up p) = get_changed_same handed_up v.wires position ∙ ap (option_map handed_up) found in
+      let after = up_after DownFits position d.outs (writer_at k v.server) (writer_at k d.server_state) ws (handed_up p) (cores.in_order many k x v.server k fits few all.0 comes) here in
+      let mine : item_gives (Up position) v i ≡ given_here itself is_put_as_stanza who k (read_of x) v.server =
+      ap (λ o. item_given_on position v o (slice_get v.wires position)) dev ∙ ap (item_given_on position v (Some e)) found ∙ ap (λ l. item_given_first who k l v) items_are in
+      let more : given_along itself is_put_as_stanza who k (map read_of rest) d ≡ given_along itself is_put_as_stanza who k (map read_of rest) (step_of d.server_state) =
+      ap (λ l. given_along itself is_put_as_stanza who k (map read_of rest) (record { server_state = d.server_state; outs = l })) (sym (append-nil d.outs)) ∙ given_following d.outs itself is_put_as_stanza who k (map read_of rest) (step_of d.server_state) in
+      elim after.is [
+        | inl kept ↦
+            ap₂ (λ a b. a ++ b) mine (ap (λ u. all_item_gives (ups position n) u i) step
+            ∙ ups_give many position i rest others one after.wire e dev few after.found (ap (λ (y : ItemPipe). y.items) kept ∙ ap (drop 1) items_are) (cores.handles many k x v.server fits few all.0 comes) all.1 (λ e. absurd (cores.opened many k x v.server fits few all.0 comes e))
+            ∙ sym more)
+        | inr gone ↦
+            ap₂ (λ a b. a ++ b) mine (ap (λ u. all_item_gives (ups position n) u i) step ∙ none_given position n i one after.wire after.found gone.0
+            ∙ sym (nothing_given who k (map read_of rest) d (no_conn (conn_at k d.server_state) gone.1)))
       ]

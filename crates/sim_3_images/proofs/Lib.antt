@@ -12,6 +12,7 @@ pub mod ServerStatesRendered
 pub mod Beginnings
 pub mod Emissions
 pub mod ReadsTold
+pub mod PutsTold
 pub mod ItemsServed
 -- moves
 pub mod NotesTold

@@ -92,6 +92,7 @@ module _ (UpFits DownFits : ItemOut → Type 0) (ServerFits : ℕ → ServerStat
     };
     notes = λ j. nothing_noted (slice_get w.devices j);
     reads = λ j. refl;
+    gives = λ j. refl;
   }
 
   -- ---- a cut, whose counts hang on what is there
@@ -123,6 +124,7 @@ module _ (UpFits DownFits : ItemOut → Type 0) (ServerFits : ℕ → ServerStat
         };
         notes = λ j. nothing_noted (slice_get w.devices j);
         reads = λ j. refl;
+        gives = λ j. refl;
       }
 
   -- ---- the end of a connection is told to the server

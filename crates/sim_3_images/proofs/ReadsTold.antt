@@ -66,7 +66,7 @@ open_unplaced say k item.Footer (Some st) h = refl
 pub item_unplaced : {A : Type 0} (say : ItemOut → A) (k : ℕ) (i : Item) (s : Step A) → after_item say k i s ≡ after_item say k (placed 0 i) s
 item_unplaced say k i s = ap (λ acts. acted say acts s) (open_unplaced say k i (standing_at k s.server_state) s.server_state)
 
-here_unplaced : {A : Type 0} (k : ℕ) (i : Item) (o : Option Connection) (h : ServerState A) → read_where o k i h ≡ read_where o k (placed 0 i) h
+pub here_unplaced : {A : Type 0} (k : ℕ) (i : Item) (o : Option Connection) (h : ServerState A) → read_where o k i h ≡ read_where o k (placed 0 i) h
 here_unplaced k i None h = refl
 here_unplaced k (item.Header at header) (Some c) h = refl
 here_unplaced k (item.Element e) (Some c) h = refl
@@ -83,7 +83,7 @@ some_rendered : {A B : Type 0} (f : A → B) (o : Option A) → is_some (option_
 some_rendered f None = refl
 some_rendered f (Some a) = refl
 
-here_rendered : (k : ℕ) (i : Item) (o : Option Connection) (h : ServerState ItemOut) → read_where o k i (server_state_rendered written_item h) ≡ read_where o k i h
+pub here_rendered : (k : ℕ) (i : Item) (o : Option Connection) (h : ServerState ItemOut) → read_where o k i (server_state_rendered written_item h) ≡ read_where o k i h
 here_rendered k i None h = refl
 here_rendered k (item.Header at header) (Some c) h = refl
 here_rendered k item.Footer (Some c) h = refl

@@ -7,6 +7,8 @@ use Rattle.std.specs.List.{AllByRecursion, slice_get, slice_set}
 use Rattle.std.specs.Map.{set_value}
 use Rattle.std.specs.Option.{option_map}
 use Rattle.cl_handlers.specs.Clients.{ClientView}
+use Rattle.cl_handlers.specs.declared.account.Account.{Account}
+use Rattle.cmd_network.specs.Devices.{DeviceState}
 use Rattle.srv_state.specs.Moments.{at_moment}
 use Rattle.srv_state.specs.State.{Out, Put, ServerState, Shut, Step, Took, is_number}
 use Rattle.xml_framer.specs.Machine.{run}
@@ -18,22 +20,24 @@ use Rattle.law_xml.specs.Spells.{placed}
 use Rattle.sim_3_images.proofs.Beginnings.{IsHeaded, begun_headed, first_before, wire_there}
 use Rattle.sim_3_images.proofs.Emissions.{all_here}
 use Rattle.sim_3_images.proofs.ServerStatesRendered.{moment_rendered}
-use Rattle.sim_3_images.proofs.ItemsServed.{at_once, changed_none, many_up, served, served_fits, served_in_order, served_opened, up_after, ups_are, ups_read}
+use Rattle.sim_3_images.proofs.ItemsServed.{at_once, changed_none, many_up, served, served_fits, served_in_order, served_opened, up_after, ups_are, ups_give, ups_read}
 use Rattle.sim_3_images.proofs.Lookups.{get_changed_other, found_after_other_value, found_after_value, length_changed, set_changes}
 use Rattle.sim_3_images.proofs.NetworkMoves.{both_changed, end_is, found_both, number_apart}
 use Rattle.sim_3_images.proofs.WireSteps.{IsUpHanded, all_taken, wire_up}
 use Rattle.sim_3_images.proofs.NotesTold.{up_noted}
+use Rattle.sim_3_images.proofs.PutsTold.{given_rendered, given_unplaced, nobody_given, up_end_gives}
 use Rattle.sim_3_images.proofs.ReadsTold.{item_unplaced, read_rendered, read_unplaced, up_end_read}
+use Rattle.sim_3_images.specs.Puts.{all_item_gives, begins_stanza, given_along, given_first, given_in, given_of_piece, given_on, is_put_as_stanza}
 use Rattle.sim_3_images.specs.Reads.{all_item_reads, read_along, read_first, read_in, read_of_piece, read_on}
 use Rattle.sim_3_images.specs.EncodingsCores.{CoresFit, writer_at}
 use Rattle.sim_3_images.specs.ItemRuns.{AreServedUps, moved_where, ups}
 use Rattle.sim_3_images.specs.PipeEncodings.{AreRead, over, standing}
 use Rattle.sim_3_images.specs.WireEncodings.{WireEncodes}
-use Rattle.sim_3_images.specs.WorldEncodings.{Begins, Both, IsBegun, IsMoved, WireAt, WorldEncodes, framer_here, line_reported}
+use Rattle.sim_3_images.specs.WorldEncodings.{Begins, Both, DeviceEncodes, IsBegun, IsMoved, WireAt, WorldEncodes, framer_here, line_reported}
 use Rattle.sim_3_items.specs.ItemMoves as items
 use Rattle.sim_3_items.specs.ItemMoves.{ItemMove, step_of}
 use Rattle.sim_3_items.specs.ItemPipes.{ItemWire}
-use Rattle.sim_3_items.specs.ItemWorlds.{ItemWorld, itself, read_of}
+use Rattle.sim_3_items.specs.ItemWorlds.{ItemDevice, ItemWorld, itself, read_of}
 use Rattle.cmd_schedule.specs.declared.schedule.Count.{Count}
 use Rattle.cmd_schedule.specs.declared.schedule.Count.TheVariants.{All, Number}
 use Rattle.cmd_schedule.specs.declared.schedule.Version.{Version}
@@ -112,6 +116,7 @@ module _ (UpFits DownFits : ItemOut → Type 0) (ServerFits : ℕ → ServerStat
     moves : List ItemMove
     is_served : AreServedUps position moves
     read : (i : ℕ) → read_in (Up position count) w i ≡ all_item_reads moves v i
+    given : (i : ℕ) → given_in (Up position count) w i ≡ map written_item (all_item_gives moves v i)
     encodes : WorldEncodes UpFits DownFits ServerFits ClientFits (served_by position count (slice_get w.wires position) w) (items.all_moved moves v)
 
   -- where the framer gives some first items
@@ -272,6 +277,32 @@ module _ (UpFits DownFits : ItemOut → Type 0) (ServerFits : ℕ → ServerStat
         ∙ ap (λ d. cond (d == j) (read_along itself (number_at position) (map read_of taken) (step_of ticked.server)) []) same
         ∙ sym (ups_read UpFits DownFits ServerFits ClientFits cores many position p.device j taken (drop h.count p.up.items) ticked p few found_item refl (sym (take-append-drop h.count p.up.items)) ticked_fits taken_fit comes)
 
+    -- ---- what the server puts
+
+    given_piece : (who : Account) → given_of_piece who (number_at position) piece (framer_at (number_at position) w.server.framers) (begun w.moment w.server.server_state []) ≡ map written_item (given_along itself is_put_as_stanza who (number_at position) (map read_of taken) (step_of ticked.server))
+    given_piece who =
+        ap (λ o. given_of_piece who (number_at position) piece o (begun w.moment w.server.server_state [])) reader
+        ∙ ap (λ (u : Turn). given_along written_item begins_stanza who (number_at position) u.items (begun w.moment w.server.server_state [])) h.run_is
+        ∙ given_unplaced written_item begins_stanza who (number_at position) h.first (begun w.moment w.server.server_state []) ∙ ap (λ l. given_along written_item begins_stanza who (number_at position) l (begun w.moment w.server.server_state [])) h.read
+        ∙ ap (λ x. given_along written_item begins_stanza who (number_at position) (map read_of taken) (record { server_state = x; outs = [] })) (ap₂ at_moment same_moment i.server_state ∙ moment_rendered written_item (v.moment + 0) v.server)
+        ∙ given_rendered who (number_at position) (map read_of taken) (step_of ticked.server)
+
+    served_given : (count : Count) → amount count b.up ≡ n → (n == 0) ≡ false → (j : ℕ) → given_in (Up position count) w j ≡ map written_item (all_item_gives (items.Tick 0 ∷ ups position (length taken)) v j)
+    served_given count is some j = by (slice_get w.devices j) (slice_get v.devices j) refl refl (i.devices j)
+      where
+        by : (od : Option DeviceState) (oe : Option ItemDevice) → slice_get w.devices j ≡ od → slice_get v.devices j ≡ oe → Both (DeviceEncodes ClientFits) od oe → given_in (Up position count) w j ≡ map written_item (all_item_gives (items.Tick 0 ∷ ups position (length taken)) v j)
+        by None None at at_item x = ap (λ o. given_on position count w o (slice_get w.wires position)) at ∙ sym (ap (map written_item) (nobody_given position (length taken) j ticked at_item))
+        by None (Some e) at at_item x = absurd x
+        by (Some d) None at at_item x = absurd x
+        by (Some d) (Some e) at at_item x =
+            ap (λ o. given_on position count w o (slice_get w.wires position)) at
+            ∙ ap (given_on position count w (Some d)) found
+            ∙ ap (λ m. given_first d.client.client.account (number_at position) m b.up.bytes w) is
+            ∙ ap (λ (c : Bool). cond c [] (given_of_piece d.client.client.account (number_at position) piece (framer_at (number_at position) w.server.framers) (begun w.moment w.server.server_state []))) some
+            ∙ given_piece d.client.client.account
+            ∙ ap (λ who. map written_item (given_along itself is_put_as_stanza who (number_at position) (map read_of taken) (step_of ticked.server))) (ap (λ (c : ClientView (List ℕ)). c.account) x.client)
+            ∙ ap (map written_item) (sym (ups_give UpFits DownFits ServerFits ClientFits cores many position j taken (drop h.count p.up.items) ticked p e at_item few found_item (sym (take-append-drop h.count p.up.items)) ticked_fits taken_fit comes))
+
     pub served_encodes : WorldEncodes UpFits DownFits ServerFits ClientFits (bytes.served position n b w) (items.all_moved (items.Tick 0 ∷ ups position (length taken)) v)
     served_encodes =
         subst (λ x. WorldEncodes UpFits DownFits ServerFits ClientFits x (items.all_moved (items.Tick 0 ∷ ups position (length taken)) v)) (sym bytes_is)
@@ -294,11 +325,25 @@ module _ (UpFits DownFits : ItemOut → Type 0) (ServerFits : ℕ → ServerStat
           either true = refl
           either false = refl
 
+      -- and nothing put
+      for_none : ((d : DeviceState) → given_on position count w (Some d) (slice_get w.wires position) ≡ []) → (j : ℕ) → given_in (Up position count) w j ≡ []
+      for_none each j = of (slice_get w.devices j)
+        where
+          of : (o : Option DeviceState) → given_on position count w o (slice_get w.wires position) ≡ []
+          of None = refl
+          of (Some d) = each d
+
+      ungiven : (b : Wire) → slice_get w.wires position ≡ Some b → (amount count b.up == 0) ≡ true → (j : ℕ) → given_in (Up position count) w j ≡ []
+      ungiven b found none =
+          for_none (λ d. ap (given_on position count w (Some d)) found
+          ∙ ap (λ (c : Bool). cond c [] (given_of_piece d.client.client.account (number_at position) (take (amount count b.up) b.up.bytes) (framer_at (number_at position) w.server.framers) (begun w.moment w.server.server_state []))) none)
+
       some : (b : Wire) → slice_get w.wires position ≡ Some b → (e : Bool) → (amount count b.up == 0) ≡ e → IsServedSo position count w v
       some b found true none = record {
         moves = [];
         is_served = inl refl;
         read = unread b found none;
+        given = ungiven b found none;
         encodes = nothing (served_by position count (slice_get w.wires position) w) (ap (λ o. served_by position count o w) found ∙ ap (λ (e : Bool). cond e w (bytes.served position (amount count b.up) b w)) none);
       }
       some b found false few =
@@ -316,12 +361,13 @@ module _ (UpFits DownFits : ItemOut → Type 0) (ServerFits : ℕ → ServerStat
                   moves = items.Tick 0 ∷ ups position (length (take h.count p.up.items));
                   is_served = inr (length (take h.count p.up.items), refl);
                   read = served_read position n w v b p found other.is i f reader h x.up_fits count refl few x.device;
+                  given = served_given position n w v b p found other.is i f reader h x.up_fits count refl few;
                   encodes = subst (λ y. WorldEncodes UpFits DownFits ServerFits ClientFits y (items.all_moved (items.Tick 0 ∷ ups position (length (take h.count p.up.items))) v)) (sym is) (served_encodes position n w v b p found other.is i f reader h x.up_fits);
                 }
           ]
 
       by : (o : Option Wire) → slice_get w.wires position ≡ o → IsServedSo position count w v
-      by None found = record { moves = []; is_served = inl refl; read = λ j. ap (read_on position count j w) found; encodes = nothing (served_by position count (slice_get w.wires position) w) (ap (λ o. served_by position count o w) found) }
+      by None found = record { moves = []; is_served = inl refl; read = λ j. ap (read_on position count j w) found; given = for_none (λ d. ap (given_on position count w (Some d)) found); encodes = nothing (served_by position count (slice_get w.wires position) w) (ap (λ o. served_by position count o w) found) }
       by (Some b) found = some b found (amount count b.up == 0) refl
 
   pub up_is : (position : ℕ) (count : Count) (w : ByteWorld) (v : ItemWorld) → WorldEncodes UpFits DownFits ServerFits ClientFits w v → IsMoved UpFits DownFits ServerFits ClientFits (Up position count) w v
@@ -334,4 +380,5 @@ module _ (UpFits DownFits : ItemOut → Type 0) (ServerFits : ℕ → ServerStat
         encodes = subst (WorldEncodes UpFits DownFits ServerFits ClientFits (end_reported_up position (served_by position count (slice_get w.wires position) w))) (sym (moved_joined a.moves (moved_where (items.UpEnd position) z.ended) v)) z.encodes;
         notes = up_noted position count w a.moves z.ended v a.is_served;
         reads = λ j. a.read j ∙ sym (up_end_read position a.moves z.ended v j);
+        gives = λ j. a.given j ∙ sym (ap (map written_item) (up_end_gives position a.moves z.ended v j));
       }

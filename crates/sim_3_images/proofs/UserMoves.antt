@@ -193,7 +193,7 @@ module _ (UpFits DownFits : ItemOut → Type 0) (ServerFits : ℕ → ServerStat
   Submitted i line to text private w v od oe = WorldEncodes UpFits DownFits ServerFits ClientFits (said_by i line to text private od w) (items.said_by i (bare_address to) text private oe v)
 
   pub say_is : (i line : ℕ) (to text : List ℕ) (private : Bool) (w : ByteWorld) (v : ItemWorld) → IsTrue (is_name to) → IsTrue (is_text text) → WorldEncodes UpFits DownFits ServerFits ClientFits w v → IsMoved UpFits DownFits ServerFits ClientFits (Say i line to text private) w v
-  say_is i line to text private w v name plain encodes = record { moves = items.Say i (bare_address to) text private ∷ []; is_run = refl; encodes = by (slice_get w.devices i) (slice_get v.devices i) refl refl (encodes.devices i); notes = say_noted ClientFits i line to text private w v encodes.devices; reads = λ j. refl }
+  say_is i line to text private w v name plain encodes = record { moves = items.Say i (bare_address to) text private ∷ []; is_run = refl; encodes = by (slice_get w.devices i) (slice_get v.devices i) refl refl (encodes.devices i); notes = say_noted ClientFits i line to text private w v encodes.devices; reads = λ j. refl; gives = λ j. refl }
     where
       answered : (d : DeviceState) (e : ItemDevice) → slice_get w.devices i ≡ Some d → slice_get v.devices i ≡ Some e → DeviceEncodes ClientFits d e → (a : Result ℕ SayFault) → say_answer e.client text ≡ a
           → WorldEncodes UpFits DownFits ServerFits ClientFits (spoke i d.here (devices.says_by line (bare_address to) text private a d) w) (items.said_in a i e (says in_items (silent_client_step e.client) (bare_address to) text private) v)
@@ -239,7 +239,7 @@ module _ (UpFits DownFits : ItemOut → Type 0) (ServerFits : ℕ → ServerStat
   Asked i line most w v od oe = WorldEncodes UpFits DownFits ServerFits ClientFits (caught_up_by i line most od w) (items.caught_up_by i most oe v)
 
   pub catch_up_is : (i line most : ℕ) (w : ByteWorld) (v : ItemWorld) → 1 ≤ most → most ≤ 100 → WorldEncodes UpFits DownFits ServerFits ClientFits w v → IsMoved UpFits DownFits ServerFits ClientFits (CatchUp i line most) w v
-  catch_up_is i line most w v some few encodes = record { moves = items.CatchUp i most ∷ []; is_run = refl; encodes = by (slice_get w.devices i) (slice_get v.devices i) refl refl (encodes.devices i); notes = catch_up_noted ClientFits i line most w v encodes.devices; reads = λ j. refl }
+  catch_up_is i line most w v some few encodes = record { moves = items.CatchUp i most ∷ []; is_run = refl; encodes = by (slice_get w.devices i) (slice_get v.devices i) refl refl (encodes.devices i); notes = catch_up_noted ClientFits i line most w v encodes.devices; reads = λ j. refl; gives = λ j. refl }
     where
       answered : (d : DeviceState) (e : ItemDevice) → slice_get w.devices i ≡ Some d → slice_get v.devices i ≡ Some e → DeviceEncodes ClientFits d e → (a : Result (Unit {0}) CatchUpStart) → catch_up_answer e.client ≡ a
           → WorldEncodes UpFits DownFits ServerFits ClientFits (spoke i d.here (devices.catches_up_by line most a d) w) (items.said_in a i e (catches_up in_items (silent_client_step e.client) most) v)
@@ -279,7 +279,7 @@ module _ (UpFits DownFits : ItemOut → Type 0) (ServerFits : ℕ → ServerStat
   Forgotten i w v od oe = WorldEncodes UpFits DownFits ServerFits ClientFits (forgot_by i od w) (items.forgot_by i oe v)
 
   pub forget_is : (i : ℕ) (w : ByteWorld) (v : ItemWorld) → WorldEncodes UpFits DownFits ServerFits ClientFits w v → IsMoved UpFits DownFits ServerFits ClientFits (Forget i) w v
-  forget_is i w v encodes = record { moves = items.Forget i ∷ []; is_run = refl; encodes = by (slice_get w.devices i) (slice_get v.devices i) refl refl (encodes.devices i); notes = λ j. nothing_noted (slice_get w.devices j); reads = λ j. refl }
+  forget_is i w v encodes = record { moves = items.Forget i ∷ []; is_run = refl; encodes = by (slice_get w.devices i) (slice_get v.devices i) refl refl (encodes.devices i); notes = λ j. nothing_noted (slice_get w.devices j); reads = λ j. refl; gives = λ j. refl }
     where
       by : (od : Option DeviceState) (oe : Option ItemDevice) → slice_get w.devices i ≡ od → slice_get v.devices i ≡ oe → Both (DeviceEncodes ClientFits) od oe → Forgotten i w v (slice_get w.devices i) (slice_get v.devices i)
       by None None found found_item h = subst (λ o. Forgotten i w v o (slice_get v.devices i)) (sym found) (subst (Forgotten i w v None) (sym found_item) encodes)

@@ -1,7 +1,8 @@
 pub use Rattle.base_io.specs.Listed
--- machine: what clients note down in a move, and which stanzas the server reads
+-- machine: what clients note down in a move, and which stanzas the server reads and puts
 pub mod Notes
 pub mod Reads
+pub mod Puts
 -- law: pipes, connections and worlds of bytes as encodings of those of items
 pub mod PipeEncodings
 pub mod WireEncodings

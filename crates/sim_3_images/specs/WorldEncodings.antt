@@ -10,6 +10,7 @@ use Rattle.xml_framer.specs.declared.states.Phase.TheVariants as phase
 use Rattle.sim_3_images.specs.EncodingsCores.{writer_at}
 use Rattle.sim_3_images.specs.ItemRuns.{IsRunOf}
 use Rattle.sim_3_images.specs.Notes.{all_item_notes, notes_in}
+use Rattle.sim_3_images.specs.Puts.{all_item_gives, given_in}
 use Rattle.sim_3_images.specs.Reads.{all_item_reads, read_in}
 use Rattle.sim_3_images.specs.WireEncodings.{WireEncodes}
 use Rattle.sim_3_items.specs.ItemMoves.{ItemMove, all_moved}
@@ -83,13 +84,14 @@ pub record WorldEncodes (UpFits DownFits : ItemOut → Type 0) (ServerFits : ℕ
 -- ---- moves
 
 -- A move of bytes is these moves of items: behind it the one world encodes the other still, and by it clients note down
--- the same, and the server reads the same stanzas.
+-- the same, and the server reads the same stanzas, and puts the same, as they are written.
 pub record IsMoved (UpFits DownFits : ItemOut → Type 0) (ServerFits : ℕ → ServerState ItemOut → Type 0) (ClientFits : ClientView ItemOut → Type 0) (m : Move) (w : ByteWorld) (v : ItemWorld) : Type 0 where
   pub moves : List ItemMove
   pub is_run : IsRunOf m moves
   pub encodes : WorldEncodes UpFits DownFits ServerFits ClientFits (moved m w) (all_moved moves v)
   pub notes : (i : ℕ) → notes_in m w i ≡ map (note_rendered written_item) (all_item_notes moves v i)
   pub reads : (i : ℕ) → read_in m w i ≡ all_item_reads moves v i
+  pub gives : (i : ℕ) → given_in m w i ≡ map written_item (all_item_gives moves v i)
 
 -- a world of bytes encodes one of items that moves lead to from a first one
 pub record IsReached (UpFits DownFits : ItemOut → Type 0) (ServerFits : ℕ → ServerState ItemOut → Type 0) (ClientFits : ClientView ItemOut → Type 0) (start : ItemWorld) (w : ByteWorld) : Type 0 where

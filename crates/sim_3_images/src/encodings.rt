@@ -80,8 +80,9 @@ pub fn what_a_server_puts_is_in_order()
 {}
 
 /// A law: a move of bytes is some moves of items, with the same server and the same clients but for how what waits is
-/// written: where a world of bytes encodes a world of items, it is so behind them. `IsRunOf` says which. So it is
-/// of moves one after another, however many, from any world on.
+/// written: where a world of bytes encodes a world of items, it is so behind them. `IsRunOf` says which. Each client notes
+/// down the same in the one as in the others, the server reads the same stanzas of each device, and puts the same into
+/// its session. So it is of moves one after another, however many, from any world on.
 ///
 /// A premise is what the cores owe: that what they put fits into the limits of who reads it (`CoresKeep`), for some
 /// things, server states and clients that are among those of four families. That the server puts it in the order of a

@@ -7,7 +7,9 @@ use Rattle.std.specs.List.{AllByRecursion}
 use Rattle.std.specs.Prelude.{ℤ, slice_get, slice_set}
 use Rattle.mam_archive.specs.Entries.{EntryView}
 use Rattle.base_lemmas.proofs.Lists.{AllByRecursion-weaker}
-use Rattle.srv_state.specs.State.{Kept, ServerState, Step, Took, archive_at}
+use Rattle.sim_2_links.specs.Stages.{Conn}
+use Rattle.sim_3_images.specs.Puts.{is_put_as_stanza, puts_on}
+use Rattle.srv_state.specs.State.{Kept, Out, ServerState, Step, Took, archive_at}
 use Rattle.srv_state.specs.Steps.{Act, Archive, Copy, Handle, Present, Send, Tell, act, acted, appended, archived_in}
 use Rattle.sim_3_items.specs.Labels.{Gives, Label, gives_all}
 use Rattle.sim_3_items.specs.Identities.{Identity, Login}
@@ -26,6 +28,7 @@ use Rattle.sim_4_links_follow.proofs.StanzasElsewhere.{send_stands}
 use Rattle.sim_4_links_follow.proofs.GivenParts.{IsFair, IsNotOf, fair_still, given_both, given_still, row_both, row_same, sends_elsewhere}
 use Rattle.sim_4_links_follow.proofs.MorePipes.{more_put_out, told_out}
 use Rattle.sim_4_links_follow.proofs.Own.{Goes, own_goes}
+use Rattle.sim_4_links_follow.proofs.Tellings.{both_tell, given_to_none, quiet_more, still_tells}
 use Rattle.sim_4_links_follow.proofs.Thinned.{LeavesRow, apart_row, fair_row, session_kept}
 use Rattle.sim_4_links_follow.specs.Given.{sends_to}
 use Rattle.sim_4_links_follow.proofs.Found.{Keeps}
@@ -102,8 +105,9 @@ module _ (who : Identity) (logins : ℕ → Login) where
 
   module _ (wires : Table ItemWire) where
     -- nothing moves
-    stays_still : (acts : List (Act ItemOut)) (s : Step ItemOut) (v : View ItemOut) → ServerRepresents who logins s.server_state v → PipesRepresent who logins (sent s.outs wires) v → ((r : Row ItemOut) → v.row ≡ Some r → sends_to r.number acts ≡ []) → Goes who logins wires v acts s
-    stays_still acts s v represents pipes none = record {
+    stays_still : (acts : List (Act ItemOut)) (first : List (Out ItemOut)) (s : Step ItemOut) (v : View ItemOut) → ServerRepresents who logins s.server_state v → PipesRepresent who logins (sent s.outs wires) v → ((r : Row ItemOut) → v.row ≡ Some r → sends_to r.number acts ≡ [])
+        → ((k : ℕ) (c : Conn ItemOut) → v.conns k ≡ Some c → puts_on is_put_as_stanza k s.outs ≡ puts_on is_put_as_stanza k first) → Goes who logins wires v acts first s
+    stays_still acts first s v represents pipes none quiet = record {
       given = [];
       follows = record {
         moves = [];
@@ -116,46 +120,47 @@ module _ (who : Identity) (logins : ℕ → Login) where
       };
       are_given = given_still acts v.row none;
       kept = row_same v.row;
+      tells = still_tells v first s.outs quiet;
     }
 
     module _ (s : Step ItemOut) (v : View ItemOut) (reached : LinkReached v) (represents : ServerRepresents who logins s.server_state v) (pipes : PipesRepresent who logins (sent s.outs wires) v) where
-      goes_elsewhere : (n : ℕ) (z : ItemOut) → IsNotOf v.row n → Goes who logins wires v (Send n z ∷ []) (act itself (Send n z) s)
+      goes_elsewhere : (n : ℕ) (z : ItemOut) → IsNotOf v.row n → Goes who logins wires v (Send n z ∷ []) s.outs (act itself (Send n z) s)
       goes_elsewhere n z apart =
-          let stands = send_stands who logins wires v (link_kept v reached) n z apart s (represents, pipes) in
-          stays_still (Send n z ∷ []) (act itself (Send n z) s) v stands.0 stands.1 (sends_elsewhere v.row n z apart)
+          let stands = send_stands who logins wires v (link_kept v reached) s.outs n z apart s (represents, pipes, λ k c is. refl) in
+          stays_still (Send n z ∷ []) s.outs (act itself (Send n z) s) v stands.0 stands.1 (sends_elsewhere v.row n z apart) stands.2
 
-      send_goes : (n : ℕ) (z : ItemOut) → IsFair v.row (Send n z) → Goes who logins wires v (Send n z ∷ []) (act itself (Send n z) s)
+      send_goes : (n : ℕ) (z : ItemOut) → IsFair v.row (Send n z) → Goes who logins wires v (Send n z ∷ []) s.outs (act itself (Send n z) s)
       send_goes n z fair = go v.row refl
         where
-          go : (o : Option (Row ItemOut)) → v.row ≡ o → Goes who logins wires v (Send n z ∷ []) (act itself (Send n z) s)
+          go : (o : Option (Row ItemOut)) → v.row ≡ o → Goes who logins wires v (Send n z ∷ []) s.outs (act itself (Send n z) s)
           go None is = goes_elsewhere n z (λ r there same. let no_way : ⊥ = cc in no_way)
           go (Some r) is =
               elim (cases_Bool (nat_eq r.number n)) [
                 | inl same ↦
                     let number : r.number ≡ n = eqb-true r.number n same in
-                    subst (λ m. Goes who logins wires v (Send m z ∷ []) (act itself (Send m z) s)) number
+                    subst (λ m. Goes who logins wires v (Send m z ∷ []) s.outs (act itself (Send m z) s)) number
                     (own_goes who logins wires v (link_kept v reached) s represents pipes r is (fair.1 r is number) z fair.0)
                 | inr other ↦ goes_elsewhere n z (number_apart v.row r n is other)
               ]
 
-      act_goes : (a : Act ItemOut) → IsFair v.row a → Goes who logins wires v (a ∷ []) (act itself a s)
+      act_goes : (a : Act ItemOut) → IsFair v.row a → Goes who logins wires v (a ∷ []) s.outs (act itself a s)
       act_goes (Send n z) fair = send_goes n z fair
       act_goes (Present n available priority) fair =
-          stays_still (Present n available priority ∷ []) (act itself (Present n available priority) s) v
+          stays_still (Present n available priority ∷ []) s.outs (act itself (Present n available priority) s) v
           (session_kept who logins s.server_state v represents n (presents available priority) (presents_keeps available priority) (λ t is. represents.server_state.sessions.few n t is) (fair_row who logins s.server_state v represents n (presents available priority) (presents_leaves available priority) fair)) pipes
-          (λ r is. refl)
+          (λ r is. refl) (λ k c is. refl)
       act_goes (Copy n on) fair =
-          stays_still (Copy n on ∷ []) (act itself (Copy n on) s) v
+          stays_still (Copy n on ∷ []) s.outs (act itself (Copy n on) s) v
           (session_kept who logins s.server_state v represents n (copies on) (copies_keeps on) (λ t is. represents.server_state.sessions.few n t is) (fair_row who logins s.server_state v represents n (copies on) (copies_leaves on) fair)) pipes
-          (λ r is. refl)
+          (λ r is. refl) (λ k c is. refl)
       act_goes (Handle n) fair =
-          stays_still (Handle n ∷ []) (act itself (Handle n) s) v
+          stays_still (Handle n ∷ []) s.outs (act itself (Handle n) s) v
           (session_kept who logins s.server_state v represents n handles handles_keeps (λ t is. represents.server_state.sessions.few n t is) (apart_row who logins s.server_state v represents n handles fair)) pipes
-          (λ r is. refl)
-      act_goes (Archive account e) fair = stays_still (Archive account e ∷ []) (act itself (Archive account e) s) v (archived_represents v e account (archive_at account s.server_state) s.server_state represents) pipes (λ r is. refl)
+          (λ r is. refl) (λ k c is. refl)
+      act_goes (Archive account e) fair = stays_still (Archive account e ∷ []) s.outs (act itself (Archive account e) s) v (archived_represents v e account (archive_at account s.server_state) s.server_state represents) pipes (λ r is. refl) (λ k c is. refl)
       act_goes (Tell from to origin) fair =
-          stays_still (Tell from to origin ∷ []) (act itself (Tell from to origin) s) v represents
-          (more_put_out who logins wires v s.outs (Took from to origin ∷ []) (told_out who logins (sent s.outs wires) v from to origin pipes)) (λ r is. refl)
+          stays_still (Tell from to origin ∷ []) s.outs (act itself (Tell from to origin) s) v represents
+          (more_put_out who logins wires v s.outs (Took from to origin ∷ []) (told_out who logins (sent s.outs wires) v from to origin pipes)) (λ r is. refl) (λ k c is. quiet_more k s.outs (Took from to origin ∷ []) refl)
       act_goes _ fair = absurd fair
 
     -- ---- one behind the other
@@ -175,18 +180,21 @@ module _ (who : Identity) (logins : ℕ → Login) where
     pub reached_more : (moves : List (LinkMove ItemOut)) (v next : View ItemOut) → LinkReached v → LinkReaches moves v next → LinkReached next
     reached_more moves v next reached to = record { moves = reached.moves ++ moves; reaches = then_reaches reached.moves moves nothing_yet v next reached.reaches to }
 
-    goes_both : (a : Act ItemOut) (acts : List (Act ItemOut)) (v : View ItemOut) (first last : Step ItemOut) (f : Goes who logins wires v (a ∷ []) first) → Goes who logins wires f.follows.next acts last → Goes who logins wires v (a ∷ acts) last
-    goes_both a acts v first last f g = record {
+    goes_both : (a : Act ItemOut) (acts : List (Act ItemOut)) (v : View ItemOut) (before : List (Out ItemOut)) (first last : Step ItemOut) (f : Goes who logins wires v (a ∷ []) before first) → Goes who logins wires f.follows.next acts first.outs last → Goes who logins wires v (a ∷ acts) before last
+    goes_both a acts v before first last f g = record {
       given = f.given ++ g.given;
       follows = follows_both v first last (gives_all f.given) (gives_all g.given) (gives_all (f.given ++ g.given)) (sym (map-append Gives f.given g.given)) f.follows g.follows;
       are_given = given_both a acts f.given g.given v.row f.follows.next.row g.follows.next.row f.are_given g.are_given;
       kept = row_both v.row f.follows.next.row g.follows.next.row f.kept g.kept;
+      tells =
+          both_tell v f.follows.next f.given g.given before first.outs last.outs g.follows.next.row f.follows.client.conns (given_to_none (a ∷ []) f.given v.row f.follows.next.row f.are_given)
+          (given_to_none acts g.given f.follows.next.row g.follows.next.row g.are_given) f.tells g.tells;
     }
 
-    pub acts_go : (acts : List (Act ItemOut)) (s : Step ItemOut) (v : View ItemOut) → LinkReached v → ServerRepresents who logins s.server_state v → PipesRepresent who logins (sent s.outs wires) v → AllByRecursion (IsFair v.row) acts → Goes who logins wires v acts (acted itself acts s)
-    acts_go [] s v reached represents pipes fair = stays_still [] s v represents pipes (λ r is. refl)
+    pub acts_go : (acts : List (Act ItemOut)) (s : Step ItemOut) (v : View ItemOut) → LinkReached v → ServerRepresents who logins s.server_state v → PipesRepresent who logins (sent s.outs wires) v → AllByRecursion (IsFair v.row) acts → Goes who logins wires v acts s.outs (acted itself acts s)
+    acts_go [] s v reached represents pipes fair = stays_still [] s.outs s v represents pipes (λ r is. refl) (λ k c is. refl)
     acts_go (a ∷ acts) s v reached represents pipes fair =
         let one = act_goes s v reached represents pipes a fair.0 in
-        goes_both a acts v (act itself a s) (acted itself (a ∷ acts) s) one
+        goes_both a acts v s.outs (act itself a s) (acted itself (a ∷ acts) s) one
         (acts_go acts (act itself a s) one.follows.next (reached_more one.follows.moves v one.follows.next reached one.follows.leads) one.follows.server one.follows.pipes
         (AllByRecursion-weaker (IsFair v.row) (IsFair one.follows.next.row) (λ b. fair_still v.row one.follows.next.row b one.kept) acts fair.1))

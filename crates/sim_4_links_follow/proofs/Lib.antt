@@ -116,6 +116,7 @@ pub mod Spoken
 pub mod Listening
 -- ---- what is given
 pub mod GivenParts
+pub mod Tellings
 -- ---- a small step, for one device
 pub mod Thinned
 pub mod MorePipes

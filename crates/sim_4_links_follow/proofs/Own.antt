@@ -8,7 +8,7 @@ use Rattle.std.proofs.lemmas.Option.{same_Some}
 use Rattle.std.specs.List.{filter}
 use Rattle.std.specs.Option.{option_map}
 use Rattle.sm_acks.specs.declared.end.TheConstants.{MOST_UNACKNOWLEDGED}
-use Rattle.srv_state.specs.State.{Put, ServerState, Shut, Step, with_sessions, without_conn}
+use Rattle.srv_state.specs.State.{Out, Put, ServerState, Shut, Step, with_sessions, without_conn}
 use Rattle.srv_state.specs.Steps.{Act, Send, act, ask_where, in_sessions, is_due, overflow, part_where, put, put_where, queue, send_by_info}
 use Rattle.sim_3_items.specs.Counted.{IsForClient}
 use Rattle.sim_3_items.specs.Labels.{gives_all}
@@ -41,6 +41,7 @@ use Rattle.sim_4_links_follow.proofs.Shuts.{shuts_at}
 use Rattle.sim_4_links_follow.proofs.StanzasElsewhere.{one_more, waits_keeps}
 use Rattle.sim_4_links_follow.proofs.GivenParts.{IsKeptRow, given_all, given_short, row_ended, sends_here}
 use Rattle.sim_4_links_follow.proofs.MorePipes.{more_put_out, put_here, shut_here}
+use Rattle.sim_4_links_follow.proofs.Tellings.{PutsOut, Tells, attached_puts, client_begins, joins_ended, joins_one, parked_puts, quiet_more, quiet_puts, quiet_request, quiet_shuts, then_quiet}
 use Rattle.sim_4_links_follow.proofs.Thinned.{thinned}
 use Rattle.sim_4_links_follow.specs.Given.{IsGiven}
 use Rattle.sim_4_links_follow.proofs.Flows.{halted}
@@ -48,12 +49,13 @@ use Rattle.sim_4_links_follow.proofs.Placed.{keeps_all, keeps_at}
 use Rattle.sim_4_links_follow.proofs.Servings.{IsLive, known_altered, known_same, live_of, row_represents, session_represents}
 use Rattle.xml_writer.specs.Items.{Closing, ItemOut}
 
--- behind small steps the links have moved, and these were given
-pub record Goes (who : Identity) (logins : ℕ → Login) (wires : Table ItemWire) (v : View ItemOut) (acts : List (Act ItemOut)) (s : Step ItemOut) : Type 0 where
+-- behind small steps the links have moved, and these were given, as what was put out meanwhile tells
+pub record Goes (who : Identity) (logins : ℕ → Login) (wires : Table ItemWire) (v : View ItemOut) (acts : List (Act ItemOut)) (first : List (Out ItemOut)) (s : Step ItemOut) : Type 0 where
   pub given : List ItemOut
   pub follows : ServerFollows who logins s.server_state (sent s.outs wires) v (gives_all given)
   pub are_given : IsGiven acts given v.row follows.next.row
   pub kept : IsKeptRow v.row follows.next.row
+  pub tells : Tells v given first s.outs follows.next.row
 
 pub twice_left : {A : Type 0} (p q : A → Bool) (xs : List A) → filter p (filter q xs) ≡ filter (λ x. q x && p x) xs
 twice_left p q [] = refl
@@ -98,7 +100,7 @@ module _ (who : Identity) (logins : ℕ → Login) (wires : Table ItemWire) (v :
   sends = Send r.number z ∷ []
 
   abbrev Result : Step ItemOut → Type 0
-  Result t = Goes who logins wires v sends t
+  Result t = Goes who logins wires v sends s.outs t
 
   -- ---- there is room
 
@@ -163,6 +165,7 @@ module _ (who : Identity) (logins : ℕ → Login) (wires : Table ItemWire) (v :
           };
           are_given = given_here;
           kept = row_here;
+          tells = record { outs = parked_puts v r (z ∷ []) s.outs is_row off; joins = joins_one v.row r z is_row };
         })
 
     -- where it is attached
@@ -215,6 +218,9 @@ module _ (who : Identity) (logins : ℕ → Login) (wires : Table ItemWire) (v :
           keeps_both (v.conns j) (served.conns j) (asked.conns j) (served_keeps j)
           (keeps_at served.conns k put_conn asked_conn at_there refl (λ ended. same_flow_down (Down Req ∷ []) put_conn.wires ∙ ended) j)
 
+      puts : PutsOut v v.row (z ∷ []) s.outs (s.outs ++ Put k z ∷ [])
+      puts = attached_puts v r k z s.outs is_row on (client_begins z stanza)
+
       by_due : (b : Bool) → Result (ask_where itself r.number (Some k) b (put k z waiting))
       by_due false = record {
         given = z ∷ [];
@@ -229,6 +235,7 @@ module _ (who : Identity) (logins : ℕ → Login) (wires : Table ItemWire) (v :
         };
         are_given = given_here;
         kept = row_here;
+        tells = record { outs = puts; joins = joins_one v.row r z is_row };
       }
       by_due true = record {
         given = z ∷ [];
@@ -247,6 +254,7 @@ module _ (who : Identity) (logins : ℕ → Login) (wires : Table ItemWire) (v :
         };
         are_given = given_here;
         kept = row_here;
+        tells = record { outs = then_quiet v (z ∷ []) s.outs (s.outs ++ Put k z ∷ []) (Put k request_item ∷ []) (quiet_request k) puts; joins = joins_one v.row r z is_row };
       }
 
       put_out : Result (queue itself r.number z (told x) s)
@@ -281,6 +289,7 @@ module _ (who : Identity) (logins : ℕ → Login) (wires : Table ItemWire) (v :
         };
         are_given = short_here;
         kept = row_ended v.row;
+        tells = record { outs = quiet_puts v s.outs s.outs (λ k c is. refl); joins = joins_ended v.row [] };
       })
 
   -- where it is attached
@@ -334,6 +343,7 @@ module _ (who : Identity) (logins : ℕ → Login) (wires : Table ItemWire) (v :
           };
           are_given = short_here;
           kept = row_ended v.row;
+          tells = record { outs = quiet_puts v s.outs (s.outs ++ shuts_at k words) (λ j d there. quiet_more j s.outs (shuts_at k words) (quiet_shuts k j)); joins = joins_ended v.row [] };
         })
 
   -- ---- all cases

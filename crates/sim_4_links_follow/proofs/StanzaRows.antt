@@ -21,6 +21,7 @@ use Rattle.sim_3_items.specs.ItemMoves.{step_of}
 use Rattle.sim_3_items.specs.ItemPipes.{ItemWire, handed_up}
 use Rattle.sim_3_items.specs.ItemWorlds.{itself}
 use Rattle.sim_2_links.proofs.Expected.{expected_up}
+use Rattle.sim_2_links.proofs.Reached.{link_kept}
 use Rattle.sim_2_links.specs.LinkMoves.{handled_if}
 use Rattle.sim_2_links.specs.Machine.{LinkReached, TakesStanza}
 use Rattle.sim_2_links.specs.Promises.{HasThere}
@@ -41,7 +42,8 @@ use Rattle.sim_4_links_follow.proofs.ActSteps.{acts_go, follows_both, handles_ke
 use Rattle.sim_4_links_follow.proofs.GivenParts.{IsCountedAt, IsFair, IsKeptRow, IsNotOf, fair_still}
 use Rattle.sim_4_links_follow.proofs.Listening.{AreHeard, IsHeard, IsHeardBy, IsListening, handling_heard}
 use Rattle.sim_4_links_follow.proofs.Own.{Goes}
-use Rattle.sim_4_links_follow.specs.Given.{IsGiven, IsOfSession, StepGives, acts_on}
+use Rattle.sim_4_links_follow.proofs.Tellings.{told_alike, told_from}
+use Rattle.sim_4_links_follow.specs.Given.{IsGiven, IsOfSession, IsTold, StepGives, acts_on}
 use Rattle.xml_trees.specs.Trees.{Elem}
 use Rattle.sim_4_links_follow.proofs.Servings.{IsLive, known_altered, known_same, live_of, row_represents, session_represents}
 use Rattle.xml_writer.specs.Items.{ItemOut}
@@ -178,7 +180,7 @@ module _ (who : Identity) (logins : ℕ → Login) (h : ServerState ItemOut) (wi
     kept_row : IsKeptRow v.row (Some after)
     kept_row t is = let one : after ≡ t = same_Some after t is in (row, there.1, ap (λ (u : Row ItemOut). u.number) one, ap (λ (u : Row ItemOut). u.counted) one)
 
-    goes : Goes who logins (with_at k (handed_up p.wire) wires) next acts (acted itself acts counted_step)
+    goes : Goes who logins (with_at k (handed_up p.wire) wires) next acts [] (acted itself acts counted_step)
     goes =
         acts_go who logins (with_at k (handed_up p.wire) wires) acts counted_step next (reached_more who logins (with_at k (handed_up p.wire) wires) (TakesStanza k z ∷ []) v next p.reached counted_follows.leads) counted_follows.server counted_follows.pipes
         (AllByRecursion-weaker (IsFair v.row) (IsFair (Some after)) (λ a. fair_still v.row (Some after) a kept_row) acts (all_fair who logins h v p.server acts heard))
@@ -192,6 +194,10 @@ module _ (who : Identity) (logins : ℕ → Login) (h : ServerState ItemOut) (wi
       given = goes.given;
       follows = follows_both who logins (with_at k (handed_up p.wire) wires) v counted_step (acted itself acts counted_step) (Takes z ∷ []) (gives_all goes.given) (Takes z ∷ gives_all goes.given) refl counted_follows goes.follows;
       are_given = subst (λ o. IsGiven acts goes.given o goes.follows.next.row) (sym there.1) (given_by goes.given goes.follows.next.row goes.are_given);
+      told =
+          subst (λ o. IsTold o (acted itself acts counted_step).outs goes.given goes.follows.next.row) (sym there.1)
+          (told_alike row (row.handled + 1) (acted itself acts counted_step).outs goes.given goes.follows.next.row
+          (told_from next goes.given (acted itself acts counted_step).outs goes.follows.next.row (link_kept next (reached_more who logins (with_at k (handed_up p.wire) wires) (TakesStanza k z ∷ []) v next p.reached counted_follows.leads)) goes.tells));
     })
 
     -- ---- for another
@@ -208,7 +214,7 @@ module _ (who : Identity) (logins : ℕ → Login) (h : ServerState ItemOut) (wi
           let b = named_as whom.account whom.resource its.session (found_is (is_named whom.account whom.resource) h.sessions its.session its.named) in
           apart.name (sym a.0 ∙ ap (λ (t : Session ItemOut). t.shown.account) (sym one) ∙ b.0) (sym a.1 ∙ ap (λ (t : Session ItemOut). t.shown.resource) (sym one) ∙ b.1)
 
-      all_acts : Goes whom others (with_at k (handed_up p.wire) wires) u (Handle row.number ∷ acts) (acted itself acts counted_step)
+      all_acts : Goes whom others (with_at k (handed_up p.wire) wires) u (Handle row.number ∷ acts) [] (acted itself acts counted_step)
       all_acts =
           acts_go whom others (with_at k (handed_up p.wire) wires) (Handle row.number ∷ acts) (step_of h) u reached represents
           (pipes_stay who whom others h wires u apart represents pipes k p.wire [] p.there (wire_here who logins h wires v k (Up (St z)) p).of (λ j w other. refl))
@@ -224,4 +230,5 @@ module _ (who : Identity) (logins : ℕ → Login) (h : ServerState ItemOut) (wi
         given = all_acts.given;
         follows = all_acts.follows;
         are_given = given_too all_acts.given u.row all_acts.follows.next.row all_acts.are_given;
+        told = told_from u all_acts.given (acted itself acts counted_step).outs all_acts.follows.next.row (link_kept u reached) all_acts.tells;
       })

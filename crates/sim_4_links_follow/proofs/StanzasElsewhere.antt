@@ -5,7 +5,9 @@ use Rattle.std.proofs.lemmas.List.{length_push}
 use Rattle.std.proofs.lemmas.Option.{same_Some}
 use Rattle.std.specs.Option.{option_map}
 use Rattle.sm_acks.specs.declared.end.TheConstants.{MOST_UNACKNOWLEDGED}
-use Rattle.srv_state.specs.State.{Put, Shut, Step}
+use Rattle.sim_2_links.specs.Stages.{Conn}
+use Rattle.sim_3_images.specs.Puts.{is_put_as_stanza, puts_on}
+use Rattle.srv_state.specs.State.{Out, Put, Shut, Step}
 use Rattle.srv_state.specs.Steps.{Send, act, ask_where, in_sessions, is_due, overflow, part, part_where, put, put_where, queue, send_by_info, shut}
 use Rattle.sim_3_items.specs.Identities.{Identity, Login}
 use Rattle.sim_3_items.specs.Pipes.{PipesRepresent}
@@ -22,6 +24,8 @@ use Rattle.im_replies.specs.declared.conditions.StreamCondition.TheVariants.{Res
 use Rattle.sim_4_links_follow.proofs.SessionRows.{asks_keeps}
 use Rattle.sim_4_links_follow.proofs.GivenParts.{IsNotOf}
 use Rattle.sim_4_links_follow.proofs.MorePipes.{more_put_out, sent_elsewhere}
+use Rattle.sim_4_links_follow.proofs.OthersElsewhere.{apart_from}
+use Rattle.sim_4_links_follow.proofs.Tellings.{quiet_elsewhere, quiet_more}
 use Rattle.sim_4_links_follow.proofs.Thinned.{apart_row, conn_ends, not_its_conn, other_ends, session_kept}
 use Rattle.sim_4_links_follow.proofs.Emitted.{puts_are_for, shut_is_for}
 use Rattle.sim_4_links_follow.proofs.Found.{Keeps}
@@ -45,16 +49,20 @@ one_more zs z few room =
 
 -- ---- what a step is, as the device's part of it stays
 
-module _ (who : Identity) (logins : ℕ → Login) (wires : Table ItemWire) (v : View ItemOut) (kept : LinkKept v) where
+module _ (who : Identity) (logins : ℕ → Login) (wires : Table ItemWire) (v : View ItemOut) (kept : LinkKept v) (first : List (Out ItemOut)) where
   abbrev pub Stands : Step ItemOut → Type 0
-  Stands s = ServerRepresents who logins s.server_state v × PipesRepresent who logins (sent s.outs wires) v
+  Stands s = ServerRepresents who logins s.server_state v × PipesRepresent who logins (sent s.outs wires) v × ((k : ℕ) (c : Conn ItemOut) → v.conns k ≡ Some c → puts_on is_put_as_stanza k s.outs ≡ puts_on is_put_as_stanza k first)
 
   put_stands : (k : ℕ) (z : ItemOut) (s : Step ItemOut) → v.conns k ≡ None → Stands s → Stands (put k z s)
-  put_stands k z s none stands = (stands.0, more_put_out who logins wires v s.outs (Put k z ∷ []) (sent_elsewhere who logins (sent s.outs wires) v stands.1 k (Put k z ∷ []) (puts_are_for k (z ∷ [])) none))
+  put_stands k z s none stands = (
+    stands.0,
+    more_put_out who logins wires v s.outs (Put k z ∷ []) (sent_elsewhere who logins (sent s.outs wires) v stands.1 k (Put k z ∷ []) (puts_are_for k (z ∷ [])) none),
+    λ j c is. quiet_more j s.outs (Put k z ∷ []) (quiet_elsewhere k j z (apart_from v k j c none is)) ∙ stands.2 j c is,
+  )
 
   shut_stands : (k : ℕ) (s : Step ItemOut) → v.conns k ≡ None → Stands s → Stands (shut k s)
   shut_stands k s none stands =
-      (conn_ends who logins s.server_state v stands.0 kept k none, more_put_out who logins wires v s.outs (Shut k ∷ []) (sent_elsewhere who logins (sent s.outs wires) v stands.1 k (Shut k ∷ []) (shut_is_for k) none))
+      (conn_ends who logins s.server_state v stands.0 kept k none, more_put_out who logins wires v s.outs (Shut k ∷ []) (sent_elsewhere who logins (sent s.outs wires) v stands.1 k (Shut k ∷ []) (shut_is_for k) none), λ j c is. quiet_more j s.outs (Shut k ∷ []) refl ∙ stands.2 j c is)
 
   part_stands : (k : ℕ) (z : ItemOut) (s : Step ItemOut) → v.conns k ≡ None → Stands s → Stands (part itself k z s)
   part_stands k z s none stands = shut_stands k (put k Closing (put k z s)) none (put_stands k Closing (put k z s) none (put_stands k z s none stands))
@@ -64,7 +72,7 @@ module _ (who : Identity) (logins : ℕ → Login) (wires : Table ItemWire) (v :
   module _ (n : ℕ) (z : ItemOut) (apart : IsNotOf v.row n) where
     asks_stands : (s : Step ItemOut) → Stands s → Stands (in_sessions (with_session n (asks true)) s)
     asks_stands s stands =
-        (session_kept who logins s.server_state v stands.0 n (asks true) (asks_keeps true) (λ t is. stands.0.server_state.sessions.few n t is) (apart_row who logins s.server_state v stands.0 n (asks true) apart), stands.1)
+        (session_kept who logins s.server_state v stands.0 n (asks true) (asks_keeps true) (λ t is. stands.0.server_state.sessions.few n t is) (apart_row who logins s.server_state v stands.0 n (asks true) apart), stands.1, stands.2)
 
     module _ (o : Option ℕ) (away : (k : ℕ) → o ≡ Some k → v.conns k ≡ None) where
       where_stands : (s : Step ItemOut) → Stands s → Stands (put_where o z s)
@@ -94,7 +102,7 @@ module _ (who : Identity) (logins : ℕ → Login) (wires : Table ItemWire) (v :
       away k on = not_its_conn who logins s.server_state v stands.0 n k x apart is on
 
       waits_stands : (length x.waiting == MOST_UNACKNOWLEDGED) ≡ false → Stands (in_sessions (with_session n (waits z)) s)
-      waits_stands room = (session_kept who logins s.server_state v stands.0 n (waits z) (waits_keeps z) few (apart_row who logins s.server_state v stands.0 n (waits z) apart), stands.1)
+      waits_stands room = (session_kept who logins s.server_state v stands.0 n (waits z) (waits_keeps z) few (apart_row who logins s.server_state v stands.0 n (waits z) apart), stands.1, stands.2)
         where
           few : (t : Session ItemOut) → session_of n s.server_state.sessions ≡ Some t → length (t.waiting ++ z ∷ []) ≤ MOST_UNACKNOWLEDGED
           few t there =
@@ -107,7 +115,7 @@ module _ (who : Identity) (logins : ℕ → Login) (wires : Table ItemWire) (v :
           (where_stands x.shown.conn away (in_sessions (with_session n (waits z)) s) (waits_stands room))
 
       overflow_stands : Stands (overflow itself n (told x) s)
-      overflow_stands = parts_stands x.shown.conn away (in_sessions (without n) s) (error_item ResourceConstraint) (other_ends who logins s.server_state v stands.0 n apart, stands.1)
+      overflow_stands = parts_stands x.shown.conn away (in_sessions (without n) s) (error_item ResourceConstraint) (other_ends who logins s.server_state v stands.0 n apart, stands.1, stands.2)
 
       by_room : (b : Bool) → (length x.waiting == MOST_UNACKNOWLEDGED) ≡ b → Stands (cond b (overflow itself n (told x) s) (queue itself n z (told x) s))
       by_room true full = overflow_stands

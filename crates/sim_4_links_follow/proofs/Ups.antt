@@ -93,16 +93,17 @@ module _ (who : Identity) (logins : ℕ → Login) (w : ItemWorld) (v : View Ite
     own_taken : (word : UpWord ItemOut) (p : First word) → Pipe word p items → IsTaken who logins w.server (by_number w.wires) v (position + 1) p.wire word → WorldFollows who logins (moved (Up position) w) v []
     own_taken word p pipe step = taken_in w position p.wire (up_item who (logins (position + 1)) word) items (there_is word p) pipe who logins v [] tt s step
 
-    own_stanza : (z : ItemOut) (p : First (UpTraffic (St z))) → Pipe (UpTraffic (St z)) p items → (x : IsOfSession who w.server z) → IsGivenIn who who logins w (moved (Up position) w) v z x (takes_it z)
+    own_stanza : (z : ItemOut) (p : First (UpTraffic (St z))) → Pipe (UpTraffic (St z)) p items → (x : IsOfSession who w.server z) → IsGivenIn who who logins position w (moved (Up position) w) v z x (takes_it z)
     own_stanza z p pipe x =
         let g : StepGives who logins (by_number w.wires) v (position + 1) p.wire (on_item (position + 1) z w.server) (acts_on who w.server z x) (takes_it z) = stanza_follows who logins w.server (by_number w.wires) v (position + 1) z p x in
         record {
           given = g.given;
           follows = taken_in w position p.wire z items (there_is (UpTraffic (St z)) p) pipe who logins v (takes_it z ++ gives_all g.given) (gives_nothing_said g.given) s g.follows;
           are_given = g.are_given;
+          told = g.told;
         }
 
-    own_does : (word : UpWord ItemOut) (p : First word) → Pipe word p items → UpDoes who who logins w (moved (Up position) w) v takes_it word
+    own_does : (word : UpWord ItemOut) (p : First word) → Pipe word p items → UpDoes who who logins position w (moved (Up position) w) v takes_it word
     own_does Hdr p pipe = own_taken Hdr p pipe (login_follows who logins w.server (by_number w.wires) v (position + 1) Hdr p tt)
     own_does Auth p pipe = own_taken Auth p pipe (login_follows who logins w.server (by_number w.wires) v (position + 1) Auth p tt)
     own_does Resp p pipe = own_taken Resp p pipe (login_follows who logins w.server (by_number w.wires) v (position + 1) Resp p tt)
@@ -125,7 +126,7 @@ module _ (who : Identity) (logins : ℕ → Login) (w : ItemWorld) (v : View Ite
         taken_in w position p.wire (up_item who (logins (position + 1)) word) items (there_is word p) pipe whom others u [] tt b.represents
         (word_stays who whom logins others w.server (by_number w.wires) v u (position + 1) word p none has_room beside_it)
 
-    other_stanza : (z : ItemOut) (p : First (UpTraffic (St z))) → Pipe (UpTraffic (St z)) p items → (x : IsOfSession who w.server z) → IsGivenIn who whom others w (moved (Up position) w) u z x (takes_nothing z)
+    other_stanza : (z : ItemOut) (p : First (UpTraffic (St z))) → Pipe (UpTraffic (St z)) p items → (x : IsOfSession who w.server z) → IsGivenIn who whom others position w (moved (Up position) w) u z x (takes_nothing z)
     other_stanza z p pipe x =
         let g : StepGives whom others (by_number w.wires) u (position + 1) p.wire (on_item (position + 1) z w.server) (acts_on who w.server z x) [] =
         reaches_other who logins w.server (by_number w.wires) v (position + 1) z p x whom others u b.apart b.reached b.represents.server b.represents.pipes in
@@ -133,9 +134,10 @@ module _ (who : Identity) (logins : ℕ → Login) (w : ItemWorld) (v : View Ite
           given = g.given;
           follows = taken_in w position p.wire z items (there_is (UpTraffic (St z)) p) pipe whom others u (gives_all g.given) (gives_nothing_said g.given) b.represents g.follows;
           are_given = g.are_given;
+          told = g.told;
         }
 
-    other_does : (word : UpWord ItemOut) (p : First word) → Pipe word p items → UpDoes who whom others w (moved (Up position) w) u takes_nothing word
+    other_does : (word : UpWord ItemOut) (p : First word) → Pipe word p items → UpDoes who whom others position w (moved (Up position) w) u takes_nothing word
     other_does Hdr p pipe = other_taken Hdr p pipe tt tt
     other_does Auth p pipe = other_taken Auth p pipe tt tt
     other_does Resp p pipe = other_taken Resp p pipe tt tt

@@ -1,7 +1,8 @@
 -- A stanza of a device's session is handled by a list of small steps. What they send to the session of a device, its
 -- own or another, is put there.
 use Rattle.std.specs.Prelude.{◌≡◌, ℕ, nat_eq, true, if◌then◌else◌, List, [], ◌∷◌, ◌++◌, Option, Some, None}
-use Rattle.srv_state.specs.State.{ServerState, Step}
+use Rattle.sim_3_images.specs.Puts.{is_put_as_stanza, puts_on}
+use Rattle.srv_state.specs.State.{Out, ServerState, Step}
 use Rattle.srv_state.specs.Steps.{Act, Send}
 use Rattle.sim_3_items.specs.Counted.{IsForServer}
 use Rattle.sim_3_items.specs.Labels.{Label, gives_all}
@@ -48,9 +49,24 @@ IsGiven acts given None following = (given ≡ []) × (following ≡ None)
 IsGiven acts given (Some r) None = (z : ItemOut) × (missing : List ItemOut) × (sends_to r.number acts ≡ given ++ z ∷ missing)
 IsGiven acts given (Some r) (Some next) = (next.number ≡ r.number) × (given ≡ sends_to r.number acts)
 
+-- What tells it: of a session that is on a connection, what is put out there and begins as a stanza; and of one that is
+-- parked, what joined its queue, where it lives on.
+abbrev pub HasJoined : Row ItemOut → List ItemOut → Option (Row ItemOut) → Type 0
+HasJoined r given None = Unit {0}
+HasJoined r given (Some next) = next.queue ≡ r.queue ++ given
+
+abbrev pub IsToldOn : Row ItemOut → Option ℕ → List (Out ItemOut) → List ItemOut → Option (Row ItemOut) → Type 0
+IsToldOn r (Some k) outs given following = given ≡ puts_on is_put_as_stanza k outs
+IsToldOn r None outs given following = HasJoined r given following
+
+abbrev pub IsTold : Option (Row ItemOut) → List (Out ItemOut) → List ItemOut → Option (Row ItemOut) → Type 0
+IsTold None outs given following = Unit {0}
+IsTold (Some r) outs given following = IsToldOn r r.on outs given following
+
 -- behind a step, of which an item of a connection was handed over, the links have moved, and of stanzas they did this:
 -- first what is said, and then these were given
 pub record StepGives (who : Identity) (logins : ℕ → Login) (wires : Table ItemWire) (v : View ItemOut) (k : ℕ) (wire : ItemWire) (step : Step ItemOut) (acts : List (Act ItemOut)) (first : List (Label ItemOut)) : Type 0 where
   pub given : List ItemOut
   pub follows : StepFollows who logins wires v k wire step (first ++ gives_all given)
   pub are_given : IsGiven acts given v.row follows.next.row
+  pub told : IsTold v.row step.outs given follows.next.row

@@ -14,3 +14,9 @@ pub mod Given
 -- law: what a move of a world gives to whom
 pub mod Steps
 pub mod Standing
+-- law: what the laws say
+pub mod ClientsSpeakLaws
+pub mod ServersLaws
+pub mod OthersLaws
+pub mod StanzasLaws
+pub mod ClientsHearLaws

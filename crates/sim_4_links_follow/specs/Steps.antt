@@ -12,8 +12,8 @@ use Rattle.sim_3_items.specs.ItemWorlds.{ItemWorld}
 use Rattle.sim_2_links.specs.Machine.{LinkReached}
 use Rattle.sim_2_links.specs.Views.{View}
 use Rattle.sim_2_links.specs.Words.{St, Up as UpTraffic, UpWord}
-use Rattle.sim_4_links_follow.specs.Taking.{AreApart, HasFirst}
-use Rattle.sim_4_links_follow.specs.Given.{IsGiven, IsOfSession, acts_on}
+use Rattle.sim_4_links_follow.specs.Taking.{AreApart, HasFirst, on_item}
+use Rattle.sim_4_links_follow.specs.Given.{IsGiven, IsOfSession, IsTold, acts_on}
 use Rattle.xml_writer.specs.Items.{ItemOut}
 
 -- another device is shown beside the one
@@ -29,11 +29,13 @@ abbrev pub IsOfWord : Identity → ServerState ItemOut → UpWord ItemOut → Ty
 IsOfWord who h (UpTraffic (St z)) = IsOfSession who h z
 IsOfWord who h word = Unit {0}
 
--- first the links of a device do what is said, and then the device is given what the row on a stanza sends to its session
-pub record IsGivenIn (who whom : Identity) (logins : ℕ → Login) (w after : ItemWorld) (v : View ItemOut) (z : ItemOut) (session : IsOfSession who w.server z) (first : List (Label ItemOut)) : Type 0 where
+-- first the links of a device do what is said, and then the device is given what the row on a stanza sends to its session;
+-- and what the server puts out, and what waits in that session then, tell it
+pub record IsGivenIn (who whom : Identity) (logins : ℕ → Login) (position : ℕ) (w after : ItemWorld) (v : View ItemOut) (z : ItemOut) (session : IsOfSession who w.server z) (first : List (Label ItemOut)) : Type 0 where
   pub given : List ItemOut
   pub follows : WorldFollows whom logins after v (first ++ gives_all given)
   pub are_given : IsGiven (acts_on who w.server z session) given v.row follows.next.row
+  pub told : IsTold v.row (on_item (position + 1) z w.server).outs given follows.next.row
 
 -- ---- items
 
@@ -46,13 +48,13 @@ takes_nothing z = []
 
 -- behind an item that went up on a connection of the one, the links of a device, the one or another, have moved: on a
 -- stanza so, and on any other word without a stanza
-abbrev pub UpDoes : Identity → Identity → (ℕ → Login) → ItemWorld → ItemWorld → View ItemOut → (ItemOut → List (Label ItemOut)) → UpWord ItemOut → Type 0
-UpDoes who whom logins w after v first (UpTraffic (St z)) = (session : IsOfSession who w.server z) → IsGivenIn who whom logins w after v z session (first z)
-UpDoes who whom logins w after v first word = WorldFollows whom logins after v []
+abbrev pub UpDoes : Identity → Identity → (ℕ → Login) → ℕ → ItemWorld → ItemWorld → View ItemOut → (ItemOut → List (Label ItemOut)) → UpWord ItemOut → Type 0
+UpDoes who whom logins position w after v first (UpTraffic (St z)) = (session : IsOfSession who w.server z) → IsGivenIn who whom logins position w after v z session (first z)
+UpDoes who whom logins position w after v first word = WorldFollows whom logins after v []
 
 -- The item is that of a word of the device, and every device's links have moved by that word.
 pub record ItemGoesUp (who : Identity) (logins : ℕ → Login) (w : ItemWorld) (v : View ItemOut) (position : ℕ) (wire : ItemWire) (i : ItemOut) : Type 0 where
   pub has : HasFirst who logins w.server (by_number w.wires) v (position + 1) wire i
   pub session : IsOfWord who w.server has.word
-  pub does : UpDoes who who logins w (moved (Up position) w) v takes_it has.word
-  pub beside : (whom : Identity) (others : ℕ → Login) (u : View ItemOut) → IsOtherRepresented who whom others w u → UpDoes who whom others w (moved (Up position) w) u takes_nothing has.word
+  pub does : UpDoes who who logins position w (moved (Up position) w) v takes_it has.word
+  pub beside : (whom : Identity) (others : ℕ → Login) (u : View ItemOut) → IsOtherRepresented who whom others w u → UpDoes who whom others position w (moved (Up position) w) u takes_nothing has.word

@@ -27,7 +27,8 @@ ghost use Rattle.xml_writer.specs.Items.{ItemOut};
 /// A law: an item that goes up on a connection of a device is that of a word, and by that word the links of every device
 /// move. On a stanza the device's own links take it first; then each device is given what the row on the stanza sends to
 /// its session: all of it, or, where the session ends since no more stanzas may wait in its queue, what was sent before
-/// that. On any other word no stanza is put or handled. The next number of a session has 64 bits.
+/// that; and the server's outputs tell it, or the queue of a session that is parked. On any other word no stanza is put or
+/// handled. The next number of a session has 64 bits.
 pub fn items_go_up()
     ensures { (who : Identity) (logins : ℕ → Login) (w : ItemWorld) (v : View ItemOut) (position : ℕ) (wire : ItemWire) (i : ItemOut) (items : List ItemOut) → Represents who logins w v → LinkReached v → slice_get w.wires position ≡ Some wire
         → wire.device ≡ who.position → wire.up.items ≡ i ∷ items → HasNumber w.server → AreCountable v → ItemGoesUp who logins w v position wire i }

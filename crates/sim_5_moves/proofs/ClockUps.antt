@@ -46,7 +46,8 @@ use Rattle.sim_4_links_follow.proofs.StandMoves.{move_stands}
 use Rattle.sim_4_links_follow.specs.Steps.{ItemGoesUp, takes_it, takes_nothing}
 use Rattle.sim_5_moves.specs.Running.{AreSmall, Bounds, DeviceSimulates, IsOwned, MoveSimulates, WorldSimulates, keep_in, names_of}
 use Rattle.xml_writer.specs.Items.{ItemOut}
-use Rattle.sim_5_moves.proofs.ReadStanzas.{beside_unread, own_reads, silent_unread, unread_does}
+use Rattle.sim_5_moves.proofs.ReadStanzas.{beside_unread, none_gives, own_reads, silent_unread, unread_does}
+use Rattle.sim_3_images.specs.Puts.{given_where, is_put_as_stanza, item_gives}
 use Rattle.sim_3_images.specs.Reads.{item_reads, read_here}
 use Rattle.cmd_world.specs.Worlds.{number_at}
 
@@ -86,13 +87,13 @@ module _ (schedule : WireView) (b : Bounds) (says : ℕ) (w : ItemWorld) (x : Ap
   here : (i : ℕ) (p : Owned) (old : DeviceSimulates schedule w x i p) → wire.device ≡ i → WorldFollows (identity_at schedule i p) old.logins (moved (Up position) w) old.view []
   here i p old same =
       let g = goes i p old same in
-      silent_does (identity_at schedule i p) (identity_at schedule i p) old.logins w (moved (Up position) w) old.view takes_it g.has.word
+      silent_does (identity_at schedule i p) (identity_at schedule i p) old.logins position w (moved (Up position) w) old.view takes_it g.has.word
       (still_silent w.server wires (position + 1) who (identity_at schedule i p) logins old.logins v old.view wire z has silent g.has) g.does
 
   beside : (i : ℕ) (p : Owned) → IsOwned schedule i p → (old : DeviceSimulates schedule w x i p) → (wire.device ≡ i → ⊥) → WorldFollows (identity_at schedule i p) old.logins (moved (Up position) w) old.view []
   beside i p is old apart =
       let g = goes wire.device o own refl in
-      silent_does who (identity_at schedule i p) old.logins w (moved (Up position) w) old.view takes_nothing g.has.word (still_silent w.server wires (position + 1) who who logins own.logins v own.view wire z has silent g.has)
+      silent_does who (identity_at schedule i p) old.logins position w (moved (Up position) w) old.view takes_nothing g.has.word (still_silent w.server wires (position + 1) who who logins own.logins v own.view wire z has silent g.has)
       (g.beside (identity_at schedule i p) old.logins old.view
       (record { apart = apart_of schedule right wire.device i o p owned is apart; reached = reached schedule b small says w x runs i p old; represents = old.represents }))
 
@@ -176,13 +177,20 @@ module _ (schedule : WireView) (b : Bounds) (says : ℕ) (w : ItemWorld) (x : Ap
   }
 
   -- the server reads no stanza
+  unheard : read_here (number_at position) (read_of z) w.server ≡ []
+  unheard = ap (λ y. read_here (number_at position) (read_of y) w.server) (sym has.is) ∙ silent_unread who logins w.server wires v (position + 1) has.word has.first silent
+
   unread : (i : ℕ) → item_reads (Up position) w i ≡ []
   unread i = elim (cases_eq wire.device i) [
     | inl same ↦
         subst (λ j. item_reads (Up position) w j ≡ []) same
-        (own_reads position w wire there (z ∷ items) pipe ∙ ap (λ y. read_here (number_at position) (read_of y) w.server) (sym has.is) ∙ silent_unread who logins w.server wires v (position + 1) has.word has.first silent)
+        (own_reads position w wire there (z ∷ items) pipe ∙ unheard)
     | inr apart ↦ beside_unread position w wire there (z ∷ items) pipe i (λ same. apart (sym same))
   ]
 
+  -- so it puts none
+  ungiven : (i : ℕ) → item_gives (Up position) w i ≡ []
+  ungiven i = none_gives position w wire there (z ∷ items) pipe (λ whose. ap (λ l. given_where is_put_as_stanza whose l w.server (on_item (number_at position) z w.server)) unheard) i
+
   pub silent_runs : MoveSimulates schedule b says (Up position) w x runs
-  silent_runs = quiet_move schedule b says w x runs (Up position) 0 refl (λ i d e same. same) (λ i. unread_does position w i (unread i)) (subst (λ (a : ItemWorld). SilentWorld schedule b w x a 0) (sym is_after) quiet)
+  silent_runs = quiet_move schedule b says w x runs (Up position) 0 refl (λ i d e same. same) (λ i. unread_does position w i (unread i) (ungiven i)) (subst (λ (a : ItemWorld). SilentWorld schedule b w x a 0) (sym is_after) quiet)

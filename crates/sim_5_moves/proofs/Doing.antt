@@ -17,7 +17,7 @@ use Rattle.sim_3_items.specs.Reading.{client_step_on, noted}
 use Rattle.sim_4_links_follow.specs.Following.{IsNextItem, IsOfNobody, IsOnNone}
 use Rattle.sim_5_moves.specs.Running.{Bounds, DoesBy, RunsOn, WorldSimulates}
 use Rattle.xml_writer.specs.Items.{ItemOut}
-use Rattle.sim_5_moves.proofs.ReadStanzas.{apart_from, unread_does}
+use Rattle.sim_5_moves.proofs.ReadStanzas.{apart_from, nobody_gives, unread_does}
 use Rattle.sim_3_images.specs.Reads.{item_read_on}
 
 -- ---- what a user does
@@ -111,7 +111,7 @@ nobody_does (CatchUp device most) w none i = ap noted (sym (by (device == i) ref
     by true same = ap (asked_at most) (ap (slice_get w.devices) (sym (eqb-true device i same)) ∙ none)
     by false other = refl
 nobody_does (Tick milliseconds) w none i = absurd none
-nobody_does (Up position) w none i = unread_does position w i (ap (item_read_on position i w) none)
+nobody_does (Up position) w none i = unread_does position w i (ap (item_read_on position i w) none) (nobody_gives position w none i)
 nobody_does (Down position) w none i = ap noted (sym (ap (heard_on position i (slice_get w.devices i)) none))
 nobody_does (UpEnd position) w none i = refl
 nobody_does (DownEnd position) w none i = refl

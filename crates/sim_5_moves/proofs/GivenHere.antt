@@ -67,3 +67,11 @@ module _ (acts : List (Act ItemOut)) (given : List ItemOut) where
       go None following so quiet = so.0
       go (Some r) None so quiet = absurd (none_left given so.0 so.1 (sym (quiet r refl) ∙ so.2))
       go (Some r) (Some n) so quiet = so.1 ∙ quiet r refl
+
+-- of what one at the most hears nothing was given before the one that is missing
+pub one_short : (b : Bool) (n : ℕ) (xs : List ItemOut) (z : ItemOut) (missing : List ItemOut) → map down_stanza (xs ++ z ∷ missing) ≡ (if b then Live n ∷ [] else []) → xs ≡ []
+one_short b n [] z missing is = refl
+one_short true n (x ∷ []) z missing is = absurd (let no_way : ⊥ = cc in no_way)
+one_short false n (x ∷ []) z missing is = absurd (let no_way : ⊥ = cc in no_way)
+one_short true n (x ∷ y ∷ xs) z missing is = absurd (let no_way : ⊥ = cc in no_way)
+one_short false n (x ∷ y ∷ xs) z missing is = absurd (let no_way : ⊥ = cc in no_way)

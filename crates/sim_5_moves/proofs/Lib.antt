@@ -113,6 +113,7 @@ pub mod Goes
 pub mod ClockUps
 -- stanzas
 pub mod GivenHere
+pub mod GivenTold
 pub mod MessagesGiven
 -- servers
 pub mod Placed

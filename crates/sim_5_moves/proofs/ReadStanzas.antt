@@ -1,6 +1,7 @@
 -- Which items that come to the server it reads as stanzas of a session.
 use Rattle.std.proofs.Common.{◌≡◌, ◌≢◌, ℕ, ◌+◌, ◌==◌, ◌&&◌, Bool, true, false, codes, cond, List, [], ◌∷◌, ◌++◌, Option, Some, None, is_some, map, refl, sym, ap, ap₂, ◌∙◌, slice_get, inl, inr}
 use Rattle.std.proofs.lemmas.Bool.{cases_Bool, eq-eqb, eqb-true}
+use Rattle.cl_handlers.specs.declared.account.Account.{Account}
 use Rattle.cmd_world.specs.Worlds.{number_at}
 use Rattle.im_login.specs.Sasl.{auth_of, carrier}
 use Rattle.im_payload.specs.Names.{sasl}
@@ -8,11 +9,12 @@ use Rattle.sim_2_links.proofs.Expected.{expected_up}
 use Rattle.sim_2_links.specs.Views.{Table, View}
 use Rattle.sim_2_links.specs.Words.{Ack, Auth, Bind, Enable, Foot, Hdr, Req, Resp, ResumeAt, St, Up as UpTraffic, UpWord}
 use Rattle.sim_3_images.proofs.ItemsServed.{nothing_either}
+use Rattle.sim_3_images.specs.Puts.{item_given_first, item_given_on, item_gives}
 use Rattle.sim_3_images.specs.Reads.{item_read_first, item_read_on, item_reads, read_here, read_where}
 use Rattle.sim_3_items.specs.Identities.{Identity, Login}
 use Rattle.sim_3_items.specs.ItemMoves.{Up}
 use Rattle.sim_3_items.specs.ItemPipes.{ItemWire}
-use Rattle.sim_3_items.specs.ItemWorlds.{ItemWorld, read_of}
+use Rattle.sim_3_items.specs.ItemWorlds.{ItemDevice, ItemWorld, read_of}
 use Rattle.sim_3_items.specs.Labels.{Takes, gives_all}
 use Rattle.sim_3_items.specs.WordItems.{up_item}
 use Rattle.sim_2_links.specs.Views.{on_phase}
@@ -115,13 +117,31 @@ module _ (position : ℕ) (w : ItemWorld) (wire : ItemWire) (there : slice_get w
 pub nothing_read : (position : ℕ) (w : ItemWorld) (wire : ItemWire) → slice_get w.wires position ≡ Some wire → wire.up.items ≡ [] → (i : ℕ) → item_reads (Up position) w i ≡ []
 nothing_read position w wire there none i = reads_are position w wire there [] none i ∙ nothing_either (wire.device == i)
 
+-- ---- what the server puts
+
+-- where it reads nothing it puts nothing
+module _ (position : ℕ) (w : ItemWorld) where
+  for_none : ((d : ItemDevice) → item_given_on position w (Some d) (slice_get w.wires position) ≡ []) → (i : ℕ) → item_gives (Up position) w i ≡ []
+  for_none each i = by (slice_get w.devices i)
+    where
+      by : (o : Option ItemDevice) → item_given_on position w o (slice_get w.wires position) ≡ []
+      by None = refl
+      by (Some d) = each d
+
+  pub none_gives : (wire : ItemWire) → slice_get w.wires position ≡ Some wire → (under_way : List ItemOut) → wire.up.items ≡ under_way → ((who : Account) → item_given_first who (number_at position) under_way w ≡ []) → (i : ℕ) → item_gives (Up position) w i ≡ []
+  none_gives wire there under_way pipe none =
+      for_none (λ d. ap (item_given_on position w (Some d)) there ∙ ap (λ l. item_given_first d.client.account (number_at position) l w) pipe ∙ none d.client.account)
+
+  pub nobody_gives : slice_get w.wires position ≡ None → (i : ℕ) → item_gives (Up position) w i ≡ []
+  nobody_gives none = for_none (λ d. ap (item_given_on position w (Some d)) none)
+
 -- ---- what devices do then
 
-pub unread_does : (position : ℕ) (w : ItemWorld) (i : ℕ) → item_reads (Up position) w i ≡ [] → DoesBy (Up position) w i []
-unread_does position w i none = ([], ap (λ l. map Takes l ++ gives_all []) (sym none))
+pub unread_does : (position : ℕ) (w : ItemWorld) (i : ℕ) → item_reads (Up position) w i ≡ [] → item_gives (Up position) w i ≡ [] → DoesBy (Up position) w i []
+unread_does position w i none ungiven = ap₂ (λ l m. map Takes l ++ gives_all m) (sym none) (sym ungiven)
 
-pub given_does : (position : ℕ) (w : ItemWorld) (i : ℕ) (given : List ItemOut) → item_reads (Up position) w i ≡ [] → DoesBy (Up position) w i (gives_all given)
-given_does position w i given none = (given, ap (λ l. map Takes l ++ gives_all given) (sym none))
+pub given_does : (position : ℕ) (w : ItemWorld) (i : ℕ) (given : List ItemOut) → item_reads (Up position) w i ≡ [] → given ≡ item_gives (Up position) w i → DoesBy (Up position) w i (gives_all given)
+given_does position w i given none told = ap₂ (λ l m. map Takes l ++ gives_all m) (sym none) told
 
-pub taken_does : (position : ℕ) (w : ItemWorld) (i : ℕ) (z : ItemOut) (given : List ItemOut) → item_reads (Up position) w i ≡ z ∷ [] → DoesBy (Up position) w i (Takes z ∷ gives_all given)
-taken_does position w i z given is = (given, ap (λ l. map Takes l ++ gives_all given) (sym is))
+pub taken_does : (position : ℕ) (w : ItemWorld) (i : ℕ) (z : ItemOut) (given : List ItemOut) → item_reads (Up position) w i ≡ z ∷ [] → given ≡ item_gives (Up position) w i → DoesBy (Up position) w i (Takes z ∷ gives_all given)
+taken_does position w i z given is told = ap₂ (λ l m. map Takes l ++ gives_all m) (sym is) told

@@ -13,7 +13,10 @@ use Rattle.srv_state.specs.Steps.{Act}
 use Rattle.sim_3_images.proofs.OwnedDevices.{one_name}
 use Rattle.sim_3_images.specs.Devices.{identity_at}
 use Rattle.sim_3_items.specs.Labels.{awaits, gives_all}
-use Rattle.sim_3_items.specs.Identities.{Identity, Login}
+use Rattle.cmd_world.specs.Worlds.{number_at}
+use Rattle.sim_2_links.proofs.Expected.{expected_up}
+use Rattle.sim_5_moves.proofs.GivenTold.{as_told}
+use Rattle.sim_3_items.specs.Identities.{Identity, Login, own_account}
 use Rattle.sim_3_items.specs.Pipes.{by_number}
 use Rattle.sim_3_items.specs.Servers.{IsRowRepresented}
 use Rattle.sim_3_items.specs.ItemMoves.{Up, moved, served_by, served_first, served_item}
@@ -39,6 +42,8 @@ use Rattle.sim_1_applications.proofs.Lists.{all_front}
 use Rattle.sim_1_applications.specs.Devices.{AppWorld, first_of, last_of}
 use Rattle.sim_1_applications.specs.Events.{around}
 use Rattle.sim_1_applications.specs.Runs.{begins, owned_of}
+use Rattle.sim_4_links_follow.proofs.HandMoves.{kept_here}
+use Rattle.sim_4_links_follow.proofs.Tellings.{given_to_none}
 use Rattle.sim_4_links_follow.specs.Given.{IsGiven, IsOfSession, sends_to}
 use Rattle.sim_5_moves.specs.Recipients.{IsRecipient}
 use Rattle.sim_5_moves.proofs.Goes.{apart_of, device_of}
@@ -54,6 +59,7 @@ use Rattle.sim_5_moves.specs.Running.{AreSmall, Bounds, DeviceSimulates, IsOwned
 use Rattle.sim_3_items.specs.Built.{IsDown}
 use Rattle.xml_writer.specs.Items.{ItemOut}
 use Rattle.sim_5_moves.proofs.ReadStanzas.{beside_unread, own_reads, stanza_read}
+use Rattle.sim_3_images.specs.Puts.{given_to, given_where, is_put_as_stanza, item_given_first, item_given_on, item_gives, session_for}
 use Rattle.sim_3_images.specs.Reads.{item_reads}
 
 -- ---- sessions, and the rows of the links
@@ -108,8 +114,8 @@ pub record Coming : Type 0 where
   pub first : IsFirst (identity_at schedule wire.device o) (runs.devices wire.device o owned).logins w.server (by_number w.wires) (runs.devices wire.device o owned).view (position + 1) (UpTraffic (St z))
   pub session : IsOfSession (identity_at schedule wire.device o) w.server z
   -- and so the links of devices move
-  pub here : IsGivenIn (identity_at schedule wire.device o) (identity_at schedule wire.device o) (runs.devices wire.device o owned).logins w (moved (Up position) w) (runs.devices wire.device o owned).view z session (takes_it z)
-  pub beside : (whom : Identity) (others : ℕ → Login) (u : View ItemOut) → IsOtherRepresented (identity_at schedule wire.device o) whom others w u → IsGivenIn (identity_at schedule wire.device o) whom others w (moved (Up position) w) u z session (takes_nothing z)
+  pub here : IsGivenIn (identity_at schedule wire.device o) (identity_at schedule wire.device o) (runs.devices wire.device o owned).logins position w (moved (Up position) w) (runs.devices wire.device o owned).view z session (takes_it z)
+  pub beside : (whom : Identity) (others : ℕ → Login) (u : View ItemOut) → IsOtherRepresented (identity_at schedule wire.device o) whom others w u → IsGivenIn (identity_at schedule wire.device o) whom others position w (moved (Up position) w) u z session (takes_nothing z)
 
 module _ (c : Coming) where
   abbrev pub mine : ℕ
@@ -202,13 +208,13 @@ module _ (c : Coming) where
 
   -- ---- links
 
-  pub own_given : IsGivenIn own own old.logins c.w after old.view c.z c.session (takes_it c.z)
-  own_given = subst (λ (a : ItemWorld). IsGivenIn own own old.logins c.w a old.view c.z c.session (takes_it c.z)) is_after c.here
+  pub own_given : IsGivenIn own own old.logins c.position c.w after old.view c.z c.session (takes_it c.z)
+  own_given = subst (λ (a : ItemWorld). IsGivenIn own own old.logins c.position c.w a old.view c.z c.session (takes_it c.z)) is_after c.here
 
-  pub other_given : (j : ℕ) (p : Owned) (is : IsOwned c.schedule j p) → j ≢ mine → IsGivenIn own (identity_at c.schedule j p) (run_of j p is).logins c.w after (run_of j p is).view c.z c.session (takes_nothing c.z)
+  pub other_given : (j : ℕ) (p : Owned) (is : IsOwned c.schedule j p) → j ≢ mine → IsGivenIn own (identity_at c.schedule j p) (run_of j p is).logins c.position c.w after (run_of j p is).view c.z c.session (takes_nothing c.z)
   other_given j p is apart =
       let r = run_of j p is in
-      subst (λ (a : ItemWorld). IsGivenIn own (identity_at c.schedule j p) r.logins c.w a r.view c.z c.session (takes_nothing c.z)) is_after
+      subst (λ (a : ItemWorld). IsGivenIn own (identity_at c.schedule j p) r.logins c.position c.w a r.view c.z c.session (takes_nothing c.z)) is_after
       (c.beside (identity_at c.schedule j p) r.logins r.view
       (record { apart = apart_of c.schedule c.right mine j c.o p c.owned is (λ same. apart (sym same)); reached = prompt_runs awaits r.view r.prompt; represents = r.represents }))
 
@@ -241,3 +247,37 @@ module _ (c : Coming) where
 
   pub unread_beside : (j : ℕ) → j ≢ mine → item_reads (Up c.position) c.w j ≡ []
   unread_beside j apart = beside_unread c.position c.w c.wire c.there (c.z ∷ c.items) c.pipe j apart
+
+  -- ---- what it puts
+
+  gives_are : (j : ℕ) (p : Owned) (is : IsOwned c.schedule j p) → item_gives (Up c.position) c.w j ≡ given_to is_put_as_stanza (own_account (identity_at c.schedule j p)) (session_for (own_account (identity_at c.schedule j p)) server_state) step
+  gives_are j p is =
+      let r = run_of j p is in
+      ap (λ e. item_given_on c.position c.w e (slice_get c.w.wires c.position)) r.represents.there
+      ∙ ap (item_given_on c.position c.w (Some r.represents.device)) c.there
+      ∙ ap (λ l. item_given_first r.represents.device.client.account (number_at c.position) l c.w) c.pipe
+      ∙ ap (λ a. item_given_first a (number_at c.position) (c.z ∷ c.items) c.w) r.represents.client.account
+      ∙ ap (λ l. given_where is_put_as_stanza (own_account (identity_at c.schedule j p)) l server_state step) (stanza_read own old.logins c.w.server (by_number c.w.wires) old.view (c.position + 1) c.z c.first c.session)
+
+  -- for the device itself: its session is on the connection
+  pub told_own : own_given.given ≡ item_gives (Up c.position) c.w mine
+  told_own =
+      as_told own old.logins server_state step old.view own_given.follows.next own_given.given old.represents.server own_given.follows.represents.server
+      (λ none. (given_to_none acts own_given.given old.view.row own_given.follows.next.row own_given.are_given none).0) attached own_given.told
+      ∙ sym (gives_are mine c.o c.owned)
+    where
+      attached : (r : Row ItemOut) → old.view.row ≡ Some r → r.on ≡ None → own_given.follows.next.row ≡ None → own_given.given ≡ []
+      attached r is off gone =
+          let kept = kept_here own old.logins c.w.server (by_number c.w.wires) old.view (c.position + 1) (UpTraffic (St c.z)) c.first in
+          let there = expected_up old.view (c.position + 1) c.first.conn (UpTraffic (St c.z)) c.first.rest kept c.first.is c.first.first in
+          absurd (none-some (c.position + 1) (sym off ∙ ap (λ (y : Row ItemOut). y.on) (same_Some r there.0 (sym is ∙ there.1)) ∙ there.3))
+
+  -- and for another one: a session that is parked, and ends, was given nothing
+  pub told_other : (j : ℕ) (p : Owned) (is : IsOwned c.schedule j p) (apart : j ≢ mine) → ((r : Row ItemOut) → (run_of j p is).view.row ≡ Some r → (other_given j p is apart).follows.next.row ≡ None → (other_given j p is apart).given ≡ [])
+      → (other_given j p is apart).given ≡ item_gives (Up c.position) c.w j
+  told_other j p is apart ended =
+      let r = run_of j p is in
+      let g = other_given j p is apart in
+      as_told (identity_at c.schedule j p) r.logins server_state step r.view g.follows.next g.given r.represents.server g.follows.represents.server
+      (λ none. (given_to_none acts g.given r.view.row g.follows.next.row g.are_given none).0) (λ row at off gone. ended row at gone) g.told
+      ∙ sym (gives_are j p is)

@@ -1,5 +1,5 @@
 -- A message to an account that exists goes up: the server takes it, and those hear of it who hear of it in the applications.
-use Rattle.std.proofs.Common.{◌≡◌, ◌≢◌, ℕ, ◌==◌, ◌&&◌, ◌||◌, not, true, false, List, [], ◌∷◌, ◌++◌, Some, map, pos, refl, sym, ap, subst, ◌∙◌, if◌then◌else◌, arith}
+use Rattle.std.proofs.Common.{◌≡◌, ◌≢◌, ℕ, ◌==◌, ◌&&◌, ◌||◌, not, true, false, List, [], ◌∷◌, ◌++◌, None, Some, map, pos, refl, sym, ap, subst, ◌∙◌, if◌then◌else◌, arith}
 use Rattle.std.proofs.lemmas.Bool.{false≢true}
 use Rattle.std.proofs.lemmas.List.{map-append}
 use Rattle.std.specs.List.{AllByRecursion, slice_get}
@@ -30,7 +30,7 @@ use Rattle.sim_5_moves.specs.Silent.{AreFlagsKept}
 use Rattle.sim_5_devices.proofs.Readings.{reading_given}
 use Rattle.cmd_schedule.specs.Contents.{Owned}
 use Rattle.sim_5_moves.proofs.Interleaved.{gives_after, heard_ends, takes_after}
-use Rattle.sim_5_moves.proofs.ServersComing.{Coming, accounts_are, acts, after, all_given, beside_is, elem, found_of, given_built, mine, old, other_given, own, own_given, row_session, run_of, server_state, session_is, speaker, step, step_is, read_own, unread_beside}
+use Rattle.sim_5_moves.proofs.ServersComing.{Coming, accounts_are, acts, after, all_given, beside_is, elem, found_of, given_built, mine, old, other_given, own, own_given, row_session, run_of, server_state, session_is, speaker, step, step_is, told_other, told_own, read_own, unread_beside}
 use Rattle.sim_5_moves.proofs.ServersFlags.{flags_follow, priority_kept}
 use Rattle.sim_5_moves.proofs.Links.{Stands, end, end_is, end_kept, interleaved, stands}
 use Rattle.sim_5_moves.proofs.Worlds.{HasOwner, IsHandled, IsSo, owner_of}
@@ -47,7 +47,7 @@ use Rattle.sim_5_moves.proofs.LabelEvents.{beside, own_taken}
 use Rattle.sim_5_moves.proofs.MessageEvents.{message_handled}
 use Rattle.sim_5_moves.specs.Handled.{IsHeardOf, IsTakenOf, IsToldOf, take_at, takes_with}
 use Rattle.sim_4_links_follow.specs.Given.{sends_to}
-use Rattle.sim_5_moves.proofs.MessagesGiven.{message_given}
+use Rattle.sim_5_moves.proofs.MessagesGiven.{message_ended, message_given}
 use Rattle.sim_5_devices.proofs.Grown.{takes_grown}
 use Rattle.sim_5_moves.proofs.Kept.{kept_flags}
 use Rattle.sim_4_links_follow.specs.Steps.{IsGivenIn, takes_it, takes_nothing}
@@ -142,7 +142,7 @@ module _ (c : Coming) (m : Submission) (reads : up_stanza c.z ≡ Message m) (ex
     -- ---- another device
 
     module _ (apart : j ≢ mine c) where
-      abbrev g : IsGivenIn (own c) (identity_at c.schedule j p) r.logins c.w (after c) r.view c.z c.session (takes_nothing c.z)
+      abbrev g : IsGivenIn (own c) (identity_at c.schedule j p) r.logins c.position c.w (after c) r.view c.z c.session (takes_nothing c.z)
       g = other_given c j p is apart
 
       abbrev last : Sessions
@@ -156,6 +156,9 @@ module _ (c : Coming) (m : Submission) (reads : up_stanza c.z ≡ Message m) (ex
           heard_as g.given last
           (message_given x exists j p (identity_at c.schedule j p) r.logins r.view g.follows.next r.device g.given last (beside_is c j p is) g.are_given (end_is c.schedule c.w c.x j p r (after c) (gives_all g.given) g.follows))
 
+      ended : (row : Row ItemOut) → r.view.row ≡ Some row → g.follows.next.row ≡ None → g.given ≡ []
+      ended = message_ended x exists j p (identity_at c.schedule j p) r.logins r.view g.follows.next r.device g.given last (beside_is c j p is) g.are_given (end_is c.schedule c.w c.x j p r (after c) (gives_all g.given) g.follows)
+
       hears_it : IsToldOf t (last_of all r.device.account) j r.device last
       hears_it = beside stanzas_read t (last_of all r.device.account) j r.device last g.given interleaved_so counted heard
 
@@ -163,7 +166,7 @@ module _ (c : Coming) (m : Submission) (reads : up_stanza c.z ≡ Message m) (ex
       other_stands =
           let b = gives_after g.given r.device.sessions last interleaved_so in
           stands c.schedule c.w c.x j p r (after c) (gives_all g.given) g.follows all (gives_in_time r.device.sessions.now g.given (heard_ends (hears_of t j r.device) (last_of all r.device.account) (map down_stanza g.given) last heard))
-          (given_built p history g.given (all_given (IsDown p history) (acts c) g.given r.view.row g.follows.next.row g.are_given sent_built)) (built_taken c.schedule c.x.takes (t ∷ []) p (seen r.view) r.built) refl (DoesBy (Up c.position) c.w j) (given_does c.position c.w j g.given (unread_beside c j apart))
+          (given_built p history g.given (all_given (IsDown p history) (acts c) g.given r.view.row g.follows.next.row g.are_given sent_built)) (built_taken c.schedule c.x.takes (t ∷ []) p (seen r.view) r.built) refl (DoesBy (Up c.position) c.w j) (given_does c.position c.w j g.given (unread_beside c j apart) (told_other c j p is apart ended))
           (record r.device { sessions = last }) r.account (end_is c.schedule c.w c.x j p r (after c) (gives_all g.given) g.follows) b.ups log_so refl
           (flags_follow (identity_at c.schedule j p) r.logins (step c).server_state g.follows.next (end_kept c.schedule c.w c.x j p r (after c) (gives_all g.given) g.follows) g.follows.represents.server last
           (end_is c.schedule c.w c.x j p r (after c) (gives_all g.given) g.follows) r.device.sessions ((flags_kept (identity_at c.schedule j p).account p.device).shown r.device.sessions r.flags) b priority)
@@ -176,7 +179,7 @@ module _ (c : Coming) (m : Submission) (reads : up_stanza c.z ≡ Message m) (ex
 
   -- ---- the device itself
 
-  abbrev own_gives : IsGivenIn (own c) (own c) (old c).logins c.w (after c) (old c).view c.z c.session (takes_it c.z)
+  abbrev own_gives : IsGivenIn (own c) (own c) (old c).logins c.position c.w (after c) (old c).view c.z c.session (takes_it c.z)
   own_gives = own_given c
 
   abbrev given : List ItemOut
@@ -209,7 +212,7 @@ module _ (c : Coming) (m : Submission) (reads : up_stanza c.z ≡ Message m) (ex
       stands c.schedule c.w c.x (mine c) c.o (old c) (after c) (Takes c.z ∷ gives_all given) own_gives.follows all
       (takes_in_time (old c).device c.z given (device_paged c.schedule c.b c.says c.w c.x c.runs (mine c) (old c).device (old c).there) ends_none)
       (given_built c.o mine_history given (all_given (IsDown c.o mine_history) (acts c) given (old c).view.row own_gives.follows.next.row own_gives.are_given (sent_built (mine c) c.o c.owned)))
-      (built_taken c.schedule c.x.takes (t ∷ []) c.o (seen (old c).view) (old c).built) refl (DoesBy (Up c.position) c.w (mine c)) (taken_does c.position c.w (mine c) c.z given (read_own c)) (record (old c).device { sessions = own_last }) (old c).account own_end b.ups (log_so (mine c) c.o c.owned) refl
+      (built_taken c.schedule c.x.takes (t ∷ []) c.o (seen (old c).view) (old c).built) refl (DoesBy (Up c.position) c.w (mine c)) (taken_does c.position c.w (mine c) c.z given (read_own c) (told_own c)) (record (old c).device { sessions = own_last }) (old c).account own_end b.ups (log_so (mine c) c.o c.owned) refl
       (flags_follow (own c) (old c).logins (step c).server_state own_gives.follows.next (end_kept c.schedule c.w c.x (mine c) c.o (old c) (after c) (Takes c.z ∷ gives_all given) own_gives.follows) own_gives.follows.represents.server own_last own_end
       (old c).device.sessions ((flags_kept (own c).account c.o.device).shown (old c).device.sessions (old c).flags) b (priority (mine c) c.o c.owned))
 

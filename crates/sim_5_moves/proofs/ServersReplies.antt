@@ -25,7 +25,7 @@ use Rattle.sim_5_moves.specs.Silent.{AreFlagsKept}
 use Rattle.sim_5_devices.proofs.Readings.{reading_given}
 use Rattle.cmd_schedule.specs.Contents.{Owned}
 use Rattle.sim_5_moves.proofs.Interleaved.{ends_for, flagged_after, flagged_device, flagged_ups, gives_after, takes_after}
-use Rattle.sim_5_moves.proofs.ServersComing.{Coming, acts, after, all_given, found_of, given_built, mine, old, other_given, other_number, own, own_given, row_session, run_of, server_state, session_is, session_row, speaker, step, unnamed, read_own, unread_beside}
+use Rattle.sim_5_moves.proofs.ServersComing.{Coming, acts, after, all_given, found_of, given_built, mine, old, other_given, other_number, own, own_given, row_session, run_of, server_state, session_is, session_row, speaker, step, told_other, told_own, unnamed, read_own, unread_beside}
 use Rattle.sim_5_moves.proofs.ServersFlags.{flags_follow, priority_kept}
 use Rattle.sim_5_moves.proofs.Links.{Stands, end, end_is, end_kept, interleaved, stands}
 use Rattle.sim_5_moves.proofs.Worlds.{HasOwner, IsHandled, IsSo, owner_of}
@@ -76,7 +76,7 @@ same_asked a (Query r) b = refl
 -- ---- the stanza is the next one
 
 module _ (c : Coming) where
-  abbrev pub own_gives : IsGivenIn (own c) (own c) (old c).logins c.w (after c) (old c).view c.z c.session (takes_it c.z)
+  abbrev pub own_gives : IsGivenIn (own c) (own c) (old c).logins c.position c.w (after c) (old c).view c.z c.session (takes_it c.z)
   own_gives = own_given c
 
   abbrev pub given : List ItemOut
@@ -126,7 +126,7 @@ module _ (c : Coming) (y : Up) (is : IsReply c y) where
     abbrev history : List EntryView
     history = history_for c.schedule takes p
 
-    abbrev g : IsGivenIn (own c) (identity_at c.schedule j p) r.logins c.w (after c) r.view c.z c.session (takes_nothing c.z)
+    abbrev g : IsGivenIn (own c) (identity_at c.schedule j p) r.logins c.position c.w (after c) r.view c.z c.session (takes_nothing c.z)
     g = other_given c j p at apart
 
     abbrev last : Sessions
@@ -157,7 +157,7 @@ module _ (c : Coming) (y : Up) (is : IsReply c y) where
     other_stands =
         let b = gives_after g.given r.device.sessions last others_interleaved in
         stands c.schedule c.w c.x j p r (after c) (gives_all g.given) g.follows takes (gives_in_time r.device.sessions.now g.given (ap (λ zs. many is_end (map down_stanza zs)) nothing_given))
-        (given_built p history g.given (subst (AllByRecursion (IsDown p history)) (sym nothing_given) tt)) r.built refl (DoesBy (UpMove c.position) c.w j) (given_does c.position c.w j g.given (unread_beside c j apart)) (record r.device { sessions = last }) r.account
+        (given_built p history g.given (subst (AllByRecursion (IsDown p history)) (sym nothing_given) tt)) r.built refl (DoesBy (UpMove c.position) c.w j) (given_does c.position c.w j g.given (unread_beside c j apart) (told_other c j p at apart (λ row there gone. nothing_given))) (record r.device { sessions = last }) r.account
         (end_is c.schedule c.w c.x j p r (after c) (gives_all g.given) g.follows) b.ups r.log refl
         (flags_follow (identity_at c.schedule j p) r.logins (step c).server_state g.follows.next (end_kept c.schedule c.w c.x j p r (after c) (gives_all g.given) g.follows) g.follows.represents.server last
         (end_is c.schedule c.w c.x j p r (after c) (gives_all g.given) g.follows) r.device.sessions (flags_kept.shown r.device.sessions r.flags) b
@@ -221,7 +221,7 @@ module _ (c : Coming) (y : Up) (is : IsReply c y) where
       let history = history_for c.schedule takes c.o in
       stands c.schedule c.w c.x (mine c) c.o (old c) (after c) (Takes c.z ∷ gives_all (given c)) (own_gives c).follows takes
       (takes_in_time (old c).device c.z (given c) (device_paged c.schedule c.b c.says c.w c.x c.runs (mine c) (old c).device (old c).there) ends_few)
-      (given_built c.o history (given c) (all_given (IsDown c.o history) (acts c) (given c) (old c).view.row (own_gives c).follows.next.row (own_gives c).are_given sent_built)) (old c).built refl (DoesBy (UpMove c.position) c.w (mine c)) (taken_does c.position c.w (mine c) c.z (given c) (read_own c)) following (old c).account
+      (given_built c.o history (given c) (all_given (IsDown c.o history) (acts c) (given c) (old c).view.row (own_gives c).follows.next.row (own_gives c).are_given sent_built)) (old c).built refl (DoesBy (UpMove c.position) c.w (mine c)) (taken_does c.position c.w (mine c) c.z (given c) (read_own c) (told_own c)) following (old c).account
       (flagged_device y (seen (own_gives c).follows.next) (own_last c) (own_end c)) (flagged_ups y (old c).device.sessions (own_last c) b.ups) log_so (same_asked a y (old c).device.reading) flags_so
 
   pub reply_is_handled : IsHandled c takes

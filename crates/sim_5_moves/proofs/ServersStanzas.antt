@@ -87,8 +87,8 @@ module _ (schedule : WireView) (right : IsLineList schedule) (b : Bounds) (small
     owned = owned;
     first = subst (IsFirst who old.logins w.server (by_number w.wires) old.view (position + 1)) word g.has.first;
     session = session;
-    here = subst (UpDoes who who old.logins w (moved (Up position) w) old.view takes_it) word g.does session;
-    beside = λ whom others u is. subst (UpDoes who whom others w (moved (Up position) w) u takes_nothing) word (g.beside whom others u is) session;
+    here = subst (UpDoes who who old.logins position w (moved (Up position) w) old.view takes_it) word g.does session;
+    beside = λ whom others u is. subst (UpDoes who whom others position w (moved (Up position) w) u takes_nothing) word (g.beside whom others u is) session;
   }
 
   pub stanza_goes_up : MoveSimulates schedule b says (Up position) w x runs

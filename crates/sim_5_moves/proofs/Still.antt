@@ -16,7 +16,7 @@ use Rattle.cmd_schedule.specs.Schedules.{WireView}
 use Rattle.sim_1_applications.specs.Devices.{AppWorld, Device}
 use Rattle.sim_5_moves.specs.Running.{Bounds, IsAskedBy, MoveSimulates, RunsOn, WorldSimulates, said_at, spoken_by_move, spoken_where, DoesBy}
 use Rattle.sim_5_moves.proofs.Doing.{nobody_does, none_does, refused_does, unasked_does}
-use Rattle.sim_5_moves.proofs.ReadStanzas.{nothing_read, unread_does}
+use Rattle.sim_5_moves.proofs.ReadStanzas.{none_gives, nothing_read, unread_does}
 
 more_or_none : (b : Bool) (n : ℕ) → n ≤ n + (if b then 1 else 0)
 more_or_none true n = omega arith
@@ -74,7 +74,7 @@ module _ (schedule : WireView) (b : Bounds) (says : ℕ) (w : ItemWorld) (x : Ap
   -- ---- nothing to hand over
 
   pub up_runs : (position : ℕ) (wire : ItemWire) → slice_get w.wires position ≡ Some wire → wire.up.items ≡ [] → MoveSimulates schedule b says (Up position) w x runs
-  up_runs position wire there none = still_runs (Up position) (nothing_up w position wire there none) refl (λ i. unread_does position w i (nothing_read position w wire there none i))
+  up_runs position wire there none = still_runs (Up position) (nothing_up w position wire there none) refl (λ i. unread_does position w i (nothing_read position w wire there none i) (none_gives position w wire there [] none (λ who. refl) i))
 
   pub told_runs : (position : ℕ) (wire : ItemWire) → slice_get w.wires position ≡ Some wire → is_end_due wire.up ≡ false → MoveSimulates schedule b says (UpEnd position) w x runs
   told_runs position wire there due = still_runs (UpEnd position) (not_over w position wire there due) refl (λ i. refl)

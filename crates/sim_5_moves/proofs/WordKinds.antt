@@ -27,18 +27,18 @@ use Rattle.sim_4_links_follow.specs.Steps.{UpDoes}
 use Rattle.xml_writer.specs.Items.{ItemOut, Whole}
 
 -- what it does is no label
-pub silent_does : (who whom : Identity) (logins : ℕ → Login) (w after : ItemWorld) (v : View ItemOut) (first : ItemOut → List (Label ItemOut)) (word : UpWord ItemOut) → IsSilent word → UpDoes who whom logins w after v first word
+pub silent_does : (who whom : Identity) (logins : ℕ → Login) (position : ℕ) (w after : ItemWorld) (v : View ItemOut) (first : ItemOut → List (Label ItemOut)) (word : UpWord ItemOut) → IsSilent word → UpDoes who whom logins position w after v first word
     → WorldFollows whom logins after v []
-silent_does who whom logins w after v first Hdr is does = does
-silent_does who whom logins w after v first Auth is does = does
-silent_does who whom logins w after v first Resp is does = does
-silent_does who whom logins w after v first (ResumeAt p h) is does = does
-silent_does who whom logins w after v first Bind is does = does
-silent_does who whom logins w after v first Enable is does = does
-silent_does who whom logins w after v first (UpTraffic (St z)) is does = absurd is
-silent_does who whom logins w after v first (UpTraffic Req) is does = does
-silent_does who whom logins w after v first (UpTraffic (Ack n)) is does = does
-silent_does who whom logins w after v first Foot is does = does
+silent_does who whom logins position w after v first Hdr is does = does
+silent_does who whom logins position w after v first Auth is does = does
+silent_does who whom logins position w after v first Resp is does = does
+silent_does who whom logins position w after v first (ResumeAt p h) is does = does
+silent_does who whom logins position w after v first Bind is does = does
+silent_does who whom logins position w after v first Enable is does = does
+silent_does who whom logins position w after v first (UpTraffic (St z)) is does = absurd is
+silent_does who whom logins position w after v first (UpTraffic Req) is does = does
+silent_does who whom logins position w after v first (UpTraffic (Ack n)) is does = does
+silent_does who whom logins position w after v first Foot is does = does
 
 -- no stanza is the item of another word that binds nothing
 no_non_stanza : (who : Identity) (x : Login) (word : UpWord ItemOut) → IsUnbinding word → (z : ItemOut) → IsForServer z → up_item who x word ≡ z → ⊥

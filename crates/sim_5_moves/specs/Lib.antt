@@ -34,3 +34,24 @@ pub mod DownMovesWords
 pub mod Recipients
 -- law: requests that are under way to the server
 pub mod Placed
+-- law: what the laws say
+pub mod AnswersLaws
+pub mod ClientsLaws
+pub mod ClockLaws
+pub mod ConnectionsLaws
+pub mod DevicesLaws
+pub mod DownMovesLaws
+pub mod FlagsKeptLaws
+pub mod GroundsKnownLaws
+pub mod MessagesLaws
+pub mod OneDeviceLaws
+pub mod RepliesLaws
+pub mod ServerWordsLaws
+pub mod ServersLaws
+pub mod SessionWordsLaws
+pub mod SilentWorldsLaws
+pub mod StanzasLaws
+pub mod UserCallsLaws
+pub mod UsersLaws
+pub mod StanzaEventsLaws
+pub mod WordsRunLaws

@@ -9,6 +9,7 @@ use Rattle.sim_3_items.specs.Represents.{Represents}
 use Rattle.sim_3_images.specs.Stands.{ServerStateStands}
 use Rattle.sim_3_images.specs.Fitting.{FitsHere}
 use Rattle.sim_3_images.specs.Notes.{item_notes}
+use Rattle.sim_3_images.specs.Puts.{item_gives}
 use Rattle.sim_3_images.specs.Reads.{item_reads}
 use Rattle.sim_3_items.specs.Reading.{noted}
 use Rattle.sim_3_items.specs.Items.{stanzas_read}
@@ -170,9 +171,9 @@ IsInBounds b says (Dial position mine yours) w x = length w.wires + 1 ≤ b.dial
 IsInBounds b says m w x = Unit {0}
 
 -- The labels of a device by a move. Its client does what it notes down, or gives its session up; or the server handles the
--- stanza of it that it reads, and then puts some for it.
+-- stanza of it that it reads, and then puts those for it that its outputs tell, or that join its queue.
 abbrev pub DoesBy : ItemMove → ItemWorld → ℕ → List (Label ItemOut) → Type 0
-DoesBy (Up position) w i done = (given : List ItemOut) × (done ≡ map Takes (item_reads (Up position) w i) ++ gives_all given)
+DoesBy (Up position) w i done = done ≡ map Takes (item_reads (Up position) w i) ++ gives_all (item_gives (Up position) w i)
 DoesBy (Forget position) w i done = (done ≡ []) ⊎ (done ≡ Drops ∷ [])
 DoesBy (Close position) w i done = (done ≡ []) ⊎ (done ≡ Drops ∷ [])
 DoesBy m w i done = done ≡ noted (item_notes m w i)

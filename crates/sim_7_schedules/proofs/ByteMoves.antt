@@ -1,5 +1,5 @@
 -- Moves of bytes, one after another, as events of the applications.
-use Rattle.std.proofs.Common.{◌≡◌, ℕ, zero, suc, ◌+◌, ◌≤◌, ◌==◌, Bool, true, false, cond, List, [], ◌∷◌, ◌++◌, Option, None, Some, length, refl, sym, ap, ◌∙◌, subst, arith}
+use Rattle.std.proofs.Common.{◌≡◌, ℕ, zero, suc, ◌+◌, ◌≤◌, ◌==◌, Bool, true, false, cond, List, [], ◌∷◌, ◌++◌, Option, None, Some, length, map, refl, sym, ap, ◌∙◌, subst, arith}
 use Rattle.std.proofs.lemmas.List.{append-nil}
 use Rattle.std.proofs.lemmas.List.Concat.{flat_map-append}
 use Rattle.std.specs.List.{AllByRecursion, flat_map, slice_get, slice_set}
@@ -11,14 +11,13 @@ use Rattle.sim_3_images.specs.Relayable.{ClientFits, DownFits, ServerFits, UpFit
 use Rattle.sim_3_images.proofs.Moves.{move_is}
 use Rattle.sim_3_images.proofs.ServersInOrder.{cores_fit}
 use Rattle.sim_3_images.specs.EncodingsCores.{CoresFit}
-use Rattle.sim_3_images.specs.ItemRuns.{MayMove, downs, moved_where}
+use Rattle.sim_3_images.specs.ItemRuns.{MayMove}
 use Rattle.sim_3_images.specs.Notes.{all_item_notes}
 use Rattle.sim_3_items.specs.Reading.{noted}
 use Rattle.sim_3_images.specs.Stands.{StandingServers}
 use Rattle.sim_3_images.specs.WorldEncodings.{IsMoved}
 use Rattle.sim_3_items.specs.ItemMoves as items
 use Rattle.sim_3_items.specs.ItemWorlds.{ItemWorld}
-use Rattle.sim_3_items.specs.Labels.{Label, labels_of}
 use Rattle.cmd_schedule.specs.Schedules.{WireView}
 use Rattle.cmd_schedule.specs.declared.schedule.Count.{Count}
 use Rattle.cmd_schedule.specs.declared.schedule.Count.TheVariants.{All}
@@ -38,11 +37,10 @@ use Rattle.cmd_world.specs.Moves.{Move, all_moved, moved}
 use Rattle.cmd_world.specs.Moves as bytes
 use Rattle.cmd_world.specs.Worlds as wires
 use Rattle.sim_5_moves.specs.Running.{WorldSimulates}
-use Rattle.sim_7_schedules.proofs.Leading.{MayGive, Telling, all_noted, all_read, at_once, nothing_told, then_told, told_along}
-use Rattle.sim_7_schedules.specs.Courses.{MayPut}
-use Rattle.sim_7_schedules.specs.Simulation.{AllLead, LabelsAreNotedIn, EachMoveSimulates, IsEncoded, MovesSimulate, SimulatesBy, Views, bounds, clients_of, gives_of, views_of}
+use Rattle.sim_7_schedules.proofs.Leading.{all_gave, all_noted, all_read, at_once, nothing_told, told_along}
+use Rattle.sim_7_schedules.specs.Simulation.{AllLead, LabelsAreNotedIn, EachMoveSimulates, IsEncoded, MovesSimulate, SimulatesBy, Views, bounds, clients_of, views_of}
 use Rattle.sim_7_schedules.proofs.Wires.{IsNoDial, downs_none, moves_many, served_none}
-use Rattle.xml_writer.specs.Items.{ItemOut}
+use Rattle.xml_writer.specs.Items.{written_item}
 use Rattle.sim_7_schedules.proofs.Rounds.{AtMost, Goes, IsInRound, down_line, most_after, round_of, up_line}
 
 pub cores : CoresFit UpFits DownFits (StandingServers ServerFits) ClientFits
@@ -174,19 +172,12 @@ round_timely : (position count : ℕ) (W : wires.ByteWorld) → IsTimely W → I
 round_timely position zero W timely = timely
 round_timely position (suc count) W timely = round_timely (position + 1) count (all_moved (pass_of position) W) (pass_timely position W timely)
 
--- nothing is handed to the server
-no_ups : (position count : ℕ) (ended : Bool) (w : ItemWorld) (told : Telling) (i : ℕ) → (told_along (downs position count ++ moved_where (items.DownEnd position) ended) w told i).ups ≡ (told i).ups
-no_ups position zero true w told i = refl
-no_ups position zero false w told i = refl
-no_ups position (suc count) ended w told i = no_ups position count ended (items.moved (items.Down position) w) (then_told told (items.Down position) w) i
-
 module _ (schedule : WireView) (each : EachMoveSimulates schedule) where
   pub of_goes : (from : Views schedule) (says : ℕ) (m : Move) (W : wires.ByteWorld) (w : ItemWorld) (x : AppWorld) (Post : ItemWorld → AppWorld → Type 0) → IsEncoded W w → (r : IsMoved UpFits DownFits (StandingServers ServerFits) ClientFits m W w) →
-      Goes schedule from (told_along r.moves w nothing_told) says (items.all_moved r.moves w) x (Post (items.all_moved r.moves w)) → AllByRecursion IsNoDial r.moves →
-      ((i : ℕ) (done : List (Label ItemOut)) → MayGive (told_along r.moves w nothing_told i).ups done → MayPut m (gives_of done)) → LineGoes schedule from 0 says [] (m ∷ []) W x Post
-  of_goes from says m W w x Post encodes r g none may =
+      Goes schedule from (told_along r.moves w nothing_told) says (items.all_moved r.moves w) x (Post (items.all_moved r.moves w)) → AllByRecursion IsNoDial r.moves → LineGoes schedule from 0 says [] (m ∷ []) W x Post
+  of_goes from says m W w x Post encodes r g none =
       one_move schedule from 0 says [] m W x Post g.events (items.all_moved r.moves w) g.next g.led g.silent r.encodes g.runs.world
-      (λ i o is. let l = g.runs.leads i o is in (l.0, l.1, (all_item_notes r.moves w i, r.notes i, (l.2.0.0 ∙ ap (λ notes. clients_of (noted notes)) (all_noted r.moves w i), l.2.0.1 ∙ all_read r.moves w i ∙ sym (r.reads i)), may i (labels_of l.0) l.2.1))) g.post
+      (λ i o is. let l = g.runs.leads i o is in (l.0, l.1, (all_item_notes r.moves w i, r.notes i, (l.2.0.0 ∙ ap (λ notes. clients_of (noted notes)) (all_noted r.moves w i), l.2.0.1 ∙ all_read r.moves w i ∙ sym (r.reads i)), ap (map written_item) (l.2.1 ∙ all_gave r.moves w i) ∙ sym (r.gives i)))) g.post
       (let same = moves_many r.moves w none in let shown = encodes.as_many in omega arith)
 
   pub up_byte : (says position : ℕ) (count : Count) (W : wires.ByteWorld) (w : ItemWorld) (x : AppWorld) (top n p : ℕ) → IsEncoded W w → (runs : WorldSimulates schedule bounds says w x) → IsInRound top n p w x →
@@ -196,7 +187,7 @@ module _ (schedule : WireView) (each : EachMoveSimulates schedule) where
       let run = r.is_run in
       of_goes (views_of runs) says (bytes.Up position count) W w x (IsInRound top n p) encodes r
       (subst (λ ms. Goes schedule (views_of runs) (told_along ms w nothing_told) says (items.all_moved ms w) x (IsInRound top n p (items.all_moved ms w))) (sym run.3) (up_line schedule each (views_of runs) nothing_told says position run.0 run.1 w x top n p run.2 (at_once schedule says w x runs) round))
-      (subst (AllByRecursion IsNoDial) (sym run.3) (served_none position run.0 run.1 run.2)) (λ i done any. tt)
+      (subst (AllByRecursion IsNoDial) (sym run.3) (served_none position run.0 run.1 run.2))
 
   pub down_byte : (says position : ℕ) (count : Count) (W : wires.ByteWorld) (w : ItemWorld) (x : AppWorld) (n : ℕ) → n ≤ 10100000 → IsTimely W → IsEncoded W w → (runs : WorldSimulates schedule bounds says w x) → IsInRound (n + 1) n position w x →
       LineGoes schedule (views_of runs) 0 says [] (bytes.Down position count ∷ []) W x (IsInRound (n + 1) n (position + 1))
@@ -206,7 +197,6 @@ module _ (schedule : WireView) (each : EachMoveSimulates schedule) where
       of_goes (views_of runs) says (bytes.Down position count) W w x (IsInRound (n + 1) n (position + 1)) encodes r
       (subst (λ ms. Goes schedule (views_of runs) (told_along ms w nothing_told) says (items.all_moved ms w) x (IsInRound (n + 1) n (position + 1) (items.all_moved ms w))) (sym run.2) (down_line schedule each (views_of runs) nothing_told says position run.0 run.1 w x n few (subst (λ k. k ≤ last_moment) encodes.moment timely) (at_once schedule says w x runs) round))
       (subst (AllByRecursion IsNoDial) (sym run.2) (downs_none position run.0 run.1))
-      (λ i done may. subst (λ b. MayGive b done) (ap (λ ms. (told_along ms w nothing_told i).ups) run.2 ∙ no_ups position run.0 run.1 w nothing_told i) may)
 
   pub pass_goes : (says position : ℕ) (W : wires.ByteWorld) (w : ItemWorld) (x : AppWorld) (n : ℕ) → n ≤ 10100000 → IsTimely W → IsEncoded W w → (runs : WorldSimulates schedule bounds says w x) → IsInRound (n + 1) n position w x →
       LineGoes schedule (views_of runs) 0 says [] (pass_of position) W x (IsInRound (n + 1) n (position + 1))

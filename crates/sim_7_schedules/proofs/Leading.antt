@@ -1,9 +1,11 @@
--- Moves of the links, one after another, and worlds to which they led; and what clients noted down meanwhile, and the server read.
-use Rattle.std.proofs.Common.{◌≡◌, ℕ, Bool, true, false, cond, List, [], ◌∷◌, ◌++◌, map, refl, sym, ap, ap₂, ◌∙◌, subst, append_assoc, append-nil, inl, inr}
+-- Moves of the links, one after another, and worlds to which they led; and what clients noted down meanwhile, and the server
+-- read and put.
+use Rattle.std.proofs.Common.{◌≡◌, ℕ, List, [], ◌∷◌, ◌++◌, map, refl, sym, ap, ap₂, ◌∙◌, subst, append_assoc, append-nil, inl, inr}
 use Rattle.cl_handlers.specs.Speech.{Acknowledged, Counted, Ended, Epoch, Handled, Note, Put, Stated}
 use Rattle.sim_2_links.specs.Machine.{LinkMove, LinkReaches}
 use Rattle.sim_2_links.specs.Views.{View}
 use Rattle.sim_3_images.specs.Notes.{all_item_notes, item_notes}
+use Rattle.sim_3_images.specs.Puts.{all_item_gives, item_gives}
 use Rattle.sim_3_images.specs.Reads.{all_item_reads, item_reads}
 use Rattle.sim_3_items.specs.ItemMoves.{CatchUp, Close, Cut, Dial, Down, DownEnd, Forget, ItemMove, Say, Tick, Up, UpEnd, all_moved, moved}
 use Rattle.sim_3_items.specs.ItemWorlds.{ItemWorld}
@@ -59,28 +61,18 @@ gives_joined (Enters ∷ first) second = gives_joined first second
 gives_joined (Learns ∷ first) second = gives_joined first second
 gives_joined (Drops ∷ first) second = gives_joined first second
 
--- ---- what the client of a device noted down, what the server read of it, and whether anything was handed to the server
+-- ---- what the client of a device noted down, and what the server read of it and put for it
 
 pub record Told : Type 0 where
   pub notes : List (Note ItemOut)
   pub read : List ItemOut
-  pub ups : Bool
+  pub gave : List ItemOut
 
 abbrev pub both_told : Told → Told → Told
-both_told t u = record { notes = t.notes ++ u.notes; read = t.read ++ u.read; ups = cond u.ups true t.ups }
-
--- without that the server puts nothing
-abbrev pub MayGive : Bool → List (Label ItemOut) → Type 0
-MayGive true done = Unit {0}
-MayGive false done = gives_of done ≡ []
+both_told t u = record { notes = t.notes ++ u.notes; read = t.read ++ u.read; gave = t.gave ++ u.gave }
 
 abbrev pub AreTold : Told → List (Label ItemOut) → Type 0
-AreTold t done = LabelsAreNoted t.notes t.read done × MayGive t.ups done
-
-may_both : (b c : Bool) (first second : List (LinkMove ItemOut)) → MayGive b (labels_of first) → MayGive c (labels_of second) → MayGive (cond c true b) (labels_of (first ++ second))
-may_both b true first second one two = tt
-may_both true false first second one two = tt
-may_both false false first second one two = ap gives_of (labels_joined first second) ∙ gives_joined (labels_of first) (labels_of second) ∙ ap₂ (λ a l. a ++ l) one two
+AreTold t done = LabelsAreNoted t.notes t.read done × (gives_of done ≡ t.gave)
 
 pub leads_both : (first second : Told) (v mid last : View ItemOut) → Leads (AreTold first) v mid → Leads (AreTold second) mid last → Leads (AreTold (both_told first second)) v last
 leads_both first second v mid last one two = (
@@ -92,7 +84,7 @@ leads_both first second v mid last one two = (
           ∙ sym (ap clients_of (noted_on first.notes second.notes) ∙ clients_joined (noted first.notes) (noted second.notes)),
       ap takes_of (labels_joined one.0 two.0) ∙ takes_joined (labels_of one.0) (labels_of two.0) ∙ ap₂ (λ a b. a ++ b) one.2.0.1 two.2.0.1,
     ),
-    may_both first.ups second.ups one.0 two.0 one.2.1 two.2.1,
+    ap gives_of (labels_joined one.0 two.0) ∙ gives_joined (labels_of one.0) (labels_of two.0) ∙ ap₂ (λ a b. a ++ b) one.2.1 two.2.1,
   ),
 )
 
@@ -114,6 +106,14 @@ given_untaken : (given : List ItemOut) → takes_of (gives_all given) ≡ []
 given_untaken [] = refl
 given_untaken (z ∷ given) = given_untaken given
 
+taken_ungiven : (taken : List ItemOut) (rest : List (Label ItemOut)) → gives_of (map Takes taken ++ rest) ≡ gives_of rest
+taken_ungiven [] rest = refl
+taken_ungiven (z ∷ taken) rest = taken_ungiven taken rest
+
+all_given : (given : List ItemOut) → gives_of (gives_all given) ≡ given
+all_given [] = refl
+all_given (z ∷ given) = ap (λ l. z ∷ l) (all_given given)
+
 noted_untaken : (notes : List (Note ItemOut)) → takes_of (noted notes) ≡ []
 noted_untaken [] = refl
 noted_untaken (Epoch n ∷ notes) = noted_untaken notes
@@ -134,12 +134,8 @@ noted_ungiven (Stated n ∷ notes) = noted_ungiven notes
 noted_ungiven (Acknowledged n ∷ notes) = noted_ungiven notes
 noted_ungiven (Ended ∷ notes) = noted_ungiven notes
 
-abbrev pub goes_up : ItemMove → Bool
-goes_up (Up position) = true
-goes_up _ = false
-
 abbrev pub told_by : ItemMove → ItemWorld → ℕ → Told
-told_by m w i = record { notes = item_notes m w i; read = item_reads m w i; ups = goes_up m }
+told_by m w i = record { notes = item_notes m w i; read = item_reads m w i; gave = item_gives m w i }
 
 -- what the client notes down, where the server reads nothing
 by_client : (notes : List (Note ItemOut)) (done : List (Label ItemOut)) → done ≡ noted notes → LabelsAreNoted notes [] done × (gives_of done ≡ [])
@@ -147,12 +143,13 @@ by_client notes done is = ((ap clients_of is, ap takes_of is ∙ noted_untaken n
 
 pub are_told : (m : ItemMove) (w : ItemWorld) (i : ℕ) (done : List (Label ItemOut)) → DoesBy m w i done → AreTold (told_by m w i) done
 are_told (Up position) w i done does =
-    let read = item_reads (Up position) w i in (
+    let read = item_reads (Up position) w i in
+    let given = item_gives (Up position) w i in (
       (
-        ap clients_of does.1 ∙ none_taken read (gives_all does.0) ∙ none_given does.0,
-        ap takes_of does.1 ∙ all_taken read (gives_all does.0) ∙ ap (λ l. read ++ l) (given_untaken does.0) ∙ append-nil read,
+        ap clients_of does ∙ none_taken read (gives_all given) ∙ none_given given,
+        ap takes_of does ∙ all_taken read (gives_all given) ∙ ap (λ l. read ++ l) (given_untaken given) ∙ append-nil read,
       ),
-      tt,
+      ap gives_of does ∙ taken_ungiven read (gives_all given) ∙ all_given given,
     )
 are_told (Forget position) w i done (inl none) = ((ap clients_of none, ap takes_of none), ap gives_of none)
 are_told (Forget position) w i done (inr drops) = ((ap clients_of drops, ap takes_of drops), ap gives_of drops)
@@ -173,7 +170,7 @@ abbrev pub Telling : Type 0
 Telling = ℕ → Told
 
 abbrev pub nothing_told : Telling
-nothing_told i = record { notes = []; read = []; ups = false }
+nothing_told i = record { notes = []; read = []; gave = [] }
 
 abbrev pub then_told : Telling → ItemMove → ItemWorld → Telling
 then_told told m w i = both_told (told i) (told_by m w i)
@@ -194,15 +191,24 @@ reads_are : (moves : List ItemMove) (w : ItemWorld) (told : Telling) (i : ℕ) �
 reads_are [] w told i = sym (append-nil (told i).read)
 reads_are (m ∷ moves) w told i = reads_are moves (moved m w) (then_told told m w) i ∙ append_assoc (told i).read (item_reads m w i) (all_item_reads moves (moved m w) i)
 
+gives_are : (moves : List ItemMove) (w : ItemWorld) (told : Telling) (i : ℕ) → (told_along moves w told i).gave ≡ (told i).gave ++ all_item_gives moves w i
+gives_are [] w told i = sym (append-nil (told i).gave)
+gives_are (m ∷ moves) w told i = gives_are moves (moved m w) (then_told told m w) i ∙ append_assoc (told i).gave (item_gives m w i) (all_item_gives moves (moved m w) i)
+
 pub all_noted : (moves : List ItemMove) (w : ItemWorld) (i : ℕ) → (told_along moves w nothing_told i).notes ≡ all_item_notes moves w i
 all_noted moves w i = notes_are moves w nothing_told i
 
 pub all_read : (moves : List ItemMove) (w : ItemWorld) (i : ℕ) → (told_along moves w nothing_told i).read ≡ all_item_reads moves w i
 all_read moves w i = reads_are moves w nothing_told i
 
+pub all_gave : (moves : List ItemMove) (w : ItemWorld) (i : ℕ) → (told_along moves w nothing_told i).gave ≡ all_item_gives moves w i
+all_gave moves w i = gives_are moves w nothing_told i
+
 -- a move by which nothing is told
-pub untold : (t : Told) (notes : List (Note ItemOut)) (read : List ItemOut) → notes ≡ [] → read ≡ [] → t ≡ record { notes = t.notes ++ notes; read = t.read ++ read; ups = t.ups }
-untold t notes read none unread = ap₂ (λ a b. record { notes = a; read = b; ups = t.ups }) (sym (ap (λ l. t.notes ++ l) none ∙ append-nil t.notes)) (sym (ap (λ l. t.read ++ l) unread ∙ append-nil t.read))
+pub untold : (t : Told) (notes : List (Note ItemOut)) (read gave : List ItemOut) → notes ≡ [] → read ≡ [] → gave ≡ [] → t ≡ record { notes = t.notes ++ notes; read = t.read ++ read; gave = t.gave ++ gave }
+untold t notes read gave none unread ungiven =
+    ap₂ (λ a b. record { notes = a; read = b; gave = t.gave }) (sym (ap (λ l. t.notes ++ l) none ∙ append-nil t.notes)) (sym (ap (λ l. t.read ++ l) unread ∙ append-nil t.read))
+    ∙ ap (λ c. record { notes = t.notes ++ notes; read = t.read ++ read; gave = c }) (sym (ap (λ l. t.gave ++ l) ungiven ∙ append-nil t.gave))
 
 -- ---- worlds
 

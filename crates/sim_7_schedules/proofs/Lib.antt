@@ -95,3 +95,26 @@ pub mod RunRounds
 pub mod Connected
 pub mod Resumed
 pub mod Said
+-- files of intents
+pub mod TriesSent
+pub mod TriesLists
+pub mod TriesDue
+pub mod TriesAgain
+pub mod TriesMade
+pub mod TriesNotes
+pub mod TriesLogged
+pub mod TriesFacts
+pub mod TriesWalk
+pub mod TriesEnd
+pub mod TriesWorked
+-- what a run leaves open
+pub mod OutsOpen
+pub mod WordsOpen
+pub mod OpenItems
+pub mod ClientStays
+pub mod OpenDowns
+pub mod OpenBytes
+pub mod OlderEmpty
+pub mod OpenMoves
+pub mod OpenRuns
+pub mod DialledOpen

@@ -1,4 +1,5 @@
--- What a client put and handled in its sessions is what it noted down, and what the server handled is what it read.
+-- What a client put and handled in its sessions is what it noted down, what the server handled is what it read, and what it
+-- put is what its outputs tell.
 use Rattle.std.proofs.Common.{◌≡◌, ℕ, ◌+◌, ◌==◌, Bool, true, false, cond, List, [], ◌∷◌, ◌++◌, Option, None, Some, map, slice_get, refl, sym, ap, ap₂, ◌∙◌, ◌⊎◌, subst, inl, inr}
 use Rattle.std.proofs.lemmas.List.{map-append}
 use Rattle.std.specs.Option.{option_map}
@@ -13,6 +14,7 @@ use Rattle.sim_2_links.specs.Views.{View}
 use Rattle.sim_3_images.proofs.ItemsServed.{nothing_either}
 use Rattle.sim_3_images.proofs.NotesTold.{nothing_noted as unspoken}
 use Rattle.sim_3_images.specs.Notes.{notes_in}
+use Rattle.sim_3_images.specs.Puts.{given_in}
 use Rattle.sim_3_images.specs.Reads.{read_in}
 use Rattle.sim_3_items.specs.Items.{stanzas_read}
 use Rattle.sim_3_items.specs.Labels.{Drops, Enters, Gives, Label, Learns, Names, Reads, Says, Takes, labels_of}
@@ -20,7 +22,7 @@ use Rattle.sim_3_items.specs.Reading.{noted}
 use Rattle.sim_5_moves.specs.Running.{Leads}
 use Rattle.sim_7_schedules.proofs.LabelledLists.{given_by, in_epoch, lists_grow, read_by, said_by, taken_by, was}
 use Rattle.sim_7_schedules.proofs.SessionPairs.{found_pair, pair_of}
-use Rattle.sim_7_schedules.specs.Courses.{AreNoted, IsNoted, MayPut, before, handled_in, put_in}
+use Rattle.sim_7_schedules.specs.Courses.{AreNoted, IsNoted, before, handled_in, put_in}
 use Rattle.sim_7_schedules.specs.Pairs.{Pair}
 use Rattle.sim_7_schedules.specs.Simulation.{LabelsAreNotedIn, clients_of, gives_of, takes_of}
 use Rattle.cmd_world.specs.Moves as moves
@@ -171,23 +173,37 @@ none_given now (Learns ∷ ds) e none = none_more (now == e) (in_epoch given_by 
 none_given now (Drops ∷ ds) e none = none_more (now == e) (in_epoch given_by now ds e) ∙ none_given now ds e none
 
 -- in a move of bytes the client notes nothing down, or the server puts nothing
-one_quiet : (m : Move) (V : ByteWorld) (i : ℕ) (given : List ItemOut) → MayPut m given → (notes_in m V i ≡ []) ⊎ (given ≡ [])
-one_quiet (moves.Up position count) V i given may = inl (unspoken (slice_get V.devices i))
-one_quiet (moves.Dial device) V i given may = inr may
-one_quiet (moves.Forget device) V i given may = inr may
-one_quiet (moves.Close device) V i given may = inr may
-one_quiet (moves.Say device line to text private) V i given may = inr may
-one_quiet (moves.CatchUp device line most) V i given may = inr may
-one_quiet (moves.Tick milliseconds) V i given may = inr may
-one_quiet (moves.Down position count) V i given may = inr may
-one_quiet (moves.Cut position up down) V i given may = inr may
+one_quiet : (m : Move) (V : ByteWorld) (i : ℕ) → (notes_in m V i ≡ []) ⊎ (given_in m V i ≡ [])
+one_quiet (moves.Up position count) V i = inl (unspoken (slice_get V.devices i))
+one_quiet (moves.Dial device) V i = inr refl
+one_quiet (moves.Forget device) V i = inr refl
+one_quiet (moves.Close device) V i = inr refl
+one_quiet (moves.Say device line to text private) V i = inr refl
+one_quiet (moves.CatchUp device line most) V i = inr refl
+one_quiet (moves.Tick milliseconds) V i = inr refl
+one_quiet (moves.Down position count) V i = inr refl
+one_quiet (moves.Cut position up down) V i = inr refl
 
-gives_made : (m : Move) (V : ByteWorld) (i now : ℕ) (ns : List (Note ItemOut)) (ds : List D) (e : ℕ) → notes_in m V i ≡ written_notes ns → clients_of ds ≡ clients_of (noted ns) → MayPut m (gives_of ds)
-    → in_epoch given_by now ds e ≡ cond (now == e) (gives_of ds) []
-gives_made m V i now ns ds e notes clients may = elim (one_quiet m V i (gives_of ds) may) [
-  | inl silent ↦ given_at_once now ds e (clients ∙ ap (λ l. clients_of (noted l)) (nothing_noted ns (sym notes ∙ silent)))
-  | inr none ↦ none_given now ds e none ∙ sym (ap (λ l. cond (now == e) l []) none ∙ nothing_either (now == e))
+unwritten : (l : List ItemOut) → map written_item l ≡ [] → l ≡ []
+unwritten [] none = refl
+unwritten (z ∷ l) none = absurd (let no_way : ⊥ = cc in no_way)
+
+all_written : (b : Bool) (l : List ItemOut) → map written_item (cond b l []) ≡ cond b (map written_item l) []
+all_written true l = refl
+all_written false l = refl
+
+gives_made : (m : Move) (V : ByteWorld) (i now : ℕ) (ns : List (Note ItemOut)) (ds : List D) (e : ℕ) → notes_in m V i ≡ written_notes ns → clients_of ds ≡ clients_of (noted ns) → map written_item (gives_of ds) ≡ given_in m V i
+    → map written_item (in_epoch given_by now ds e) ≡ cond (now == e) (given_in m V i) []
+gives_made m V i now ns ds e notes clients given = elim (one_quiet m V i) [
+  | inl silent ↦
+      ap (map written_item) (given_at_once now ds e (clients ∙ ap (λ l. clients_of (noted l)) (nothing_noted ns (sym notes ∙ silent)))) ∙ all_written (now == e) (gives_of ds)
+      ∙ ap (λ l. cond (now == e) l []) given
+  | inr none ↦ ap (map written_item) (none_given now ds e (unwritten (gives_of ds) (given ∙ none))) ∙ sym (ap (λ l. cond (now == e) l []) none ∙ nothing_where (now == e))
 ]
+  where
+    nothing_where : (b : Bool) → cond {A = List (List ℕ)} b [] [] ≡ []
+    nothing_where true = refl
+    nothing_where false = refl
 
 -- ---- pairs
 
@@ -210,9 +226,9 @@ up_was : (o : Option (links.Session ItemOut)) → (was (seen_as o)).up_put ≡ (
 up_was None = refl
 up_was (Some t) = refl
 
-are_noted : (m : Move) (V : ByteWorld) (i : ℕ) (v next : View ItemOut) (d : sessions.Sessions) → LinkReached v → IsDevice stanzas_read (seen v) d → (leads : Leads (LabelsAreNotedIn m V i) v next)
-    → AreNoted v.epoch (notes_in m V i) (read_in m V i) (gives_of (labels_of leads.0)) (pairs_by v) (pairs_by next)
-are_noted m V i v next d reached is leads number e q at epoch =
+pub pairs_noted : (m : Move) (V : ByteWorld) (i : ℕ) (v next : View ItemOut) (d : sessions.Sessions) → LinkReached v → IsDevice stanzas_read (seen v) d → Leads (LabelsAreNotedIn m V i) v next
+    → AreNoted v.epoch (notes_in m V i) (read_in m V i) (given_in m V i) (pairs_by v) (pairs_by next)
+pairs_noted m V i v next d reached is leads number e q at epoch =
     let (t, there, same) = found_pair (next.sessions number) q at in
     let (made, along, told) = leads in
     let labels = labels_of made in
@@ -221,13 +237,9 @@ are_noted m V i v next d reached is leads number e q at epoch =
     same_clients read_by ((λ z. refl), (λ z. refl), refl, refl, refl) v.epoch labels (noted told.0) e told.2.0 ∙ reads_noted v.epoch told.0 e ∙ ap (λ ns. handled_in v.epoch ns e) (sym told.1) in
     let put : map written_item (in_epoch said_by v.epoch labels e) ≡ put_in v.epoch (notes_in m V i) e =
     ap (map written_item) (same_clients said_by ((λ z. refl), (λ z. refl), refl, refl, refl) v.epoch labels (noted told.0) e told.2.0) ∙ puts_noted v.epoch told.0 e ∙ ap (λ ns. put_in v.epoch ns e) (sym told.1) in
-    subst (λ (p : Pair). IsNoted v.epoch (notes_in m V i) (read_in m V i) (gives_of labels) (before (pairs_by v number)) p e) same (record {
+    subst (λ (p : Pair). IsNoted v.epoch (notes_in m V i) (read_in m V i) (given_in m V i) (before (pairs_by v number)) p e) same (record {
       handled = grows.down_got ∙ ap₂ (λ a b. a ++ b) (down_was (v.sessions number)) handled;
       put = (in_epoch said_by v.epoch labels e, grows.up_put ∙ ap (λ l. l ++ in_epoch said_by v.epoch labels e) (up_was (v.sessions number)), put);
       taken = grows.up_got ∙ ap₂ (λ a b. a ++ b) (got_was (v.sessions number)) (reads_taken m V i v.epoch told.0 labels e told.1 told.2.0 told.2.1);
-      sent = grows.down_put ∙ ap₂ (λ a b. a ++ b) (put_was (v.sessions number)) (gives_made m V i v.epoch told.0 labels e told.1 told.2.0 told.3);
+      sent = (in_epoch given_by v.epoch labels e, grows.down_put ∙ ap (λ l. l ++ in_epoch given_by v.epoch labels e) (put_was (v.sessions number)), gives_made m V i v.epoch told.0 labels e told.1 told.2.0 told.3);
     })
-
-pub pairs_noted : (m : Move) (V : ByteWorld) (i : ℕ) (v next : View ItemOut) (d : sessions.Sessions) → LinkReached v → IsDevice stanzas_read (seen v) d → Leads (LabelsAreNotedIn m V i) v next
-    → (given : List ItemOut) × MayPut m given × AreNoted v.epoch (notes_in m V i) (read_in m V i) given (pairs_by v) (pairs_by next)
-pairs_noted m V i v next d reached is leads = let (made, along, told) = leads in (gives_of (labels_of made), told.3, are_noted m V i v next d reached is leads)

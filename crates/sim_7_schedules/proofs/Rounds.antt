@@ -171,7 +171,7 @@ module _ (schedule : WireView) (each : EachMoveSimulates schedule) (from : Views
       by (positions.Nobody none silent) =
           subst (λ v. Goes schedule from (then_told told (Down position) w) says v x (AreHanded n position v)) (sym none)
           (stays schedule from (then_told told (Down position) w) says w x (AreHanded n position w)
-          (retold schedule from told (then_told told (Down position) w) says w x (λ i. untold (told i) (item_notes (Down position) w i) [] (silent i) refl) runs) handed)
+          (retold schedule from told (then_told told (Down position) w) says w x (λ i. untold (told i) (item_notes (Down position) w i) [] [] (silent i) refl refl) runs) handed)
       by (positions.Device wire d at found is_here) =
           of_move schedule from told says (Down position) w x (AreHanded n position (moved (Down position) w)) runs (each (Down position) says w x tt runs.world within) refl (λ next asked was i e there.
           let old = was i e there in

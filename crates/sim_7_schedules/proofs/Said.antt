@@ -71,7 +71,7 @@ kept_moves : (s : WireView) (ms : List Move) (W : ByteWorld) → IsWorldKept s W
 kept_moves s [] W kept = kept
 kept_moves s (m ∷ ms) W kept = kept_moves s ms (moved m W) (kept_after s m W kept)
 
-kept_lines : (s : WireView) (lines : List WireLine) (W : ByteWorld) → IsWorldKept s W → IsWorldKept s (all_stepped lines W)
+pub kept_lines : (s : WireView) (lines : List WireLine) (W : ByteWorld) → IsWorldKept s W → IsWorldKept s (all_stepped lines W)
 kept_lines s [] W kept = kept
 kept_lines s (line ∷ lines) W kept = kept_lines s lines (stepped line W) (kept_moves s (moves_of line W) W kept)
 

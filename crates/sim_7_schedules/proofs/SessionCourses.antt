@@ -1,5 +1,5 @@
 -- The pairs of each world of a history go on in the next.
-use Rattle.std.proofs.Common.{◌≡◌, ℕ, suc, List, ◌∷◌, Option, None, Some, refl, sym, ap, ◌∙◌, subst, arith, inl, inr}
+use Rattle.std.proofs.Common.{◌≡◌, ℕ, suc, ◌∷◌, Option, None, Some, refl, sym, ap, ◌∙◌, subst, arith, inl, inr}
 use Rattle.std.proofs.lemmas.Bool.{cases_lt}
 use Rattle.std.proofs.lemmas.Option.{none-some}
 use Rattle.std.specs.List.{slice_get}
@@ -24,12 +24,13 @@ use Rattle.sim_7_schedules.proofs.SessionMessages.{told_here}
 use Rattle.sim_7_schedules.proofs.SessionPairs.{epoch_is, found_pair, pair_of, pairs_are, pairs_here}
 use Rattle.sim_7_schedules.proofs.WorldsSimulated.{kept_at}
 use Rattle.sim_7_schedules.specs.Simulation.{LabelsAreNotedIn}
-use Rattle.sim_7_schedules.specs.Courses.{AreNew, AreNoted, GoOn, GoesOn, HasCourse, IsNew, MayPut, moves_in}
+use Rattle.sim_7_schedules.specs.Courses.{AreNew, AreNoted, GoOn, GoesOn, HasCourse, IsNew, moves_in}
 use Rattle.sim_7_schedules.specs.Messages.{AreTold}
 use Rattle.sim_7_schedules.specs.Pairs.{HasPairs}
 use Rattle.cmd_world.specs.Histories.{history_of, world_at_start, worlds_by}
 use Rattle.cmd_world.specs.Moves.{Move, moved}
 use Rattle.sim_3_images.specs.Notes.{notes_in}
+use Rattle.sim_3_images.specs.Puts.{given_in}
 use Rattle.sim_3_images.specs.Reads.{read_in}
 use Rattle.cmd_world.specs.Worlds.{ByteWorld}
 use Rattle.xml_writer.specs.Items.{ItemOut}
@@ -114,7 +115,7 @@ module _ (s : WireView) (right : IsLineList s) (i : ℕ) (o : Owned) (owned : sl
       (go_on_by old.view (device (suc j) W two).view (moves_go leads.0 old.view (device (suc j) W two).view (prompt_runs awaits old.view old.prompt) leads.1)))
 
   noted_at : (j : ℕ) (V W : ByteWorld) (one : slice_get (history_of s) j ≡ Some V) (two : slice_get (history_of s) (suc j) ≡ Some W) (d : DeviceState) → slice_get V.devices i ≡ Some d →
-      (m : Move) × (slice_get (moves_in s) j ≡ Some m) × (W ≡ moved m V) × (given : List ItemOut) × MayPut m given × AreNoted d.client.client.epoch (notes_in m V i) (read_in m V i) given (pairs_at j V one).pairs (pairs_at (suc j) W two).pairs
+      (m : Move) × (slice_get (moves_in s) j ≡ Some m) × (W ≡ moved m V) × AreNoted d.client.client.epoch (notes_in m V i) (read_in m V i) (given_in m V i) (pairs_at j V one).pairs (pairs_at (suc j) W two).pairs
   noted_at j V W one two d here =
       let a = beside j V one in
       let b = beside (suc j) W two in
@@ -124,11 +125,9 @@ module _ (s : WireView) (right : IsLineList s) (i : ℕ) (o : Owned) (owned : sl
         m.0,
         m.1,
         moved_there (world_at_start s) (moves_in s) j V W m.0 (stepped_at j V one) (stepped_at (suc j) W two) m.1,
-        noted.0,
-        noted.1,
-        subst (λ e. AreNoted e (notes_in m.0 V i) (read_in m.0 V i) noted.0 (pairs_at j V one).pairs (pairs_at (suc j) W two).pairs) (sym (epoch_is s V a.0 a.2.beside i o owned d here))
-            (subst (AreNoted old.view.epoch (notes_in m.0 V i) (read_in m.0 V i) noted.0 (pairs_at j V one).pairs) (sym (pairs_are s W b.0 b.2.beside i o owned))
-            (subst (λ f. AreNoted old.view.epoch (notes_in m.0 V i) (read_in m.0 V i) noted.0 f (pairs_by (device (suc j) W two).view)) (sym (pairs_are s V a.0 a.2.beside i o owned)) noted.2)),
+        subst (λ e. AreNoted e (notes_in m.0 V i) (read_in m.0 V i) (given_in m.0 V i) (pairs_at j V one).pairs (pairs_at (suc j) W two).pairs) (sym (epoch_is s V a.0 a.2.beside i o owned d here))
+            (subst (AreNoted old.view.epoch (notes_in m.0 V i) (read_in m.0 V i) (given_in m.0 V i) (pairs_at j V one).pairs) (sym (pairs_are s W b.0 b.2.beside i o owned))
+            (subst (λ f. AreNoted old.view.epoch (notes_in m.0 V i) (read_in m.0 V i) (given_in m.0 V i) f (pairs_by (device (suc j) W two).view)) (sym (pairs_are s V a.0 a.2.beside i o owned)) noted)),
       )
 
   there_at : (j : ℕ) (W : ByteWorld) → slice_get (history_of s) j ≡ Some W → (e : DeviceState) × (slice_get W.devices i ≡ Some e)

@@ -8,12 +8,12 @@ use Rattle.cmd_schedule.specs.Contents.{Owned}
 use Rattle.cmd_schedule.specs.Schedules.{WireView}
 use Rattle.cmd_schedule.specs.declared.schedule.WireLine.{WireLine}
 use Rattle.sim_3_images.specs.Notes.{notes_in}
+use Rattle.sim_3_images.specs.Puts.{given_in}
 use Rattle.sim_3_images.specs.Reads.{read_in}
 use Rattle.sim_7_schedules.specs.Messages.{AreTold}
 use Rattle.sim_7_schedules.specs.Pairs.{HasPairs, IsUnused, Pair}
 use Rattle.cmd_world.specs.Histories.{history_of, world_at_start}
 use Rattle.cmd_world.specs.Lines.{moves_of, stepped}
-use Rattle.cmd_world.specs.Moves as bytes
 use Rattle.cmd_world.specs.Moves.{Move, moved}
 use Rattle.cmd_world.specs.Worlds.{ByteWorld}
 use Rattle.xml_writer.specs.Items.{ItemOut, Whole, written_item}
@@ -63,21 +63,16 @@ put_in now (Epoch n ∷ notes) e = put_in (now + 1) notes e
 put_in now (Put z ∷ notes) e = (if now == e then z ∷ [] else []) ++ put_in now notes e
 put_in now (_ ∷ notes) e = put_in now notes e
 
--- The server puts stanzas where bytes are handed to it, and in no other move.
-abbrev pub MayPut : Move → List ItemOut → Type 0
-MayPut (bytes.Up position count) given = Unit {0}
-MayPut _ given = given ≡ []
-
 -- A session and what it is in the next world: its client handled and put in it what these notes say, and the server handled
--- in that of this epoch the stanzas that it read, and put these; and nothing else.
-pub record IsNoted (epoch : ℕ) (notes : List (Note (List ℕ))) (read given : List ItemOut) (p q : Pair) (e : ℕ) : Type 0 where
+-- in that of this epoch the stanzas that it read, and put those that are written so; and nothing else.
+pub record IsNoted (epoch : ℕ) (notes : List (Note (List ℕ))) (read : List ItemOut) (given : List (List ℕ)) (p q : Pair) (e : ℕ) : Type 0 where
   pub handled : q.down.got ≡ p.down.got ++ handled_in epoch notes e
   pub put : (more : List ItemOut) × (q.up.put ≡ p.up.put ++ more) × (map written_item more ≡ put_in epoch notes e)
   pub taken : q.up.got ≡ p.up.got ++ (if epoch == e then read else [])
-  pub sent : q.down.put ≡ p.down.put ++ (if epoch == e then given else [])
+  pub sent : (more : List ItemOut) × (q.down.put ≡ p.down.put ++ more) × (map written_item more ≡ (if epoch == e then given else []))
 
 -- So it is of each session that has an epoch then. (In one that has none nothing was put or handled.)
-abbrev pub AreNoted : ℕ → List (Note (List ℕ)) → List ItemOut → List ItemOut → (ℕ → Option Pair) → (ℕ → Option Pair) → Type 0
+abbrev pub AreNoted : ℕ → List (Note (List ℕ)) → List ItemOut → List (List ℕ) → (ℕ → Option Pair) → (ℕ → Option Pair) → Type 0
 AreNoted epoch notes read given pairs next = (number e : ℕ) (q : Pair) → next number ≡ Some q → q.epoch ≡ Some e → IsNoted epoch notes read given (before (pairs number)) q e
 
 -- ---- histories
@@ -94,7 +89,7 @@ moves_in s = moves_along s.lines (world_at_start s)
 -- its sessions, with the messages that its report tells, and in the next one each goes on. What the client put and handled in
 -- between is what it noted down in the move from the one to the other: of the bytes that were handed to it, or as its user
 -- submitted a message or asked for a page. What the server handled in between it read of bytes that were handed to it then;
--- and it put nothing but as bytes were.
+-- and what it put then its outputs for the connection of the session tell, or what joined the queue of a parked one.
 pub record HasCourse (s : WireView) (i : ℕ) (o : Owned) : Type 0 where
   pub pairs : (j : ℕ) (w : ByteWorld) → slice_get (history_of s) j ≡ Some w → HasPairs s w i o
   pub told : (j : ℕ) (w : ByteWorld) (at : slice_get (history_of s) j ≡ Some w) → AreTold w i o (pairs j w at).pairs
@@ -102,4 +97,4 @@ pub record HasCourse (s : WireView) (i : ℕ) (o : Owned) : Type 0 where
   pub new : (j : ℕ) (v w : ByteWorld) (at : slice_get (history_of s) j ≡ Some v) (next : slice_get (history_of s) (suc j) ≡ Some w) (d : DeviceState) → slice_get v.devices i ≡ Some d →
       AreNew d.client.client.epoch (pairs j v at).pairs (pairs (suc j) w next).pairs
   pub noted : (j : ℕ) (v w : ByteWorld) (at : slice_get (history_of s) j ≡ Some v) (next : slice_get (history_of s) (suc j) ≡ Some w) (d : DeviceState) → slice_get v.devices i ≡ Some d →
-      (m : Move) × (slice_get (moves_in s) j ≡ Some m) × (w ≡ moved m v) × (given : List ItemOut) × MayPut m given × AreNoted d.client.client.epoch (notes_in m v i) (read_in m v i) given (pairs j v at).pairs (pairs (suc j) w next).pairs
+      (m : Move) × (slice_get (moves_in s) j ≡ Some m) × (w ≡ moved m v) × AreNoted d.client.client.epoch (notes_in m v i) (read_in m v i) (given_in m v i) (pairs j v at).pairs (pairs (suc j) w next).pairs

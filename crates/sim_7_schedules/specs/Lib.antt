@@ -24,3 +24,17 @@ pub mod Bound
 pub mod Faults
 -- law: what a run brings
 pub mod LastLines
+-- law: what the laws say
+pub mod BindsLaws
+pub mod FaultsLaws
+pub mod LateWordsLaws
+pub mod RefusedLinesLaws
+pub mod ReportsOfWorldsLaws
+pub mod RunsLaws
+pub mod LawsKeptLaws
+-- law: what the tries of intents come to
+pub mod Tries
+pub mod IntentsLaws
+-- law: what stays open in a run
+pub mod Calm
+pub mod CalmLaws

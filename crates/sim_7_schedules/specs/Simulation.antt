@@ -6,6 +6,7 @@ use Rattle.sim_3_images.specs.Stands.{StandingServers}
 use Rattle.sim_3_images.specs.WorldEncodings.{WorldEncodes}
 use Rattle.sim_3_images.specs.Fitting.{MayItem}
 use Rattle.sim_3_images.specs.Notes.{notes_in}
+use Rattle.sim_3_images.specs.Puts.{given_in}
 use Rattle.sim_3_images.specs.Reads.{read_in}
 use Rattle.sim_3_items.specs.Labels.{Gives, Label, Names, Reads, Says, Takes}
 use Rattle.sim_3_items.specs.Reading.{noted}
@@ -28,7 +29,6 @@ use Rattle.cmd_world.specs.Lines.{moves_of, stepped}
 use Rattle.cmd_world.specs.Moves.{Move, moved}
 use Rattle.cmd_world.specs.WorldReports.{report_of}
 use Rattle.cmd_world.specs.Worlds as bytes
-use Rattle.sim_7_schedules.specs.Courses.{MayPut}
 use Rattle.sim_5_moves.specs.Running.{Bounds, IsInBounds, IsOwned, Leads, MoveSimulates, WorldSimulates}
 use Rattle.xml_writer.specs.Items.{ItemOut, written_item}
 
@@ -88,9 +88,9 @@ gives_of (_ ∷ done) = gives_of done
 abbrev pub LabelsAreNoted : List (Note ItemOut) → List ItemOut → List (Label ItemOut) → Type 0
 LabelsAreNoted notes read done = (clients_of done ≡ clients_of (noted notes)) × (takes_of done ≡ read)
 
--- and so in a move of bytes; and the server puts none but where bytes are handed to it
+-- and so in a move of bytes; and the server puts those that its outputs tell, as they are written
 abbrev pub LabelsAreNotedIn : Move → bytes.ByteWorld → ℕ → List (Label ItemOut) → Type 0
-LabelsAreNotedIn m W i done = (notes : List (Note ItemOut)) × (notes_in m W i ≡ map (note_rendered written_item) notes) × LabelsAreNoted notes (read_in m W i) done × MayPut m (gives_of done)
+LabelsAreNotedIn m W i done = (notes : List (Note ItemOut)) × (notes_in m W i ≡ map (note_rendered written_item) notes) × LabelsAreNoted notes (read_in m W i) done × (map written_item (gives_of done) ≡ given_in m W i)
 
 -- a world of bytes and one of the applications, with these links between them
 pub record SimulatesBy (schedule : WireView) (W : bytes.ByteWorld) (x : AppWorld) (views : Views schedule) : Type 0 where
@@ -98,7 +98,8 @@ pub record SimulatesBy (schedule : WireView) (W : bytes.ByteWorld) (x : AppWorld
   pub shown : (i : ℕ) (o : Owned) (is : IsOwned schedule i o) → (beside.runs.devices i o is).view ≡ views i o is
 
 -- Moves of bytes, and the events that each led to: behind each the worlds are related, and moves of the links led from those
--- before it to those behind it, in which each client did what it noted down, and the server handled what it read.
+-- before it to those behind it, in which each client did what it noted down, and the server handled what it read, and put
+-- what its outputs tell.
 abbrev pub MovesSimulate : (schedule : WireView) → List Move → List (List AppEvent) → Views schedule → Views schedule → bytes.ByteWorld → AppWorld → Type 0
 MovesSimulate schedule [] [] views last W x = last ≡ views
 MovesSimulate schedule (m ∷ ms) (es ∷ ess) views last W x =

@@ -3,21 +3,14 @@
 //! `counts_are_too_high_only_where_the_client_left` says a little less than holds: also on a connection whose end the
 //! client was told the count is what it handled. `counts_are_too_high_only_after_a_newer_connection` says when it is
 //! too high.
-ghost use Rattle.std.specs.Prelude.{◌≡◌, ℕ, Some, slice_get};
-ghost use Rattle.cmd_schedule.specs.Contents.{Owned};
-ghost use Rattle.cmd_schedule.specs.Schedules.{WireView};
-ghost use Rattle.cmd_schedule.specs.LineLists.{IsLineList};
-ghost use Rattle.sim_1_applications.specs.Runs.{owned_of};
-ghost use Rattle.sim_7_schedules.specs.Faults.{EachTells, EndsForFew, HasWords, IsNoPageFault};
-ghost use Rattle.cmd_world.specs.Histories.{history_of};
-ghost use Rattle.cmd_world.specs.Worlds.{ByteWorld};
+ghost use Rattle.sim_7_schedules.specs.FaultsLaws.{NoPageFails, StreamsEndForFewReasonsPut, StreamsEndForFewReasonsTold};
 
 /// A law: no catch-up fails in a world of the history of a list of lines. However many bytes of those under way are handed to a
 /// device on its connection, its client tells no `CatchUpFault`: the server refuses no page, no page has more results than
 /// were asked for, its end tells the last result that came, none comes twice, and each page but the last has one
 /// (XEP-0313, section 4; XEP-0059).
 pub fn no_page_fails()
-    ensures { (s : WireView) → IsLineList s → (j : ℕ) (w : ByteWorld) → slice_get (history_of s) j ≡ Some w → EachTells IsNoPageFault w }
+    ensures { NoPageFails }
 {}
 
 /// A law: and there are few stream errors (RFC 6120, section 4.9.3). However many bytes are handed to a device, its client
@@ -26,6 +19,6 @@ pub fn no_page_fails()
 /// that the server put, on whatever connection of a device and also where they were lost, each is one of these two, or that
 /// for a resumption whose count is too high, on a connection on which the client works no more (`put`).
 pub fn streams_end_for_few_reasons()
-    ensures told { (s : WireView) → IsLineList s → (j : ℕ) (w : ByteWorld) → slice_get (history_of s) j ≡ Some w → EachTells EndsForFew w }
-    ensures put { (s : WireView) → IsLineList s → (j : ℕ) (w : ByteWorld) → slice_get (history_of s) j ≡ Some w → (i : ℕ) (o : Owned) → slice_get (owned_of s) i ≡ Some o → HasWords s w i o }
+    ensures told { StreamsEndForFewReasonsTold }
+    ensures put { StreamsEndForFewReasonsPut }
 {}

@@ -26,10 +26,13 @@ ghost use Rattle.cmd_world.specs.Worlds.{ByteWorld};
 /// that it has then: of the bytes that are handed to it on the connection that it has, or as its user submits a message or
 /// asks for a page; in any other step it handles and puts none. What the server handled in that step are the very stanzas
 /// that it read in it, in the session of that epoch too: of the bytes that were handed to it on a connection of the device
-/// while that was open and a session on it. What it puts it puts in that session, and in a step in which bytes are handed
-/// to it on some connection (`pairs`). So what either end put and handled stays, stanza for stanza and in its order, and
-/// more may come behind (`further`). What an end handled is the front of what the other end put, and no more is
-/// acknowledged than was handled (`delivered`).
+/// while that was open and a session on it. What it puts in that step it puts in that session too, as it reads a stanza
+/// there or on a connection of another device; and these are the stanzas that its outputs tell, as they are written: where
+/// the device's session is on a connection, what it puts out on that one and begins as a stanza does (RFC 6120, section
+/// 8.1), and where that session is parked, what joins its queue, or none where it ends. In any other step it puts none
+/// (`pairs`). So what either end put and handled stays, stanza for stanza and in its order, and more may come behind
+/// (`further`). What an end handled is the front of what the other end put, and no more is acknowledged than was handled
+/// (`delivered`).
 pub fn sessions_are_pairs()
     ensures pairs { (s : WireView) → IsLineList s → (i : ℕ) (o : Owned) → slice_get (owned_of s) i ≡ Some o → HasCourse s i o }
     ensures further { (p q : Pair) → IsPair p → GoesOn p q → IsFurther p.up q.up × IsFurther p.down q.down }

@@ -1,0 +1,23 @@
+-- What the laws of `clients` say.
+use Rattle.std.specs.Prelude.{ℕ, ◌+◌}
+use Rattle.sim_5_moves.specs.Ground.{IsGround}
+use Rattle.sim_4_links_follow.specs.Following.{IsNextItem}
+use Rattle.sim_3_images.specs.Devices.{identity_at}
+use Rattle.sim_3_items.specs.Pipes.{by_number}
+use Rattle.sim_3_items.specs.Reading.{IsNextDown}
+use Rattle.sim_3_items.specs.ItemMoves.{Down}
+use Rattle.sim_3_items.specs.ItemPipes.{ItemWire}
+use Rattle.sim_3_items.specs.ItemWorlds.{ItemWorld}
+use Rattle.sim_2_links.specs.Words.{Down as DownTraffic, St}
+use Rattle.cmd_schedule.specs.Contents.{Owned}
+use Rattle.cmd_schedule.specs.Schedules.{WireView}
+use Rattle.sim_1_applications.specs.Devices.{AppWorld}
+use Rattle.sim_5_moves.specs.Running.{AreSmall, Bounds, IsInBounds, IsOwned, MoveSimulates, WorldSimulates}
+use Rattle.xml_writer.specs.Items.{ItemOut}
+
+abbrev pub StanzasComeDown : Type 0
+StanzasComeDown =
+    (schedule : WireView) (b : Bounds) → AreSmall b → (says : ℕ) (w : ItemWorld) (x : AppWorld) (runs : WorldSimulates schedule b says w x) → IsGround schedule x → (position : ℕ) (wire : ItemWire) (o : Owned)
+    → (owned : IsOwned schedule wire.device o) → (z : ItemOut) → IsNextItem position wire.device w (runs.devices wire.device o owned).represents.device wire z
+    → IsNextDown (identity_at schedule wire.device o) (runs.devices wire.device o owned).logins (runs.devices wire.device o owned).represents.device (by_number w.wires) (runs.devices wire.device o owned).view (position + 1) (DownTraffic (St z))
+    → IsInBounds b says (Down position) w x → MoveSimulates schedule b says (Down position) w x runs
