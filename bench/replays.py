@@ -1,4 +1,5 @@
-"""Runs of `replay` on schedules of growing size: processor time and peak memory, how they grow, and against another program's."""
+"""Runs of `replay`, or of another word, on inputs of growing size: processor time and peak memory, how they grow, and against
+another program's."""
 import os
 import sys
 import tempfile
@@ -18,10 +19,10 @@ def found(argv):
     return program
 
 
-def run(program, path):
+def run(program, path, word="replay"):
     """The processor's seconds (user and system) and the peak memory (MiB) of one run."""
     with open(path, "rb") as source, open(os.devnull, "wb") as sink:
-        pid = os.posix_spawn(program, [program, "replay"], os.environ,
+        pid = os.posix_spawn(program, [program, word], os.environ,
                              file_actions=[(os.POSIX_SPAWN_DUP2, source.fileno(), 0), (os.POSIX_SPAWN_DUP2, sink.fileno(), 1)])
         _, status, usage = os.wait4(pid, 0)
     if status != 0:
@@ -42,9 +43,9 @@ def least(runs):
     return tuple(min(kind) for kind in zip(*runs))
 
 
-def measure(program, lines):
+def measure(program, lines, word="replay"):
     with written(lines) as file:
-        return least([run(program, file.name) for _ in range(ROUNDS)])
+        return least([run(program, file.name, word) for _ in range(ROUNDS)])
 
 
 def row(name, now, before):
@@ -55,28 +56,28 @@ def row(name, now, before):
     return ratios
 
 
-def growth(program, of, sizes, schedule):
+def growth(program, of, sizes, schedule, word="replay"):
     """Prints a row for each size, and the worst ratio between neighbours. Answers the last row."""
     before, worst = None, 0.0
     print(f"{of:>12} {'proc. s':>9} {'ratio':>6} {'MiB':>8} {'ratio':>6}")
     for size in sizes:
-        now = measure(program, schedule(size))
+        now = measure(program, schedule(size), word)
         worst = max(worst, *(row(f"{size:,}", now, before) or [worst]))
         before = now
     print(f"worst ratio {worst:.2f}, wanted below {LIMIT}")
     return before
 
 
-def compare(program, lines, most_time, most_memory=None):
+def compare(program, lines, most_time, most_memory=None, word="replay"):
     """Prints the ratios to the baseline, whose runs take turns with ours."""
     if not os.access(BASELINE, os.X_OK):
         print(f"no baseline at {BASELINE}: not compared")
         return
     with written(lines) as file:
-        pairs = [(run(program, file.name), run(BASELINE, file.name)) for _ in range(ROUNDS)]
+        pairs = [(run(program, file.name, word), run(BASELINE, file.name, word)) for _ in range(ROUNDS)]
     ours, theirs = (least(runs) for runs in zip(*pairs))
     print(f"{'':>10} {'proc. s':>9} {'MiB':>8}")
-    print(f"{'replay':>10} {ours[0]:9.3f} {ours[1]:8.1f}")
+    print(f"{word:>10} {ours[0]:9.3f} {ours[1]:8.1f}")
     print(f"{'baseline':>10} {theirs[0]:9.3f} {theirs[1]:8.1f}")
     wanted = f"{most_time} and {most_memory}" if most_memory else f"{most_time} of the time"
     print(f"ratios to the baseline {ours[0] / theirs[0]:.2f} and {ours[1] / theirs[1]:.2f}, wanted at most {wanted}")

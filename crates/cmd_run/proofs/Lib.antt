@@ -1,3 +1,4 @@
+pub mod Decided
 pub mod Dialers
 pub mod Doors
 pub mod Inputs

@@ -1,5 +1,5 @@
 -- What the clauses `answered` and `exactly` of `run` say of each status and command, one by one.
-use Rattle.std.proofs.Common.{◌≡◌, ◌≢◌, Bool, true, false, ℕ, ◌<◌, ◌≤◌, subst, List, length, Option, Some, None, Err, IfSome, IsOk, IsTrue, ◌⊎◌, inl, inr, refl, ◌∙◌, sym, arith}
+use Rattle.std.proofs.Common.{◌≡◌, ◌≢◌, Bool, true, false, ℕ, ◌<◌, ◌≤◌, subst, List, length, Option, Some, None, Ok, Err, IfSome, IsOk, IsTrue, ◌⊎◌, inl, inr, refl, ◌∙◌, sym, arith}
 use Rattle.std.proofs.lemmas.Bool.Decides.{eqb_tells, nat_tests}
 use Rattle.std.specs.Io.KnownBytes.{IsAtEnd}
 use Rattle.base_io.specs.declared.whole_reads.TheConstants.{MOST_BYTES_READ}
@@ -12,7 +12,11 @@ use Rattle.cmd_rerun.specs.Reruns.{SaysRun, rerun_of}
 use Rattle.cmd_schedule.specs.Kinds.{InGrammar}
 use Rattle.cmd_schedule.specs.declared.fault.LineWhy.{LineWhy}
 use Rattle.cmd_run.specs.Texts.{words_line, read_fault_line, too_long_line, bad_line, link_fault_line, no_worker_line, entropy_fault_line, peer_line}
+use Rattle.cmd_intents.specs.Files.{FileView, reading_intents}
 use Rattle.cmd_journal.specs.Reading.{rerun_reading}
+use Rattle.cmd_resolving.specs.Expansion.{watched_end}
+use Rattle.cmd_deciding.specs.Texts.{text_of_intents}
+use Rattle.cmd_world.specs.WorldReports.{report_of}
 use Rattle.cmd_sync.specs.ScriptReading.{script_reading}
 use Rattle.cmd_sync.specs.declared.failure.PeerFailure.{PeerFailure}
 use Rattle.cmd_sync.specs.declared.sync_fault.SyncFault.TheVariants as syncs
@@ -20,9 +24,9 @@ use Rattle.base_io.specs.Counts.{Rose, Quiet}
 use Rattle.base_io.specs.Given.{Gave}
 use Rattle.cmd_run.specs.Dealings.{AreBack, Dealings, IsQuietDialer, IsQuietDoor}
 use Rattle.cmd_run.specs.Words.{goes_out, reads}
-use Rattle.cmd_run.specs.Table.{code_of, is_status, Due, HasDoorFailed, HasSynced, IsAccountsRefusal, IsInput, IsRefusal, IsScriptRefusal, IsServed, IsStopped, IsTooLong, MustAnswer, SaysAccounts}
+use Rattle.cmd_run.specs.Table.{code_of, is_status, Due, HasDoorFailed, HasSynced, IsAccountsRefusal, IsDecided, IsInput, IsIntentsRefusal, IsRefusal, IsScriptRefusal, IsServed, IsStopped, IsTooLong, MustAnswer, SaysAccounts}
 use Rattle.cmd_run.specs.declared.command.Command.{Command}
-use Rattle.cmd_run.specs.declared.command.Command.TheVariants.{Help, Version, Replay, Check, Rerun, Generate, Serve, Sync}
+use Rattle.cmd_run.specs.declared.command.Command.TheVariants.{Help, Version, Replay, Check, Rerun, Intents, Generate, Serve, Sync}
 use Rattle.cmd_run.specs.declared.outcome.Outcome.{Outcome}
 use Rattle.cmd_run.specs.declared.outcome.Outcome.TheVariants.{Done, WrongWords, Refused, ReadFault, LinkFault, PeerFault, NoWorker, EntropyFault, TooLong}
 use Rattle.cmd_run.specs.declared.texts.TheConstants.{HELP, VERSION}
@@ -93,6 +97,22 @@ module _ (before now : List ℕ) (ahead left : Option (List ℕ)) (rose nothing_
       let (text, due, out) = gave.such in
       let ((line, reason, why, text_is), whole) = subst (λ c. Due c gave.bytes ahead left rose dealt Refused text) e due in
       record { bytes = gave.bytes; grown = gave.grown; such = ((whole refl).all, (whole refl).ended, (line, reason, why, subst Written text_is out)) }
+
+  done_intents : (command : Option Command) → Answered command → result ≡ 0 → command ≡ Some Intents → Gave before now (λ input.
+      IfSome ahead (λ all. input ≡ all) × IsAtEnd left × ((file : FileView) × (reading_intents input ≡ Ok file) × IsDecided file (report_of (watched_end file).world) × Written (text_of_intents (watched_end file))))
+  done_intents command answer zero e =
+      let gave = answer Done zero in
+      let (text, due, out) = gave.such in
+      let ((file, said, decided, text_is), whole) = subst (λ c. Due c gave.bytes ahead left rose dealt Done text) e due in
+      record { bytes = gave.bytes; grown = gave.grown; such = ((whole refl).all, (whole refl).ended, (file, said, decided, subst Written text_is out)) }
+
+  refused_intents : (command : Option Command) → Answered command → result ≡ 3 → command ≡ Some Intents → Gave before now (λ input.
+      IfSome ahead (λ all. input ≡ all) × IsAtEnd left × ((text : List ℕ) × IsIntentsRefusal input text × Written text))
+  refused_intents command answer three e =
+      let gave = answer Refused three in
+      let (text, due, out) = gave.such in
+      let (refusal, whole) = subst (λ c. Due c gave.bytes ahead left rose dealt Refused text) e due in
+      record { bytes = gave.bytes; grown = gave.grown; such = ((whole refl).all, (whole refl).ended, (text, refusal, out)) }
 
   done_serve : (port connections : ℕ) (command : Option Command) → Answered command → result ≡ 0 → command ≡ Some (Serve port connections) → Gave before now (λ input.
       IfSome ahead (λ all. input ≡ all) × IsAtEnd left × AreBack dealt × ((text : List ℕ) × IsServed input connections dealt text × Written text))
@@ -184,6 +204,7 @@ module _ (before now : List ℕ) (ahead left : Option (List ℕ)) (rose nothing_
   refused_command (Some Replay) answer three = refl
   refused_command (Some Check) answer three = refl
   refused_command (Some Rerun) answer three = refl
+  refused_command (Some Intents) answer three = refl
   refused_command (Some (Generate number size)) answer three = absurd (answer Refused three).such.1.0
   refused_command (Some (Serve port connections)) answer three = refl
   refused_command (Some (Sync port)) answer three = refl
@@ -257,11 +278,20 @@ module _ (before now : List ℕ) (ahead left : Option (List ℕ)) (rose nothing_
       → (input : List ℕ) → IsInput before now ahead input → length input ≤ MOST_BYTES_READ → ¬ (SaysRun input) → (result ≡ 3) ⊎ (result ≡ 6)
   refused_rerun_only command exactly e read quiet input is short bad = exactly Refused input is (subst (λ c. MustAnswer c input nothing_failed dealt Refused) (sym e) (read, tt, (short, bad))) quiet
 
+  complete_intents : (command : Option Command) → Exactly command → command ≡ Some Intents → nothing_failed → still
+      → (input : List ℕ) → IsInput before now ahead input → length input ≤ MOST_BYTES_READ → IsOk (reading_intents input) → (result ≡ 0) ⊎ (result ≡ 6)
+  complete_intents command exactly e read quiet input is short good = exactly Done input is (subst (λ c. MustAnswer c input nothing_failed dealt Done) (sym e) (read, tt, (short, good, tt))) quiet
+
+  refused_intents_only : (command : Option Command) → Exactly command → command ≡ Some Intents → nothing_failed → still
+      → (input : List ℕ) → IsInput before now ahead input → length input ≤ MOST_BYTES_READ → ¬ (IsOk (reading_intents input)) → (result ≡ 3) ⊎ (result ≡ 6)
+  refused_intents_only command exactly e read quiet input is short bad = exactly Refused input is (subst (λ c. MustAnswer c input nothing_failed dealt Refused) (sym e) (read, tt, (short, bad))) quiet
+
   too_long_only : (command : Option Command) → Exactly command → reads command ≡ true → goes_out command ≡ false → nothing_failed → still
       → (input : List ℕ) → IsInput before now ahead input → MOST_BYTES_READ < length input → (result ≡ 11) ⊎ (result ≡ 6)
   too_long_only (Some Replay) exactly e apart read quiet input is long = exactly TooLong input is (read, tt, long) quiet
   too_long_only (Some Check) exactly e apart read quiet input is long = exactly TooLong input is (read, tt, long) quiet
   too_long_only (Some Rerun) exactly e apart read quiet input is long = exactly TooLong input is (read, tt, long) quiet
+  too_long_only (Some Intents) exactly e apart read quiet input is long = exactly TooLong input is (read, tt, long) quiet
   too_long_only (Some (Generate number size)) exactly e apart read quiet input is long = absurd cc
   too_long_only (Some Help) exactly e apart read quiet input is long = absurd cc
   too_long_only (Some Version) exactly e apart read quiet input is long = absurd cc

@@ -1,5 +1,5 @@
 -- What is due with a status, and which status there must be.
-use Rattle.std.proofs.Common.{◌≡◌, ◌≢◌, Bool, true, false, ap, ℕ, ◌++◌, ◌<◌, ◌≤◌, subst, List, length, Option, Some, None, Ok, IfSome, IsSomeAnd, ◌⊎◌, inl, inr, refl, ◌∙◌, sym, arith}
+use Rattle.std.proofs.Common.{◌≡◌, ◌≢◌, Bool, true, false, ap, ℕ, ◌++◌, ◌<◌, ◌≤◌, subst, List, length, Option, Some, None, Result, Ok, IfSome, IsSomeAnd, ◌⊎◌, inl, inr, refl, ◌∙◌, sym, arith}
 use Rattle.std.proofs.lemmas.Bool.Decides.{eqb_tells}
 use Rattle.std.proofs.lemmas.List.{append_cancel_left}
 use Rattle.std.specs.Bool.{MatchBool}
@@ -16,6 +16,7 @@ use Rattle.cmd_report.specs.Reports.{ReportView}
 use Rattle.cmd_schedule.specs.Kinds.{IsSchedule, schedule_text}
 use Rattle.cmd_schedule.specs.WireGrammar.{IsWireSchedule}
 use Rattle.cmd_schedule.specs.declared.schedule.Schedule.{Schedule}
+use Rattle.cmd_intents.specs.Files.{reading_intents}
 use Rattle.cmd_sync.specs.ScriptReading.{script_reading}
 use Rattle.cmd_sync.specs.Scripts.{ScriptView}
 use Rattle.net_hub.specs.Served.{HasServed}
@@ -27,7 +28,7 @@ use Rattle.cmd_run.specs.Dealings.{Dealings, DoorView}
 use Rattle.cmd_run.specs.Words.{reads}
 use Rattle.cmd_run.specs.Table.{code_of, Accepts, HasLinkFailed, HasPeerFailed, HasNoWorker, HasEntropyFailed, IsBlameless, IsQuiet, SaysAccounts, IsAnswer, IsDone, IsInput, IsReadWhole, IsRefused, IsReportOf, IsTooLong, IsWireReport, Due, IsDueOf, MustAnswer, MustEnd, generated_summary}
 use Rattle.cmd_run.specs.declared.command.Command.{Command}
-use Rattle.cmd_run.specs.declared.command.Command.TheVariants.{Help, Version, Replay, Check, Rerun, Generate, Serve, Sync}
+use Rattle.cmd_run.specs.declared.command.Command.TheVariants.{Help, Version, Replay, Check, Rerun, Intents, Generate, Serve, Sync}
 use Rattle.cmd_run.specs.declared.outcome.Outcome.{Outcome}
 use Rattle.cmd_run.specs.declared.outcome.Outcome.TheVariants.{Done, WrongWords, Refused, ReadFault, LinkFault, PeerFault, NoWorker, EntropyFault, TooLong}
 
@@ -132,6 +133,9 @@ served_accepted connections input dealt None new text served = absurd served
 served_accepted connections input dealt (Some o) None text served = absurd served
 served_accepted connections input dealt (Some o) (Some n) text served = let is = served.such in (is.file, is.right, is.whole)
 
+file_read : {A E : Type 0} (read : Result A E) (file : A) → read ≡ Ok file → IsOk read
+file_read read file is = rw is refl
+
 begun_accepted : (input : List ℕ) (x : ScriptView) → script_reading input ≡ Ok x → IsOk (script_reading input)
 begun_accepted input x said = rw said refl
 
@@ -141,6 +145,7 @@ done_accepted Version input dealt text done = tt
 done_accepted Replay input dealt text (schedule, report, is, spelled, of, due) = (schedule, is, spelled)
 done_accepted Check input dealt text (sound, due, of) = sound
 done_accepted Rerun input dealt text (run, says, due) = (run, says)
+done_accepted Intents input dealt text (file, said, decided, due) = file_read (reading_intents input) file said
 done_accepted (Generate number size) input dealt text done = tt
 done_accepted (Serve port connections) input dealt text served = served_accepted connections input dealt dealt.before.door dealt.following.door text served.1
 done_accepted (Sync port) input dealt text synced = begun_accepted input synced.begins.script synced.begins.said
@@ -152,6 +157,7 @@ refused_not_accepted Replay input text dealt (line, reason, why, due) accepts = 
 refused_not_accepted Check input text dealt (unsound, due, of) accepts =
     let both : true ≡ false = sym accepts ∙ unsound in cc
 refused_not_accepted Rerun input text dealt (line, reason, why, due) accepts = why.1 accepts
+refused_not_accepted Intents input text dealt (line, reason, why, due) accepts = let both : false ≡ true = sym (ap (λ r. is_ok r) why) ∙ accepts in cc
 refused_not_accepted (Generate number size) input text dealt refused accepts = refused
 refused_not_accepted (Serve port connections) input text dealt (back, (line, reason, why, due)) accepts = why.1 accepts
 refused_not_accepted (Sync port) input text dealt (line, reason, why, due) accepts = let both : false ≡ true = sym (ap (λ r. is_ok r) why) ∙ accepts in cc
@@ -169,6 +175,7 @@ quiet_link Version input dealt quiet failed = failed
 quiet_link Replay input dealt quiet failed = failed
 quiet_link Check input dealt quiet failed = failed
 quiet_link Rerun input dealt quiet failed = failed
+quiet_link Intents input dealt quiet failed = failed
 quiet_link (Generate number size) input dealt quiet failed = failed
 quiet_link (Serve port connections) input dealt quiet failed = door_not_quiet connections dealt dealt.before.door dealt.following.door quiet.0 failed.1
 quiet_link (Sync port) input dealt quiet stopped = link_not_quiet stopped.start dealt.before.dialer dealt.following.dialer quiet.0.faults quiet.0.ends stopped.untold
@@ -179,6 +186,7 @@ quiet_worker Version dealt quiet failed = failed
 quiet_worker Replay dealt quiet failed = failed
 quiet_worker Check dealt quiet failed = failed
 quiet_worker Rerun dealt quiet failed = failed
+quiet_worker Intents dealt quiet failed = failed
 quiet_worker (Generate number size) dealt quiet failed = failed
 quiet_worker (Serve port connections) dealt quiet failed = not_risen _ _ quiet.2 failed
 quiet_worker (Sync port) dealt quiet failed = failed
@@ -189,6 +197,7 @@ quiet_entropy Version dealt quiet failed = failed
 quiet_entropy Replay dealt quiet failed = failed
 quiet_entropy Check dealt quiet failed = failed
 quiet_entropy Rerun dealt quiet failed = failed
+quiet_entropy Intents dealt quiet failed = failed
 quiet_entropy (Generate number size) dealt quiet failed = failed
 quiet_entropy (Serve port connections) dealt quiet failed = not_risen _ _ quiet.1 failed
 quiet_entropy (Sync port) dealt quiet failed = not_risen _ _ quiet.1 failed
@@ -200,6 +209,7 @@ no_peer Version input dealt text blameless failed = failed
 no_peer Replay input dealt text blameless failed = failed
 no_peer Check input dealt text blameless failed = failed
 no_peer Rerun input dealt text blameless failed = failed
+no_peer Intents input dealt text blameless failed = failed
 no_peer (Generate number size) input dealt text blameless failed = failed
 no_peer (Serve port connections) input dealt text blameless failed = failed
 no_peer (Sync port) input dealt text blameless (failure, stopped, due) = blameless failure stopped
@@ -211,6 +221,7 @@ peer_accepted Version input dealt text failed = absurd failed
 peer_accepted Replay input dealt text failed = absurd failed
 peer_accepted Check input dealt text failed = absurd failed
 peer_accepted Rerun input dealt text failed = absurd failed
+peer_accepted Intents input dealt text failed = absurd failed
 peer_accepted (Generate number size) input dealt text failed = absurd failed
 peer_accepted (Serve port connections) input dealt text failed = absurd failed
 peer_accepted (Sync port) input dealt text (failure, stopped, due) = begun_accepted input stopped.begins.script stopped.begins.said
@@ -224,6 +235,7 @@ unread_done Version input ahead left rose dealt Refused text e due = absurd due.
 unread_done Replay input ahead left rose dealt Refused text e due = absurd (cc)
 unread_done Check input ahead left rose dealt Refused text e due = absurd (cc)
 unread_done Rerun input ahead left rose dealt Refused text e due = absurd (cc)
+unread_done Intents input ahead left rose dealt Refused text e due = absurd (cc)
 unread_done (Generate number size) input ahead left rose dealt Refused text e due = absurd due.0
 unread_done (Serve port connections) input ahead left rose dealt Refused text e due = absurd (cc)
 unread_done (Sync port) input ahead left rose dealt Refused text e due = absurd (cc)

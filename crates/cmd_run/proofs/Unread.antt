@@ -4,7 +4,7 @@ use Rattle.cmd_run.specs.Dealings.{Dealings}
 use Rattle.cmd_run.specs.Words.{reads}
 use Rattle.cmd_run.specs.Table.{HasLinkFailed, HasPeerFailed, HasNoWorker, HasEntropyFailed}
 use Rattle.cmd_run.specs.declared.command.Command.{Command}
-use Rattle.cmd_run.specs.declared.command.Command.TheVariants.{Help, Version, Replay, Check, Rerun, Generate, Serve, Sync}
+use Rattle.cmd_run.specs.declared.command.Command.TheVariants.{Help, Version, Replay, Check, Rerun, Intents, Generate, Serve, Sync}
 
 pub unread_link : (command : Command) (input : List ℕ) (dealt : Dealings) → reads (Some command) ≡ false → ¬ (HasLinkFailed command input dealt)
 unread_link Help input dealt e failed = failed
@@ -12,6 +12,7 @@ unread_link Version input dealt e failed = failed
 unread_link Replay input dealt e failed = failed
 unread_link Check input dealt e failed = failed
 unread_link Rerun input dealt e failed = failed
+unread_link Intents input dealt e failed = failed
 unread_link (Generate number size) input dealt e failed = failed
 unread_link (Serve port connections) input dealt e failed = cc
 unread_link (Sync port) input dealt e failed = cc
@@ -22,6 +23,7 @@ unread_peer Version input dealt text e failed = failed
 unread_peer Replay input dealt text e failed = failed
 unread_peer Check input dealt text e failed = failed
 unread_peer Rerun input dealt text e failed = failed
+unread_peer Intents input dealt text e failed = failed
 unread_peer (Generate number size) input dealt text e failed = failed
 unread_peer (Serve port connections) input dealt text e failed = failed
 unread_peer (Sync port) input dealt text e failed = cc
@@ -32,6 +34,7 @@ unread_worker Version dealt e failed = failed
 unread_worker Replay dealt e failed = failed
 unread_worker Check dealt e failed = failed
 unread_worker Rerun dealt e failed = failed
+unread_worker Intents dealt e failed = failed
 unread_worker (Generate number size) dealt e failed = failed
 unread_worker (Serve port connections) dealt e failed = cc
 unread_worker (Sync port) dealt e failed = failed
@@ -42,6 +45,7 @@ unread_entropy Version dealt e failed = failed
 unread_entropy Replay dealt e failed = failed
 unread_entropy Check dealt e failed = failed
 unread_entropy Rerun dealt e failed = failed
+unread_entropy Intents dealt e failed = failed
 unread_entropy (Generate number size) dealt e failed = failed
 unread_entropy (Serve port connections) dealt e failed = cc
 unread_entropy (Sync port) dealt e failed = cc

@@ -26,5 +26,6 @@ pub use Rattle.cmd_world.specs.WorldReports
 pub mod Words
 pub mod Dealings
 pub mod Texts
+pub mod Tries
 pub mod Table
 pub mod Tellings

@@ -1,5 +1,5 @@
 -- When each answer comes, and the text that is due with it.
-use Rattle.std.specs.Prelude.{◌≡◌, ◌≢◌, ◌⊎◌, ◌++◌, ℕ, ◌<◌, ◌≤◌, ◌==◌, Bool, true, false, ◌||◌, List, length, map, Option, Some, None, Err, IfSome, IsOk, IsSomeAnd}
+use Rattle.std.specs.Prelude.{◌≡◌, ◌≢◌, ◌⊎◌, ◌++◌, ℕ, ◌<◌, ◌≤◌, ◌==◌, Bool, true, false, ◌||◌, List, length, map, Option, Some, None, Ok, Err, IfSome, IsOk, IsSomeAnd}
 use Rattle.std.specs.Bool.{MatchBool}
 use Rattle.std.specs.Io.KnownBytes.{IsAtEnd}
 use Rattle.xml_check.specs.Checked.{told}
@@ -40,11 +40,15 @@ use Rattle.cmd_schedule.specs.declared.schedule.Schedule.{Schedule}
 use Rattle.cmd_schedule.specs.declared.schedule.Schedule.TheVariants.{Direct, Wire}
 use Rattle.cmd_world.specs.Histories.{history_of, world_of}
 use Rattle.cmd_world.specs.WorldReports.{report_of}
+use Rattle.cmd_intents.specs.Files.{FileView, IsIntentFile, reading_intents}
+use Rattle.cmd_resolving.specs.Expansion.{as_schedule, watched_end}
+use Rattle.cmd_deciding.specs.Texts.{text_of_intents}
 use Rattle.cmd_run.specs.Dealings.{AreBack, Dealings, IsQuietDialer, IsQuietDoor}
 use Rattle.cmd_run.specs.Texts.{words_line, read_fault_line, too_long_line, bad_line, link_fault_line, no_worker_line, entropy_fault_line, peer_line}
+use Rattle.cmd_run.specs.Tries.{AreTriedRight}
 use Rattle.cmd_run.specs.Words.{reads}
 use Rattle.cmd_run.specs.declared.command.Command.{Command}
-use Rattle.cmd_run.specs.declared.command.Command.TheVariants.{Help, Version, Replay, Check, Rerun, Generate, Serve, Sync}
+use Rattle.cmd_run.specs.declared.command.Command.TheVariants.{Help, Version, Replay, Check, Rerun, Intents, Generate, Serve, Sync}
 use Rattle.cmd_run.specs.declared.outcome.Outcome.{Outcome}
 use Rattle.cmd_run.specs.declared.outcome.Outcome.TheVariants.{Done, WrongWords, Refused, ReadFault, LinkFault, PeerFault, NoWorker, EntropyFault, TooLong}
 use Rattle.cmd_run.specs.declared.texts.TheConstants.{HELP, VERSION}
@@ -114,6 +118,25 @@ IsRerunRefusal input text =
     (line : ℕ) × (reason : LineWhy) × ((rerun_reading input ≡ Err (inputs.BadLine line reason)) × ¬ (SaysRun input))
     × (text ≡ bad_line line reason)
 
+-- What a file of intents comes to: the report is that of the world to which the lines lead that it stands for, and keeps the
+-- five laws of version 2, as that of a schedule does; and its intents are tried right.
+pub record IsDecided (file : FileView) (report : ReportView) : Type 0 where
+  pub right : IsIntentFile file
+  pub of : IsWireReport (as_schedule file) report
+  pub tries : AreTriedRight file
+
+-- The text is what one file of intents comes to, its report and what became of its intents, and the input is that file's text.
+abbrev pub IsResolved : List ℕ → List ℕ → Type 0
+IsResolved input text =
+    (file : FileView) × (reading_intents input ≡ Ok file) × IsDecided file (report_of (watched_end file).world)
+    × (text ≡ text_of_intents (watched_end file))
+
+-- The text names the first bad line of the input and its reason, and the input is no file of intents.
+abbrev pub IsIntentsRefusal : List ℕ → List ℕ → Type 0
+IsIntentsRefusal input text =
+    (line : ℕ) × (reason : LineWhy) × (reading_intents input ≡ Err (BadLine line reason))
+    × (text ≡ bad_line line reason)
+
 -- the summary of the report of the schedule that a number makes, with so many drawn lines
 abbrev pub generated_summary : ℕ → ℕ → List ℕ
 generated_summary number size = let schedule = generated number size in summary_of schedule (report_of (world_of schedule))
@@ -165,6 +188,7 @@ IsDone Version input dealt text = text ≡ VERSION.now
 IsDone Replay input dealt text = IsReplayed input text
 IsDone Check input dealt text = IsChecked true input text
 IsDone Rerun input dealt text = IsRerun input text
+IsDone Intents input dealt text = IsResolved input text
 IsDone (Generate number size) input dealt text = (text ≡ generated_summary number size) × IsSummedUp number size text
 IsDone (Serve port connections) input dealt text = AreBack dealt × IsServed input connections dealt text
 IsDone (Sync port) input dealt text = HasSynced input dealt text
@@ -174,6 +198,7 @@ abbrev pub IsRefused : Command → List ℕ → Dealings → List ℕ → Type 0
 IsRefused Replay input dealt text = IsRefusal input text
 IsRefused Check input dealt text = IsChecked false input text
 IsRefused Rerun input dealt text = IsRerunRefusal input text
+IsRefused Intents input dealt text = IsIntentsRefusal input text
 IsRefused (Serve port connections) input dealt text = AreBack dealt × IsAccountsRefusal input text
 IsRefused (Sync port) input dealt text = IsScriptRefusal input text
 IsRefused command input dealt text = ⊥
@@ -183,6 +208,7 @@ abbrev pub Accepts : Command → List ℕ → Type 0
 Accepts Replay input = InGrammar input
 Accepts Check input = (told input).sound ≡ true
 Accepts Rerun input = SaysRun input
+Accepts Intents input = IsOk (reading_intents input)
 Accepts (Serve port connections) input = SaysAccounts input
 Accepts (Sync port) input = IsOk (script_reading input)
 Accepts command input = Unit {0}

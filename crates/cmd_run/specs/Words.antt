@@ -5,7 +5,7 @@ use Rattle.cmd_generate.specs.declared.generated.TheConstants.{MOST_SIZE}
 use Rattle.cmd_schedule.specs.Reading.{number_within}
 use Rattle.cmd_schedule.specs.declared.fault.LineWhy.{LineWhy}
 use Rattle.cmd_run.specs.declared.command.Command.{Command}
-use Rattle.cmd_run.specs.declared.command.Command.TheVariants.{Help, Version, Replay, Check, Rerun, Generate, Serve, Sync}
+use Rattle.cmd_run.specs.declared.command.Command.TheVariants.{Help, Version, Replay, Check, Rerun, Intents, Generate, Serve, Sync}
 
 abbrev pub number_of : Result ℕ LineWhy → Option ℕ
 number_of (Ok n) = Some n
@@ -39,7 +39,8 @@ of_one word =
     else (if bytes_eq word (codes "replay") then Some Replay
     else (if bytes_eq word (codes "check") then Some Check
     else (if bytes_eq word (codes "rerun") then Some Rerun
-    else None))))
+    else (if bytes_eq word (codes "intents") then Some Intents
+    else None)))))
 
 abbrev pub syncing : Option ℕ → Option Command
 syncing (Some port) = Some (Sync port)
@@ -76,6 +77,7 @@ abbrev pub reads : Option Command → Bool
 reads (Some Replay) = true
 reads (Some Check) = true
 reads (Some Rerun) = true
+reads (Some Intents) = true
 reads (Some (Serve port connections)) = true
 reads (Some (Sync port)) = true
 reads command = false

@@ -16,12 +16,13 @@ ghost use Rattle.cmd_world.specs.WorldReports.{report_of};
 
 use crate::answer::{Answer, said};
 use crate::command::Command;
-use crate::laws::wire_reports_are_of_their_worlds;
+use crate::laws::{files_are_decided, wire_reports_are_of_their_worlds};
 use crate::outcome::Outcome;
 use crate::outside::Outside;
 use crate::surroundings::{Surroundings, serve, synchronise};
 use crate::texts::{HELP, READ_FAULT_LINE, TOO_LONG_LINE, VERSION, WORDS_LINE, refusal};
 use base_io::{Bytes, NoMemory, ReadAllFault, Source, read_all};
+use cmd_deciding::resolved_bytes;
 use cmd_direct::direct_is_lawful;
 use cmd_generate::{generate, summary_text};
 use cmd_journal::InputFault;
@@ -116,6 +117,26 @@ fn reran(alloc: Global, input: Bytes) -> Result<Answer, NoMemory>
     }
 }
 
+/// What comes of the file of intents whose text this is, or the refusal of the text. The law is called for its fact, that the
+/// report keeps the laws of a schedule's, and that its intents are tried right.
+#[tactic(auto, using(crate::proofs::Decided::resolved_so, crate::proofs::Decided::refused_so))]
+fn resolved(alloc: Global, input: Bytes) -> Result<Answer, NoMemory>
+    ensures { IfOk result (λ answer. (dealt : Dealings) → IsAnswer Command.Intents input.items dealt answer.outcome answer.text.items) }
+{
+    files_are_decided();
+    match resolved_bytes(alloc, input) {
+        Ok(text) => Ok(Answer {
+            outcome: Outcome::Done,
+            text,
+        }),
+        Err(ScheduleFault::BadLine { line, why }) => Ok(Answer {
+            outcome: Outcome::Refused,
+            text: refusal(alloc, line, why)?,
+        }),
+        Err(ScheduleFault::NoMemory) => Err(NoMemory),
+    }
+}
+
 /// The summary of the report of a schedule. The laws are called for their facts about that report.
 fn summary(alloc: Global, schedule: &WireSchedule) -> Result<Bytes, NoMemory>
     requires { IsWireSchedule schedule.now }
@@ -180,6 +201,7 @@ where
         Command::Replay => replayed(alloc, input),
         Command::Check => checked(alloc, input.as_slice()),
         Command::Rerun => reran(alloc, input),
+        Command::Intents => resolved(alloc, input),
         Command::Generate { number, size } => summed_up(alloc, number, size),
         Command::Serve { port, connections } => {
             serve(rt, alloc, port, connections, input.as_slice(), outside)

@@ -20,6 +20,8 @@ pub enum Command {
     Check,
     /// What the server of a journal that is read puts out, done again.
     Rerun,
+    /// The report of the file of intents that is read, and what became of its intents.
+    Intents,
     /// The summary of the report of the schedule that a number makes, with so many drawn lines.
     Generate { number: u64, size: u32 },
     /// The journal of a server of the accounts that are read, which serves so many connections to a port.
@@ -56,6 +58,7 @@ fn of_one(word: &str) -> Option<Command>
         "replay" => Some(Command::Replay),
         "check" => Some(Command::Check),
         "rerun" => Some(Command::Rerun),
+        "intents" => Some(Command::Intents),
         _ => None,
     }
 }
@@ -122,6 +125,7 @@ impl Command {
             Command::Replay
             | Command::Check
             | Command::Rerun
+            | Command::Intents
             | Command::Serve { .. }
             | Command::Sync { .. } => true,
         }

@@ -94,7 +94,7 @@ where
 /// |---|---|---|
 /// | 0 | where it was done | the text asked for |
 /// | 2 | exactly where the words are not in the table | `words` |
-/// | 3 | exactly where the input, read to its end, is not the text of a schedule, of `rerun` of accounts and a journal, of `serve` of accounts, of `sync` of a script, or of `check` something is wrong with the stream | its first bad line, and the reason; of `check` what is told of the stream |
+/// | 3 | exactly where the input, read to its end, is not the text of a schedule, of `intents` of a file of intents, of `rerun` of accounts and a journal, of `serve` of accounts, of `sync` of a script, or of `check` something is wrong with the stream | its first bad line, and the reason; of `check` what is told of the stream |
 /// | 4 | only where a read failed | `read fault` |
 /// | 5 | exactly where a write failed | a prefix of what was due |
 /// | 6 | where memory ran out | nothing |
@@ -106,7 +106,8 @@ where
 ///
 /// At status 0 of `replay` the report is that of the schedule's run, direct or over connections, and keeps the five laws of
 /// its version: no message is lost or doubled within what they say, and each device's log is of its account's history. So
-/// does the report that `generate` sums up. What `check` tells, at 0 and 3, is what the grammar of streams says.
+/// does the report that `generate` sums up, and that of `intents`, in which moreover of all tries of a message that is an intent
+/// one at most was taken. What `check` tells, at 0 and 3, is what the grammar of streams says.
 ///
 /// Each "exactly" yields to want of memory, and to what comes before it in the order words, read, length, grammar,
 /// write. Clauses speak of what the source's calls gave, and of what the sink's took where it tells that, as `StdSink` does.

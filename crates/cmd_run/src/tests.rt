@@ -103,6 +103,25 @@ account alice 0
 end
 ";
 
+const INTENTS: &str = "\
+xmpp-intents 1 5
+account bob
+device pad bob
+intent pad bob hi
+";
+
+// The device has no session, so its client refuses the message.
+const DECIDED: &str = "\
+xmpp-report 2 wire 5
+account bob 0 0
+device pad bob 0 no
+refused 4 NotBound
+end
+intents 1
+intent pad 1 fresh bob hi
+end
+";
+
 const SCRIPT: &str = "\
 xmpp-sync 1
 account alice@chat.example pw-alice phone
@@ -110,7 +129,7 @@ account alice@chat.example pw-alice phone
 
 // The words, the input, the reading that fails and the writing that fails, from 1 or 0 for none, the status, and what is
 // written.
-static CALLS: [(&str, &str, u64, u64, u8, &str); 18] = [
+static CALLS: [(&str, &str, u64, u64, u8, &str); 20] = [
     ("replay", SCHEDULE, 0, 0, 0, REPORT),
     (
         "replay",
@@ -132,6 +151,15 @@ static CALLS: [(&str, &str, u64, u64, u8, &str); 18] = [
         "xmpp-report 1 direct\ntake phone 1 1 bob\ntake desk 1 1 alice\ntake phone 1 2 alice\naccount alice 3\nentry 0000000000000001 0 alice@",
     ),
     ("rerun", RUN, 0, 0, 0, RUN_AGAIN),
+    ("intents", INTENTS, 0, 0, 0, DECIDED),
+    (
+        "intents",
+        "xmpp-schedule 2 wire 1\n",
+        0,
+        0,
+        3,
+        "line 1 Header\n",
+    ),
     ("check", "<a", 0, 1, 5, ""),
     ("generate 7 0", "", 1, 0, 0, SUMMARY),
     ("generate 7 10001", "", 1, 0, 2, "words\n"),

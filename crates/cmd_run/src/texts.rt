@@ -35,7 +35,7 @@ pub const VERSION: &str = "xmpp 1\n";
 
 /// How the program is called, in one line.
 pub const USAGE: &str =
-    "usage: xmpp --help | --version | replay | check | rerun | generate NUMBER SIZE | serve PORT N | sync PORT";
+    "usage: xmpp --help | --version | replay | check | rerun | intents | generate NUMBER SIZE | serve PORT N | sync PORT";
 
 /// How the program is called, and what it answers.
 pub const HELP: &str = "\
@@ -44,6 +44,8 @@ xmpp --version  writes the name and the version
 xmpp replay     reads a schedule from standard input and writes its report
 xmpp check      reads one direction of a stream from standard input and writes its items
 xmpp rerun      reads accounts and a server's journal from standard input, does again what the server did, and writes it
+xmpp intents    reads a schedule in which some messages are intents from standard input, and writes its report and what
+                became of each intent
 xmpp generate NUMBER SIZE
                 makes a schedule of NUMBER (0 to 18446744073709551615) with SIZE drawn lines (0 to 10000), runs it, and
                 writes the summary of its report
