@@ -4,6 +4,10 @@
 #[cfg(test)]
 mod generated;
 #[cfg(test)]
+mod intent_files;
+#[cfg(test)]
+mod intent_runs;
+#[cfg(test)]
 mod journal_texts;
 #[cfg(test)]
 mod journals;

@@ -10,7 +10,7 @@ use std::process::Abort;
 
 // What the user does, or that the server sends something.
 #[derive(Clone, Copy)]
-enum Step {
+pub(crate) enum Step {
     Dial,
     Server,
     Say,
@@ -19,8 +19,8 @@ enum Step {
     Close,
 }
 
-// A session, step by step, each with the text that is sent or submitted.
-static SESSION: [(Step, &str); 25] = [
+// A login, step by step, each with the text that is sent.
+pub(crate) static LOGIN: [(Step, &str); 10] = [
     (Step::Dial, ""),
     (
         Step::Server,
@@ -55,6 +55,10 @@ static SESSION: [(Step, &str); 25] = [
         "<enabled xmlns='urn:xmpp:sm:3' id='0000000000000001' max='300' resume='true'/>",
     ),
     (Step::Server, "<a xmlns='urn:xmpp:sm:3' h='2'/>"),
+];
+
+// The session after it, each step with the text that is sent or submitted.
+static SESSION: [(Step, &str); 15] = [
     (Step::Say, "hi"),
     (Step::Gone, ""),
     (Step::Dial, ""),
@@ -138,16 +142,17 @@ fn is_done(
     }
 }
 
-// Whether all steps are done.
-fn are_done(
+// Whether all these steps are done.
+pub(crate) fn are_done(
     alloc: Global,
     client: &mut Client,
+    steps: &[(Step, &str)],
     to: &Jid,
     size: usize,
     out: &mut ClientOut,
 ) -> bool {
-    for step in SESSION {
-        if !is_done(alloc, client, step, to, size, out) {
+    for step in steps {
+        if !is_done(alloc, client, *step, to, size, out) {
             return false;
         }
     }
@@ -182,16 +187,18 @@ fn goes_well(alloc: Global, client: &mut Client, to: &Jid, size: usize, put: &st
         bytes: Bytes::new(alloc),
         events: ListOf::new(alloc),
     };
-    let goes_well = are_done(alloc, client, to, size, &mut out) && is_right(client, &out, put);
+    let goes_well = are_done(alloc, client, &LOGIN, to, size, &mut out)
+        && are_done(alloc, client, &SESSION, to, size, &mut out)
+        && is_right(client, &out, put);
     drop(out);
     goes_well
 }
 
-fn address(rt: &impl Abort, alloc: Global, text: &str) -> Jid {
+pub(crate) fn address(rt: &impl Abort, alloc: Global, text: &str) -> Jid {
     Jid::parse(alloc, text).expect(rt, "an address")
 }
 
-fn client_of(rt: &impl Abort, alloc: Global, address: &Jid) -> Client {
+pub(crate) fn client_of(rt: &impl Abort, alloc: Global, address: &Jid) -> Client {
     match Client::new(alloc, address, "pw-alice", "phone") {
         Ok(client) => client,
         Err(_) => panic!(rt; "no client"),

@@ -6,6 +6,8 @@ mod client_sessions;
 #[cfg(test)]
 mod ends;
 #[cfg(test)]
+mod intents;
+#[cfg(test)]
 mod live_sessions;
 #[cfg(test)]
 mod outboxes;
