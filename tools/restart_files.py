@@ -22,7 +22,4 @@ def good_file(number):
 
 def file(number):
     """The bytes of the file of that number: one in eight has something in it that may not be."""
-    draw = random.Random(f"file {number}")
-    good = good_file(number)
-    lines = schedules.spoilt(draw, good) if draw.random() < 0.125 else good
-    return ("\n".join(lines) + "\n").encode()
+    return schedules.perhaps_spoilt(number, good_file(number))

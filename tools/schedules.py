@@ -233,6 +233,13 @@ def direct_schedule(number):
     return ("\n".join([lines[0].replace("wire", "direct"), *both]) + "\n").encode()
 
 
+def perhaps_spoilt(number, good):
+    """The bytes of these lines: of one number in eight with something in them that may not be."""
+    draw = random.Random(f"file {number}")
+    lines = spoilt(draw, good) if draw.random() < 0.125 else good
+    return ("\n".join(lines) + "\n").encode()
+
+
 def schedule(number):
     """The bytes of the schedule of that number: one in eight has something in it that may not be."""
     draw = random.Random(number)

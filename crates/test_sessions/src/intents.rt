@@ -13,11 +13,11 @@ static PAGE: [(Step, &str); 4] = [
     (Step::CatchUp, ""),
     (
         Step::Server,
-        "<message to='alice@chat.example/phone'><result xmlns='urn:xmpp:mam:2' id='0000000000000001' queryid='q1'><forwarded xmlns='urn:xmpp:forward:0'><delay xmlns='urn:xmpp:delay' stamp='1970-01-01T00:00:00.000Z'/><message xmlns='jabber:client' from='alice@chat.example/phone' id='phone.1.1' to='bob@chat.example' type='chat'><body>hi</body></message></forwarded></result></message>",
+        "<message to='alice@chat.example/phone'><result xmlns='urn:xmpp:mam:2' id='0000000000000001' queryid='q1'><forwarded xmlns='urn:xmpp:forward:0'><delay xmlns='urn:xmpp:delay' stamp='1970-01-01T00:00:00.000Z'/><message xmlns='jabber:client' from='alice@chat.example/phone' id='phone.1.1' to='bob@chat.example' type='chat'><body>hi</body><origin-id xmlns='urn:xmpp:sid:0' id='phone.1.1'/></message></forwarded></result></message>",
     ),
     (
         Step::Server,
-        "<message to='alice@chat.example/phone'><result xmlns='urn:xmpp:mam:2' id='0000000000000002' queryid='q1'><forwarded xmlns='urn:xmpp:forward:0'><delay xmlns='urn:xmpp:delay' stamp='1970-01-01T00:00:00.000Z'/><message xmlns='jabber:client' from='bob@chat.example/phone' id='phone.1.2' to='alice@chat.example' type='chat'><body>hi</body></message></forwarded></result></message>",
+        "<message to='alice@chat.example/phone'><result xmlns='urn:xmpp:mam:2' id='0000000000000002' queryid='q1'><forwarded xmlns='urn:xmpp:forward:0'><delay xmlns='urn:xmpp:delay' stamp='1970-01-01T00:00:00.000Z'/><message xmlns='jabber:client' from='bob@chat.example/phone' id='phone.1.2' to='alice@chat.example' type='chat'><body>hi</body><origin-id xmlns='urn:xmpp:sid:0' id='phone.1.2'/></message></forwarded></result></message>",
     ),
     (
         Step::Server,
