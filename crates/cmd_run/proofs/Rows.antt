@@ -18,11 +18,13 @@ use Rattle.cmd_resolving.specs.Expansion.{watched_end}
 use Rattle.cmd_deciding.specs.Texts.{text_of_intents}
 use Rattle.cmd_world.specs.WorldReports.{report_of}
 use Rattle.cmd_sync.specs.ScriptReading.{script_reading}
+use Rattle.cmd_sync.specs.declared.failure.LinkFailure.{LinkFailure}
 use Rattle.cmd_sync.specs.declared.failure.PeerFailure.{PeerFailure}
 use Rattle.cmd_sync.specs.declared.sync_fault.SyncFault.TheVariants as syncs
 use Rattle.base_io.specs.Counts.{Rose, Quiet}
 use Rattle.base_io.specs.Given.{Gave}
-use Rattle.cmd_run.specs.Dealings.{AreBack, Dealings, IsQuietDialer, IsQuietDoor}
+use Rattle.cmd_run.specs.Dealings.{AreBack, Dealings, HasTold, IsQuietDialer, IsQuietDoor}
+use Rattle.cmd_run.specs.declared.cause.Cause.TheVariants.{Door, Link, Peer}
 use Rattle.cmd_run.specs.Words.{goes_out, reads}
 use Rattle.cmd_run.specs.Table.{code_of, is_status, Due, HasDoorFailed, HasSynced, IsAccountsRefusal, IsDecided, IsInput, IsIntentsRefusal, IsRefusal, IsScriptRefusal, IsServed, IsStopped, IsTooLong, MustAnswer, SaysAccounts}
 use Rattle.cmd_run.specs.declared.command.Command.{Command}
@@ -148,15 +150,15 @@ module _ (before now : List ℕ) (ahead left : Option (List ℕ)) (rose nothing_
 
   -- 7 is of `serve` and `sync` alone
   link_serve : (port connections : ℕ) (command : Option Command) → Answered command → result ≡ 7 → command ≡ Some (Serve port connections)
-      → AreBack dealt × HasDoorFailed connections dealt × Written link_fault_line
+      → AreBack dealt × HasDoorFailed connections dealt × HasTold Door dealt × Written link_fault_line
   link_serve port connections command answer seven e =
       let gave = answer LinkFault seven in
       let (text, due, out) = gave.such in
-      let ((back, failed), text_is) = (subst (λ c. Due c gave.bytes ahead left rose dealt LinkFault text) e due).0 in
-      (back, failed, subst Written text_is out)
+      let ((back, failed, cause), text_is) = (subst (λ c. Due c gave.bytes ahead left rose dealt LinkFault text) e due).0 in
+      (back, failed, cause, subst Written text_is out)
 
   link_sync : (port : ℕ) (command : Option Command) → Answered command → result ≡ 7 → command ≡ Some (Sync port) → Gave before now (λ input.
-      IfSome ahead (λ all. input ≡ all) × IsAtEnd left × IsStopped input dealt syncs.Link × Written link_fault_line)
+      IfSome ahead (λ all. input ≡ all) × IsAtEnd left × ((failure : LinkFailure) × IsStopped input dealt (syncs.Link failure) × HasTold (Link failure) dealt) × Written link_fault_line)
   link_sync port command answer seven e =
       let gave = answer LinkFault seven in
       let (text, due, out) = gave.such in
@@ -165,12 +167,12 @@ module _ (before now : List ℕ) (ahead left : Option (List ℕ)) (rose nothing_
 
   -- 8 is of `sync` alone
   peer_sync : (port : ℕ) (command : Option Command) → Answered command → result ≡ 8 → command ≡ Some (Sync port) → Gave before now (λ input.
-      IfSome ahead (λ all. input ≡ all) × IsAtEnd left × ((failure : PeerFailure) × IsStopped input dealt (syncs.Peer failure) × Written (peer_line failure)))
+      IfSome ahead (λ all. input ≡ all) × IsAtEnd left × ((failure : PeerFailure) × IsStopped input dealt (syncs.Peer failure) × HasTold (Peer failure) dealt × Written (peer_line failure)))
   peer_sync port command answer eight e =
       let gave = answer PeerFault eight in
       let (text, due, out) = gave.such in
-      let ((failure, stopped, text_is), whole) = subst (λ c. Due c gave.bytes ahead left rose dealt PeerFault text) e due in
-      record { bytes = gave.bytes; grown = gave.grown; such = ((whole refl).all, (whole refl).ended, (failure, stopped, subst Written text_is out)) }
+      let ((failure, stopped, text_is, cause), whole) = subst (λ c. Due c gave.bytes ahead left rose dealt PeerFault text) e due in
+      record { bytes = gave.bytes; grown = gave.grown; such = ((whole refl).all, (whole refl).ended, (failure, stopped, cause, subst Written text_is out)) }
 
   -- 9 is of `serve` alone
   worker_serve : (port connections : ℕ) (command : Option Command) → Answered command → result ≡ 9 → command ≡ Some (Serve port connections)

@@ -178,7 +178,7 @@ quiet_link Rerun input dealt quiet failed = failed
 quiet_link Intents input dealt quiet failed = failed
 quiet_link (Generate number size) input dealt quiet failed = failed
 quiet_link (Serve port connections) input dealt quiet failed = door_not_quiet connections dealt dealt.before.door dealt.following.door quiet.0 failed.1
-quiet_link (Sync port) input dealt quiet stopped = link_not_quiet stopped.start dealt.before.dialer dealt.following.dialer quiet.0.faults quiet.0.ends stopped.untold
+quiet_link (Sync port) input dealt quiet (failure, stopped, cause) = link_not_quiet failure stopped.start dealt.before.dialer dealt.following.dialer quiet.0.faults quiet.0.ends stopped.untold
 
 quiet_worker : (command : Command) (dealt : Dealings) → IsQuiet command dealt → ¬ (HasNoWorker command dealt)
 quiet_worker Help dealt quiet failed = failed
@@ -212,7 +212,7 @@ no_peer Rerun input dealt text blameless failed = failed
 no_peer Intents input dealt text blameless failed = failed
 no_peer (Generate number size) input dealt text blameless failed = failed
 no_peer (Serve port connections) input dealt text blameless failed = failed
-no_peer (Sync port) input dealt text blameless (failure, stopped, due) = blameless failure stopped
+no_peer (Sync port) input dealt text blameless (failure, stopped, due, cause) = blameless failure stopped
 
 -- a script that began is one
 peer_accepted : (command : Command) (input : List ℕ) (dealt : Dealings) (text : List ℕ) → HasPeerFailed command input dealt text → Accepts command input
@@ -224,7 +224,7 @@ peer_accepted Rerun input dealt text failed = absurd failed
 peer_accepted Intents input dealt text failed = absurd failed
 peer_accepted (Generate number size) input dealt text failed = absurd failed
 peer_accepted (Serve port connections) input dealt text failed = absurd failed
-peer_accepted (Sync port) input dealt text (failure, stopped, due) = begun_accepted input stopped.begins.script stopped.begins.said
+peer_accepted (Sync port) input dealt text (failure, stopped, due, cause) = begun_accepted input stopped.begins.script stopped.begins.said
 
 -- a command that does not read is done
 unread_done : (command : Command) (input : List ℕ) (ahead left : Option (List ℕ)) (rose : Type 0) (dealt : Dealings) (outcome : Outcome) (text : List ℕ)

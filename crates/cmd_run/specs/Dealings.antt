@@ -6,6 +6,7 @@ use Rattle.net_hub.specs.Joined.{HasWorkers}
 use Rattle.net_traits.specs.Links.{LinkView}
 use Rattle.net_hub.specs.GivenLinks.{AreGivenBack}
 use Rattle.cmd_sync.specs.Talks.{DialerView}
+use Rattle.cmd_run.specs.declared.cause.Cause.{Cause}
 
 -- how many of a door's calls failed, how many links it handed out, and those that were given back to it
 pub record DoorView : Type 0 where
@@ -14,7 +15,7 @@ pub record DoorView : Type 0 where
   pub given : List LinkView
 
 -- a door and a dialer, the moments that the clock told so far and the random bytes that were drawn, how many drawings failed, how
--- many threads could not be started, and how many were started
+-- many threads could not be started, how many were started, and the cause that was told last
 pub record OutsideView : Type 0 where
   pub door : Option DoorView
   pub dialer : DialerView
@@ -23,6 +24,7 @@ pub record OutsideView : Type 0 where
   pub draws : ℕ
   pub starts : ℕ
   pub started : ℕ
+  pub cause : Option Cause
 
 -- the outside before a call, and behind it
 pub record Dealings : Type 0 where
@@ -32,6 +34,10 @@ pub record Dealings : Type 0 where
 -- the same of a call by what it sees of the outside
 abbrev pub dealings_of : {S : Type 0} → (S → OutsideView) → S → S → Dealings
 dealings_of view old new = record { before = view old; following = view new }
+
+-- this cause was told
+abbrev pub HasTold : Cause → Dealings → Type 0
+HasTold cause dealt = dealt.following.cause ≡ Some cause
 
 -- a door, where there is one
 abbrev pub door_view : {D : Type 0} → (D → ℕ) → (D → ℕ) → (D → List LinkView) → Option D → Option DoorView

@@ -31,6 +31,7 @@ use Rattle.net_hub.specs.Served.{HasServed}
 use Rattle.net_hub.specs.GivenLinks.{AreFewer}
 use Rattle.net_traits.specs.ToldSince.{ToldSince}
 use Rattle.cmd_sync.specs.Syncs.{IsSynced, IsUnsynced}
+use Rattle.cmd_sync.specs.declared.failure.LinkFailure.{LinkFailure}
 use Rattle.cmd_sync.specs.declared.failure.PeerFailure.{PeerFailure}
 use Rattle.cmd_sync.specs.declared.sync_fault.SyncFault.{SyncFault}
 use Rattle.cmd_sync.specs.declared.sync_fault.SyncFault.TheVariants as syncs
@@ -43,10 +44,11 @@ use Rattle.cmd_world.specs.WorldReports.{report_of}
 use Rattle.cmd_intents.specs.Files.{FileView, IsIntentFile, reading_intents}
 use Rattle.cmd_resolving.specs.Expansion.{as_schedule, watched_end}
 use Rattle.cmd_deciding.specs.Texts.{text_of_intents}
-use Rattle.cmd_run.specs.Dealings.{AreBack, Dealings, IsQuietDialer, IsQuietDoor}
+use Rattle.cmd_run.specs.Dealings.{AreBack, Dealings, HasTold, IsQuietDialer, IsQuietDoor}
 use Rattle.cmd_run.specs.Texts.{words_line, read_fault_line, too_long_line, bad_line, link_fault_line, no_worker_line, entropy_fault_line, peer_line}
 use Rattle.cmd_run.specs.Tries.{AreTriedRight}
 use Rattle.cmd_run.specs.Words.{reads}
+use Rattle.cmd_run.specs.declared.cause.Cause.TheVariants.{Door, Link, Peer}
 use Rattle.cmd_run.specs.declared.command.Command.{Command}
 use Rattle.cmd_run.specs.declared.command.Command.TheVariants.{Help, Version, Replay, Check, Rerun, Intents, Generate, Serve, Sync}
 use Rattle.cmd_run.specs.declared.outcome.Outcome.{Outcome}
@@ -219,15 +221,15 @@ HasDoorFailed connections dealt =
     IsSomeAnd dealt.before.door (λ old. IsSomeAnd dealt.following.door (λ new.
     Rose old.faults new.faults × (connections ≢ 0 → AreFewer connections old.given new.given)))
 
--- A case for each command that goes out: a link or the door failed.
+-- A case for each command that goes out: a link or the door failed, and which it was is told.
 abbrev pub HasLinkFailed : Command → List ℕ → Dealings → Type 0
-HasLinkFailed (Serve port connections) input dealt = AreBack dealt × HasDoorFailed connections dealt
-HasLinkFailed (Sync port) input dealt = IsStopped input dealt syncs.Link
+HasLinkFailed (Serve port connections) input dealt = AreBack dealt × HasDoorFailed connections dealt × HasTold Door dealt
+HasLinkFailed (Sync port) input dealt = (failure : LinkFailure) × IsStopped input dealt (syncs.Link failure) × HasTold (Link failure) dealt
 HasLinkFailed command input dealt = ⊥
 
--- The server has to answer for it, and the text names what it did.
+-- The server has to answer for it, the text names what it did, and it is told.
 abbrev pub HasPeerFailed : Command → List ℕ → Dealings → List ℕ → Type 0
-HasPeerFailed (Sync port) input dealt text = (failure : PeerFailure) × IsStopped input dealt (syncs.Peer failure) × (text ≡ peer_line failure)
+HasPeerFailed (Sync port) input dealt text = (failure : PeerFailure) × IsStopped input dealt (syncs.Peer failure) × (text ≡ peer_line failure) × HasTold (Peer failure) dealt
 HasPeerFailed command input dealt text = ⊥
 
 -- A thread could not be started.

@@ -5,8 +5,8 @@ ghost use Rattle.std.specs.Prelude.{◌≡◌, ◌⊎◌, false, true, ◌<◌, 
 ghost use Rattle.base_io.specs.Counts.{Rose};
 ghost use Rattle.base_io.specs.Given.{Gave};
 ghost use Rattle.cmd_run.specs.Dealings.{AreJoined, AreKept, Dealings, IsBack, dealings_of};
-ghost use Rattle.cmd_run.specs.Words.{IsAskable, asked, goes_out, reads, serves};
-ghost use Rattle.cmd_run.specs.Table.{IsAnswer, IsReportOf, IsSummedUp, IsWireReport, Due, generated_summary};
+ghost use Rattle.cmd_run.specs.Words;
+ghost use Rattle.cmd_run.specs.Table;
 ghost use Rattle.cmd_generate.specs.Summary.{summary_of};
 ghost use Rattle.cmd_generate.specs.declared.generated.TheConstants.{MOST_SIZE};
 ghost use Rattle.cmd_schedule.specs.Kinds.{IsSchedule};
@@ -44,7 +44,7 @@ use xml_check::check;
 /// of the last of its worlds.
 fn reported(alloc: Global, schedule: Schedule) -> Result<Report, NoMemory>
     requires { IsSchedule schedule }
-    ensures { IfOk result (λ report. IsReportOf schedule report) }
+    ensures { IfOk result (λ report. Table.IsReportOf schedule report) }
 {
     match schedule {
         Schedule::Direct(schedule) => {
@@ -62,7 +62,7 @@ fn reported(alloc: Global, schedule: Schedule) -> Result<Report, NoMemory>
 
 /// The report of the schedule whose text this is, or the refusal of the text. The input is dropped once it is read.
 fn replayed(alloc: Global, input: Bytes) -> Result<Answer, NoMemory>
-    ensures { IfOk result (λ answer. (dealt : Dealings) → IsAnswer Command.Replay input.items dealt answer.outcome answer.text.items) }
+    ensures { IfOk result (λ answer. (dealt : Dealings) → Table.IsAnswer Command.Replay input.items dealt answer.outcome answer.text.items) }
 {
     let read = read_schedule(alloc, input.as_slice());
     drop(input);
@@ -85,7 +85,7 @@ fn replayed(alloc: Global, input: Bytes) -> Result<Answer, NoMemory>
 /// What is told of the stream with these bytes. The law is called for its fact, that this is the grammar's.
 #[tactic(auto, using(crate::proofs::Inputs::told_so))]
 fn checked(alloc: Global, input: &[u8]) -> Result<Answer, NoMemory>
-    ensures { IfOk result (λ answer. (dealt : Dealings) → IsAnswer Command.Check input.now dealt answer.outcome answer.text.items) }
+    ensures { IfOk result (λ answer. (dealt : Dealings) → Table.IsAnswer Command.Check input.now dealt answer.outcome answer.text.items) }
 {
     told_is_the_grammars();
     let checked = check(alloc, input)?;
@@ -102,7 +102,7 @@ fn checked(alloc: Global, input: &[u8]) -> Result<Answer, NoMemory>
 
 /// What comes of the run whose text this is, done again, or the refusal of the text.
 fn reran(alloc: Global, input: Bytes) -> Result<Answer, NoMemory>
-    ensures { IfOk result (λ answer. (dealt : Dealings) → IsAnswer Command.Rerun input.items dealt answer.outcome answer.text.items) }
+    ensures { IfOk result (λ answer. (dealt : Dealings) → Table.IsAnswer Command.Rerun input.items dealt answer.outcome answer.text.items) }
 {
     match rerun_bytes(alloc, input) {
         Ok(text) => Ok(Answer {
@@ -121,7 +121,7 @@ fn reran(alloc: Global, input: Bytes) -> Result<Answer, NoMemory>
 /// report keeps the laws of a schedule's, and that its intents are tried right.
 #[tactic(auto, using(crate::proofs::Decided::resolved_so, crate::proofs::Decided::refused_so))]
 fn resolved(alloc: Global, input: Bytes) -> Result<Answer, NoMemory>
-    ensures { IfOk result (λ answer. (dealt : Dealings) → IsAnswer Command.Intents input.items dealt answer.outcome answer.text.items) }
+    ensures { IfOk result (λ answer. (dealt : Dealings) → Table.IsAnswer Command.Intents input.items dealt answer.outcome answer.text.items) }
 {
     files_are_decided();
     match resolved_bytes(alloc, input) {
@@ -141,7 +141,7 @@ fn resolved(alloc: Global, input: Bytes) -> Result<Answer, NoMemory>
 fn summary(alloc: Global, schedule: &WireSchedule) -> Result<Bytes, NoMemory>
     requires { IsWireSchedule schedule.now }
     ensures text { IfOk result (λ text. text.items ≡ summary_of schedule.now (report_of (world_of schedule.now))) }
-    ensures lawful { OnOk result (IsWireReport schedule.now (report_of (world_of schedule.now))) }
+    ensures lawful { OnOk result (Table.IsWireReport schedule.now (report_of (world_of schedule.now))) }
 {
     wire_schedules_are_lawful();
     wire_reports_are_of_their_worlds();
@@ -153,8 +153,8 @@ fn summary(alloc: Global, schedule: &WireSchedule) -> Result<Bytes, NoMemory>
 fn summed_up(alloc: Global, number: u64, size: u32) -> Result<Answer, NoMemory>
     requires { size ≤ MOST_SIZE }
     ensures outcome { IfOk result (λ answer. answer.outcome ≡ Outcome.Done) }
-    ensures text { IfOk result (λ answer. answer.text.items ≡ generated_summary number size) }
-    ensures lawful { IfOk result (λ answer. IsSummedUp number size answer.text.items) }
+    ensures text { IfOk result (λ answer. answer.text.items ≡ Table.generated_summary number size) }
+    ensures lawful { IfOk result (λ answer. Table.IsSummedUp number size answer.text.items) }
 {
     let schedule = generate(alloc, number, size)?;
     Ok(Answer {
@@ -185,15 +185,15 @@ fn answer_to<
 where
     D::Link: Send + 'static,
     requires there { IsSome outside.old.door }
-    requires askable { IsAskable command }
-    ensures answer { IfOk result (λ answer. IsAnswer command input.items
+    requires askable { Words.IsAskable command }
+    ensures answer { IfOk result (λ answer. Table.IsAnswer command input.items
         (dealings_of ⟦<Outside<D, L, C, E, P> as Surroundings>⟧.view outside.old outside.new) answer.outcome answer.text.items) }
     ensures door { IsSome outside.new.door ⊎ Rose (P.faults outside.old.spawner) (P.faults outside.new.spawner) }
     ensures kept { AreKept (dealings_of ⟦<Outside<D, L, C, E, P> as Surroundings>⟧.view outside.old outside.new) }
     ensures joined { AreJoined (dealings_of ⟦<Outside<D, L, C, E, P> as Surroundings>⟧.view outside.old outside.new) }
     ensures returned { IsBack (dealings_of ⟦<Outside<D, L, C, E, P> as Surroundings>⟧.view outside.old outside.new) }
-    ensures stays { serves (Some command) ≡ false → (outside.new.door ≡ outside.old.door) × (outside.new.spawner ≡ outside.old.spawner) }
-    ensures apart { goes_out (Some command) ≡ false → outside.new ≡ outside.old }
+    ensures stays { Words.serves (Some command) ≡ false → (outside.new.door ≡ outside.old.door) × (outside.new.spawner ≡ outside.old.spawner) }
+    ensures apart { Words.goes_out (Some command) ≡ false → outside.new ≡ outside.old }
 {
     match command {
         Command::Help => said(alloc, Outcome::Done, HELP),
@@ -232,10 +232,10 @@ fn answer_read<
 where
     D::Link: Send + 'static,
     requires there { IsSome outside.old.door }
-    requires askable { IsAskable command }
-    requires reading { reads (Some command) ≡ true }
+    requires askable { Words.IsAskable command }
+    requires reading { Words.reads (Some command) ≡ true }
     ensures due { IfOk result (λ answer. Gave (S.given source.old) (S.given source.new) (λ input.
-        Due (Some command) input (S.left source.old) (S.left source.new) (Rose (S.faults source.old) (S.faults source.new))
+        Table.Due (Some command) input (S.left source.old) (S.left source.new) (Rose (S.faults source.old) (S.faults source.new))
         (dealings_of ⟦<Outside<D, L, C, E, P> as Surroundings>⟧.view outside.old outside.new) answer.outcome answer.text.items)) }
     ensures read_fault { S.faults source.old < S.faults source.new → IfOk result (λ answer. answer.outcome ≡ Outcome.ReadFault) }
     ensures later { S.faults source.old ≤ S.faults source.new }
@@ -243,8 +243,8 @@ where
     ensures kept { AreKept (dealings_of ⟦<Outside<D, L, C, E, P> as Surroundings>⟧.view outside.old outside.new) }
     ensures joined { AreJoined (dealings_of ⟦<Outside<D, L, C, E, P> as Surroundings>⟧.view outside.old outside.new) }
     ensures returned { IsBack (dealings_of ⟦<Outside<D, L, C, E, P> as Surroundings>⟧.view outside.old outside.new) }
-    ensures stays { serves (Some command) ≡ false → (outside.new.door ≡ outside.old.door) × (outside.new.spawner ≡ outside.old.spawner) }
-    ensures apart { goes_out (Some command) ≡ false → outside.new ≡ outside.old }
+    ensures stays { Words.serves (Some command) ≡ false → (outside.new.door ≡ outside.old.door) × (outside.new.spawner ≡ outside.old.spawner) }
+    ensures apart { Words.goes_out (Some command) ≡ false → outside.new ≡ outside.old }
 {
     match read_all(alloc, source) {
         Ok(input) => answer_to(rt, alloc, command, input, outside),
@@ -277,17 +277,17 @@ where
     D::Link: Send + 'static,
     requires { IsSome outside.old.door }
     ensures due { IfOk result (λ answer. Gave (S.given source.old) (S.given source.new) (λ input.
-        Due (asked words.now) input (S.left source.old) (S.left source.new) (Rose (S.faults source.old) (S.faults source.new))
+        Table.Due (Words.asked words.now) input (S.left source.old) (S.left source.new) (Rose (S.faults source.old) (S.faults source.new))
         (dealings_of ⟦<Outside<D, L, C, E, P> as Surroundings>⟧.view outside.old outside.new) answer.outcome answer.text.items)) }
     ensures read_fault { S.faults source.old < S.faults source.new → IfOk result (λ answer. answer.outcome ≡ Outcome.ReadFault) }
     ensures later { S.faults source.old ≤ S.faults source.new }
-    ensures unread { reads (asked words.now) ≡ false → source.new ≡ source.old }
+    ensures unread { Words.reads (Words.asked words.now) ≡ false → source.new ≡ source.old }
     ensures door { IsSome outside.new.door ⊎ Rose (P.faults outside.old.spawner) (P.faults outside.new.spawner) }
     ensures kept { AreKept (dealings_of ⟦<Outside<D, L, C, E, P> as Surroundings>⟧.view outside.old outside.new) }
     ensures joined { AreJoined (dealings_of ⟦<Outside<D, L, C, E, P> as Surroundings>⟧.view outside.old outside.new) }
     ensures returned { IsBack (dealings_of ⟦<Outside<D, L, C, E, P> as Surroundings>⟧.view outside.old outside.new) }
-    ensures stays { serves (asked words.now) ≡ false → (outside.new.door ≡ outside.old.door) × (outside.new.spawner ≡ outside.old.spawner) }
-    ensures apart { goes_out (asked words.now) ≡ false → outside.new ≡ outside.old }
+    ensures stays { Words.serves (Words.asked words.now) ≡ false → (outside.new.door ≡ outside.old.door) × (outside.new.spawner ≡ outside.old.spawner) }
+    ensures apart { Words.goes_out (Words.asked words.now) ≡ false → outside.new ≡ outside.old }
 {
     match Command::of_words(words) {
         None => said(alloc, Outcome::WrongWords, WORDS_LINE),

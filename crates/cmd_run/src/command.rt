@@ -2,7 +2,7 @@
 //!
 //! `--help` and `--version`, each as the only word, are words of the table: the input isn't read.
 ghost use Rattle.std.specs.Prelude.{◌≡◌, ◌≤◌, IfSome, Some};
-ghost use Rattle.cmd_run.specs.Words.{IsAskable, asked, connections_in, generating, of_one, port_in, reads, seed_in, serving, size_in, spelled, syncing};
+ghost use Rattle.cmd_run.specs.Words;
 
 use cmd_generate::MOST_SIZE;
 use cmd_schedule::read_number;
@@ -32,7 +32,7 @@ pub enum Command {
 
 /// The number that a word spells, where it is one within these bounds.
 fn spelled(least: u64, most: u64, word: &str) -> Option<u64>
-    ensures number { result ≡ spelled least most word.now }
+    ensures number { result ≡ Words.spelled least most word.now }
     ensures within { IfSome result (λ n. n ≤ most) }
 {
     read_number(least, most, word).ok()
@@ -40,7 +40,7 @@ fn spelled(least: u64, most: u64, word: &str) -> Option<u64>
 
 /// The port that a word spells.
 fn port_in(word: &str) -> Option<u16>
-    ensures { result ≡ port_in word.now }
+    ensures { result ≡ Words.port_in word.now }
 {
     match spelled(1, 65_535, word) {
         Some(n) => u16::try_from(n).ok(),
@@ -50,7 +50,7 @@ fn port_in(word: &str) -> Option<u16>
 
 /// The command that one word asks for.
 fn of_one(word: &str) -> Option<Command>
-    ensures { result ≡ of_one word.now }
+    ensures { result ≡ Words.of_one word.now }
 {
     match word {
         "--help" => Some(Command::Help),
@@ -65,7 +65,7 @@ fn of_one(word: &str) -> Option<Command>
 
 /// The command that `sync` and a word ask for.
 fn syncing(port: &str) -> Option<Command>
-    ensures { result ≡ syncing (port_in port.now) }
+    ensures { result ≡ Words.syncing (Words.port_in port.now) }
 {
     let port = port_in(port)?;
     Some(Command::Sync { port })
@@ -73,7 +73,7 @@ fn syncing(port: &str) -> Option<Command>
 
 /// The command that `serve` and two words ask for.
 fn serving(port: &str, connections: &str) -> Option<Command>
-    ensures { result ≡ serving (port_in port.now) (connections_in connections.now) }
+    ensures { result ≡ Words.serving (Words.port_in port.now) (Words.connections_in connections.now) }
 {
     let port = port_in(port)?;
     let connections = spelled(1, 1000, connections)?;
@@ -85,8 +85,8 @@ fn serving(port: &str, connections: &str) -> Option<Command>
 
 /// The command that `generate` and two words ask for.
 fn generating(number: &str, size: &str) -> Option<Command>
-    ensures asked { result ≡ generating (seed_in number.now) (size_in size.now) }
-    ensures askable { IfSome result IsAskable }
+    ensures asked { result ≡ Words.generating (Words.seed_in number.now) (Words.size_in size.now) }
+    ensures askable { IfSome result Words.IsAskable }
 {
     let number = spelled(0, u64::MAX, number)?;
     let size = spelled(0, u64::from(MOST_SIZE), size)?;
@@ -100,8 +100,8 @@ impl Command {
     /// The command that the words of a command line, without the program's name, ask for. `None` comes
     /// exactly where they are not in the table.
     pub fn of_words(words: &[String]) -> Option<Command>
-        ensures asked { result ≡ asked words.now }
-        ensures askable { IfSome result IsAskable }
+        ensures asked { result ≡ Words.asked words.now }
+        ensures askable { IfSome result Words.IsAskable }
     {
         match words {
             [word] => of_one(word.as_str()),
@@ -118,7 +118,7 @@ impl Command {
 
     /// Whether the command's input is read.
     pub fn reads(self) -> bool
-        ensures { result ≡ reads (Some self) }
+        ensures { result ≡ Words.reads (Some self) }
     {
         match self {
             Command::Help | Command::Version | Command::Generate { .. } => false,

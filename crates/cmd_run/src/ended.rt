@@ -45,9 +45,11 @@ impl Outgoing for OpenOutgoing {
     }
 }
 
-/// Such a link that is not handed out yet.
+/// Such a link that is not handed out yet. Where it starves, there is no memory for it.
 #[derive(Drop)]
-pub(crate) struct EndedLink;
+pub(crate) struct EndedLink {
+    pub(crate) starves: bool,
+}
 
 impl Uncut for EndedLink {
     type Incoming = EndedIncoming;
@@ -59,6 +61,9 @@ impl Uncut for EndedLink {
         _alloc: Global,
         number: u64,
     ) -> Result<Pair<EndedIncoming, OpenOutgoing>, NoMemory> {
+        if self.starves {
+            return Err(NoMemory);
+        }
         let outgoing = OpenOutgoing {
             number,
             closed: false,

@@ -3,6 +3,7 @@
 
 mod answer;
 mod answering;
+mod cause;
 mod command;
 #[cfg(test)]
 mod ended;
@@ -15,6 +16,7 @@ mod surroundings;
 mod tests;
 mod texts;
 
+pub use cause::Cause;
 pub use laws::wire_reports_are_of_their_worlds;
 pub use outside::{Outside, drop_outside};
 pub use running::run;

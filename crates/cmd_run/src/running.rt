@@ -104,6 +104,8 @@ where
 /// | 10 | of `serve` and `sync` only where no random bytes were drawn | `entropy fault` |
 /// | 11 | exactly where the source gave more than `MOST_BYTES_READ` bytes | `too long` |
 ///
+/// At 7 and 8 `cause` of the outside tells which it was.
+///
 /// At status 0 of `replay` the report is that of the schedule's run, direct or over connections, and keeps the five laws of
 /// its version: no message is lost or doubled within what they say, and each device's log is of its account's history. So
 /// does the report that `generate` sums up, and that of `intents`, in which moreover of all tries of a message that is an intent

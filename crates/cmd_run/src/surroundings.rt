@@ -7,6 +7,7 @@ ghost use Rattle.cmd_run.specs.Tellings.{Tells};
 ghost use Rattle.cmd_run.specs.declared.command.Command.TheVariants.{Serve, Sync};
 
 use crate::answer::{Answer, said};
+use crate::cause::{Cause, door_cause};
 use crate::outcome::Outcome;
 use crate::outside::Outside;
 use crate::texts::{ENTROPY_FAULT_LINE, LINK_FAULT_LINE, NO_WORKER_LINE, peer_line, refusal};
@@ -34,6 +35,7 @@ impl<D: Halves, L: Dialer, C: Clock, E: Entropy, P: Spawner> Surroundings
       draws = E.faults s.entropy;
       starts = P.faults s.spawner;
       started = P.started s.spawner;
+      cause = s.cause;
     } };
 }
 
@@ -58,7 +60,7 @@ fn told(alloc: Global, served: Result<Bytes, HubFault>) -> Result<Answer, NoMemo
 }
 
 /// Serves so many connections to a port, at the same time, as a server of these accounts.
-#[tactic(auto, using(crate::proofs::Doors::served_joined))]
+#[tactic(auto, using(crate::proofs::Doors::served_joined, crate::proofs::Doors::door_told))]
 pub fn serve<
     R: Threads + Wait + Copy + Send + 'static,
     I: Incoming + Drop + Send + 'static,
@@ -100,6 +102,7 @@ where
                 &mut outside.spawner,
             );
             outside.door = door;
+            outside.cause = door_cause(&text);
             told(alloc, text)
         }
         None => unreachable!(),
@@ -107,6 +110,7 @@ where
 }
 
 /// Does a script as a client of the server at a port.
+#[tactic(auto, using(crate::proofs::Dialers::sync_back))]
 pub fn synchronise<D: Halves, L: Dialer, C: Clock, E: Entropy, P: Spawner>(
     alloc: Global,
     port: u16,
@@ -134,11 +138,17 @@ pub fn synchronise<D: Halves, L: Dialer, C: Clock, E: Entropy, P: Spawner>(
             outcome: Outcome::Refused,
             text: refusal(alloc, line, why)?,
         }),
-        Err(SyncFault::Link) => said(alloc, Outcome::LinkFault, LINK_FAULT_LINE),
-        Err(SyncFault::Peer(failure)) => Ok(Answer {
-            outcome: Outcome::PeerFault,
-            text: peer_line(alloc, failure)?,
-        }),
+        Err(SyncFault::Link(failure)) => {
+            outside.cause = Some(Cause::Link(failure));
+            said(alloc, Outcome::LinkFault, LINK_FAULT_LINE)
+        }
+        Err(SyncFault::Peer(failure)) => {
+            outside.cause = Some(Cause::Peer(failure));
+            Ok(Answer {
+                outcome: Outcome::PeerFault,
+                text: peer_line(alloc, failure)?,
+            })
+        }
         Err(SyncFault::Entropy) => said(alloc, Outcome::EntropyFault, ENTROPY_FAULT_LINE),
         Err(SyncFault::NoMemory) => Err(NoMemory),
     }

@@ -228,10 +228,11 @@ fn door(
     alloc: Global,
     connections: u64,
     fails: u64,
+    starves: bool,
 ) -> Result<MemoryHalvesDoor<EndedLink>, NoMemory> {
     let mut links = Vec::new(alloc);
     for _ in 0..connections {
-        links.push(EndedLink)?;
+        links.push(EndedLink { starves })?;
     }
     Ok(MemoryHalvesDoor::new(alloc, links, number(alloc, fails)?))
 }
@@ -243,13 +244,15 @@ fn dialer(alloc: Global, fails: u64) -> Result<MemoryDialer, NoMemory> {
     Ok(MemoryDialer::new(links, number(alloc, fails)?))
 }
 
-// Which calls fail: of the sink, of door and dialer, of the random bytes, and of what starts threads.
+// Which calls fail: of the sink, of door and dialer, of the random bytes, and of what starts threads; and whether the door has
+// no memory for a link.
 #[derive(Clone, Copy)]
 struct Fails {
     writes: u64,
     ways: u64,
     draws: u64,
     starts: u64,
+    starves: bool,
 }
 
 const NOTHING_FAILS: Fails = Fails {
@@ -257,6 +260,7 @@ const NOTHING_FAILS: Fails = Fails {
     ways: 0,
     draws: 0,
     starts: 0,
+    starves: false,
 };
 
 // The status of a call with these words, and what it writes, where so many connections come in.
@@ -271,11 +275,12 @@ fn answer<R: Threads + Wait + Copy + Send + 'static>(
     let words = words(alloc, text)?;
     let mut sink = MemorySink::new(alloc, 64, number(alloc, fails.writes)?);
     let mut outside = Outside {
-        door: Some(door(alloc, connections, fails.ways)?),
+        door: Some(door(alloc, connections, fails.ways, fails.starves)?),
         dialer: dialer(alloc, fails.ways)?,
         clock: MemoryClock::new(5),
         entropy: MemoryEntropy::new([0; 24], number(alloc, fails.draws)?),
         spawner: MemorySpawner::new(*rt, number(alloc, fails.starts)?),
+        cause: None,
     };
     let status = run(rt, alloc, words.as_slice(), source, &mut sink, &mut outside);
     drop_outside(outside);
@@ -305,6 +310,7 @@ fn failing_calls_are_answered(rt: HostRuntime) -> Result<(), Fail> {
             ways,
             draws,
             starts,
+            starves: false,
         };
         let (ended, sink) = answer(&rt, rt.alloc(), words, &mut source, 1, fails)?;
         assert!(rt; ended == status && sink.written() == written.as_bytes());
@@ -339,5 +345,17 @@ fn two_connections_are_served(rt: HostRuntime) -> Result<(), Fail> {
         NOTHING_FAILS,
     )?;
     assert!(rt; ended == 0 && has_lines(sink.written(), &TWO));
+    Ok(())
+}
+
+#[test]
+fn a_door_that_wants_memory_is_no_link_fault(rt: HostRuntime) -> Result<(), Fail> {
+    let mut source = source(rt.alloc(), ACCOUNTS, 0)?;
+    let fails = Fails {
+        starves: true,
+        ..NOTHING_FAILS
+    };
+    let (ended, sink) = answer(&rt, rt.alloc(), "serve 5222 1", &mut source, 1, fails)?;
+    assert!(rt; ended == 6 && sink.written().is_empty());
     Ok(())
 }

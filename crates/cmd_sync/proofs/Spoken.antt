@@ -1,5 +1,5 @@
 -- A talk over a link, a piece more.
-use Rattle.std.proofs.Common.{◌≡◌, ℕ, suc, zero-add, ◌+◌, true, List, [], ◌∷◌, ◌++◌, length, take, Option, refl, sym, ap, subst, ◌∙◌, inl, inr, append-nil, length-append, arith}
+use Rattle.std.proofs.Common.{◌≡◌, ℕ, suc, zero-add, ◌+◌, true, List, [], ◌∷◌, ◌++◌, length, take, Option, Result, Ok, Err, IfErr, refl, sym, ap, subst, ◌∙◌, inr, append-nil, length-append, arith}
 use Rattle.std.specs.Io.KnownBytes.{Appends}
 use Rattle.std.proofs.KnownBytes.{Appends-nil, Appends-trans}
 use Rattle.std.proofs.lemmas.List.Concat.{flat_map-append}
@@ -8,8 +8,10 @@ use Rattle.base_io.specs.Counts.{Rose}
 use Rattle.base_io.specs.Prefixes.{AppendsPrefix}
 use Rattle.net_traits.specs.Links.{LinkView}
 use Rattle.cmd_sync.specs.Courses.{Course, CourseStep, further, is_awaiting, over, takes}
-use Rattle.cmd_sync.specs.Talks.{IsCut, IsDry, IsRound, IsSevered, IsSpoken, IsStarved, IsStuck, IsUnsent, NothingFailed, RoundStops, TalkStops, joined}
+use Rattle.cmd_sync.specs.Talks.{CallStops, DialerView, HasDried, IsCut, IsDry, IsLent, IsRound, IsSevered, IsSpoken, IsStarved, IsStuck, IsUnsent, NothingFailed, RoundStops, TalkStops, joined}
 use Rattle.cmd_sync.specs.declared.sync_fault.Stop.{Stop}
+use Rattle.cmd_sync.specs.declared.failure.LinkFailure.{LinkFailure}
+use Rattle.cmd_sync.specs.declared.failure.LinkFailure.TheVariants.{Dial, Read, Write, End}
 use Rattle.cmd_sync.specs.declared.sync_fault.Stop.TheVariants.{Link, NoMemory}
 
 -- ---- known bytes
@@ -72,17 +74,20 @@ module _ (start : CourseStep) (old mid new : LinkView) (before : Course) where
   rose_from : (a b c : ℕ) → b ≡ a → Rose b c → Rose a c
   rose_from a b c same rose = subst (λ (n : ℕ). Rose n c) same rose
 
-  severed : IsSpoken start old mid before → is_awaiting before.stage ≡ true → IsDry mid new → IsSevered start old new
-  severed spoken awaited dry = record {
+  dried : (failure : LinkFailure) → IsSpoken start old mid before → HasDried failure mid new → HasDried failure old new
+  dried Read spoken rose = rose_from old.read_faults mid.read_faults new.read_faults spoken.nothing_failed.read_faults rose
+  dried End spoken rose = rose_from old.ends mid.ends new.ends spoken.nothing_failed.ends rose
+  dried Dial spoken never = never
+  dried Write spoken never = never
+
+  severed : (failure : LinkFailure) → IsSpoken start old mid before → is_awaiting before.stage ≡ true → IsDry failure mid new → IsSevered failure start old new
+  severed failure spoken awaited dry = record {
     pieces = spoken.pieces;
     read = subst (Appends old.read new.read) (append-nil (joined spoken.pieces)) (Appends-trans old.read mid.read new.read (joined spoken.pieces) [] spoken.read dry.read);
     written = appends_same old.written mid.written new.written (over start spoken.pieces).put spoken.written dry.written;
     awaited = ap (λ (c : Course). is_awaiting c.stage) (sym spoken.course) ∙ awaited;
     write_faults = dry.write_faults ∙ spoken.nothing_failed.write_faults;
-    cause = elim dry.cause [
-      | inl rose ↦ inl (rose_from old.read_faults mid.read_faults new.read_faults spoken.nothing_failed.read_faults rose)
-      | inr rose ↦ inr (rose_from old.ends mid.ends new.ends spoken.nothing_failed.ends rose)
-    ];
+    cause = dried failure spoken dry.cause;
   }
 
   unsent : IsSpoken start old mid before → IsCut mid new before → IsUnsent start old new
@@ -104,8 +109,10 @@ module _ (start : CourseStep) (old mid new : LinkView) (before : Course) where
   }
 
   pub talk_stops : (stop : Stop) → IsSpoken start old mid before → is_awaiting before.stage ≡ true → RoundStops stop mid new before → TalkStops stop start old new
-  talk_stops Link spoken awaited (inl dry) = inl (severed spoken awaited dry)
-  talk_stops Link spoken awaited (inr cut) = inr (unsent spoken cut)
+  talk_stops (Link Dial) spoken awaited never = never
+  talk_stops (Link Read) spoken awaited dry = severed Read spoken awaited dry
+  talk_stops (Link Write) spoken awaited cut = unsent spoken cut
+  talk_stops (Link End) spoken awaited dry = severed End spoken awaited dry
   talk_stops NoMemory spoken awaited stuck = starved spoken stuck
 
 -- ---- the first bytes
@@ -126,3 +133,30 @@ unsent_first start old new read written cause = record {
   written = written;
   cause = cause;
 }
+
+-- ---- a read that gave nothing
+
+pub dry_stops : (failure : LinkFailure) (old new : LinkView) (before : Course) → IsDry failure old new → RoundStops (Link failure) old new before
+dry_stops Dial old new before dry = dry.cause
+dry_stops Read old new before dry = dry
+dry_stops Write old new before dry = absurd dry.cause
+dry_stops End old new before dry = dry
+
+-- ---- the dialer
+
+-- the talk stopped, and the link was given back
+pub call_stops : (r : Result (Unit {0}) Stop) (start : CourseStep) (old new : DialerView) (first last : LinkView) → IsLent old new first last → IfErr r (λ stop. TalkStops stop start first last) → IfErr r (λ stop. CallStops stop start old new)
+call_stops (Ok done) start old new first last lent stopped = tt
+call_stops (Err (Link Dial)) start old new first last lent never = absurd never
+call_stops (Err (Link Read)) start old new first last lent stopped = record { first = first; last = last; lent = lent; stopped = stopped }
+call_stops (Err (Link Write)) start old new first last lent stopped = record { first = first; last = last; lent = lent; stopped = stopped }
+call_stops (Err (Link End)) start old new first last lent stopped = record { first = first; last = last; lent = lent; stopped = stopped }
+call_stops (Err NoMemory) start old new first last lent stopped = inr (record { first = first; last = last; lent = lent; stopped = stopped })
+
+abbrev dialer_of : ℕ → ℕ → ℕ → List LinkView → DialerView
+dialer_of faults ends handed given = record { faults = faults; ends = ends; handed = handed; given = given }
+
+-- a dialer of which these are as they were is as it was
+pub same_dialer : (faults ends handed : ℕ) (given : List LinkView) (old : DialerView) → faults ≡ old.faults → ends ≡ old.ends → handed ≡ old.handed → given ≡ old.given
+    → dialer_of faults ends handed given ≡ old
+same_dialer faults ends handed given old a b c d = rw (a, b, c, d) refl

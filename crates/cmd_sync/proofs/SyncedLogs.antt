@@ -105,7 +105,7 @@ synced_ok (Err fault) items text drawn_first drawn_now start old new begins told
 
 why : (fault : SyncFault) (text drawn_first drawn_now : List ℕ) (before after : ℕ) (start : CourseStep) (old new : DialerView) → IsBegun text drawn_first drawn_now start → after ≡ before → IsUnrun fault start old new → IsWhy fault text drawn_first drawn_now before after old new
 why (Peer failure) text drawn_first drawn_now before after start old new begins quiet e = (record { start = start; begins = begins; untold = e }, quiet)
-why Link text drawn_first drawn_now before after start old new begins quiet e = (record { start = start; begins = begins; untold = e }, quiet)
+why (Link failure) text drawn_first drawn_now before after start old new begins quiet e = (record { start = start; begins = begins; untold = e }, quiet)
 why NoMemory text drawn_first drawn_now before after start old new begins quiet (inl same) = (inl same, quiet)
 why NoMemory text drawn_first drawn_now before after start old new begins quiet (inr e) = (inr (record { start = start; begins = begins; untold = e }), quiet)
 why (BadLine line reason) text drawn_first drawn_now before after start old new begins quiet e = absurd e
@@ -120,7 +120,7 @@ pub read_why : (fault : SyncFault) (text drawn_first drawn_now : List ℕ) (n : 
 read_why (BadLine line reason) text drawn_first drawn_now n old e = (e, refl, refl)
 read_why NoMemory text drawn_first drawn_now n old e = (inl refl, refl)
 read_why (Peer failure) text drawn_first drawn_now n old e = absurd e
-read_why Link text drawn_first drawn_now n old e = absurd e
+read_why (Link failure) text drawn_first drawn_now n old e = absurd e
 read_why Entropy text drawn_first drawn_now n old e = absurd e
 
 abbrev script_of : User → List Step → ScriptView

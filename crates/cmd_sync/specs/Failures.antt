@@ -10,13 +10,15 @@ use Rattle.cl_handlers.specs.declared.events.Event.{Event}
 use Rattle.cl_handlers.specs.declared.events.Event.TheVariants.{Ended, CatchUpRefused}
 use Rattle.cl_handlers.specs.declared.events.PeerFault.{PeerFault}
 use Rattle.cl_handlers.specs.declared.events.PeerFault.TheVariants as peer
+use Rattle.im_stanza.specs.Conditions.{condition_name}
+use Rattle.cmd_sync.specs.Conditions.{sent_condition}
 use Rattle.cmd_sync.specs.declared.failure.PeerFailure.{PeerFailure}
 use Rattle.cmd_sync.specs.declared.failure.PeerFailure.TheVariants.{Framing, Stream, Sasl, BadVerifier, Scram, NoFeature, Unexpected, TooHigh, Unacknowledged, Closed, Refused, Overrun, Mismatch, Repeats, NoAdvance, NotSaid, NotAsked, TooMuch}
 
 abbrev pub peer_failure : PeerFault → PeerFailure
 peer_failure (peer.Framing fault) = Framing
-peer_failure (peer.Stream condition) = Stream
-peer_failure (peer.Sasl condition) = Sasl
+peer_failure (peer.Stream condition) = Stream (sent_condition condition)
+peer_failure (peer.Sasl condition) = Sasl (sent_condition condition)
 peer_failure peer.BadVerifier = BadVerifier
 peer_failure peer.Scram = Scram
 peer_failure peer.NoFeature = NoFeature
@@ -26,7 +28,7 @@ peer_failure peer.Unacknowledged = Unacknowledged
 peer_failure peer.Closed = Closed
 
 abbrev pub page_failure : CatchUpFault → PeerFailure
-page_failure (page.Refused condition) = Refused
+page_failure (page.Refused condition) = Refused (sent_condition (condition_name condition))
 page_failure page.Overrun = Overrun
 page_failure (page.Mismatch last got) = Mismatch
 page_failure (page.Repeats id) = Repeats
@@ -54,8 +56,8 @@ ask_name start.NoMemory = codes "NoMemory"
 
 abbrev pub failure_name : PeerFailure → List ℕ
 failure_name Framing = codes "Framing"
-failure_name Stream = codes "Stream"
-failure_name Sasl = codes "Sasl"
+failure_name (Stream condition) = codes "Stream"
+failure_name (Sasl condition) = codes "Sasl"
 failure_name BadVerifier = codes "BadVerifier"
 failure_name Scram = codes "Scram"
 failure_name NoFeature = codes "NoFeature"
@@ -63,7 +65,7 @@ failure_name Unexpected = codes "Unexpected"
 failure_name TooHigh = codes "TooHigh"
 failure_name Unacknowledged = codes "Unacknowledged"
 failure_name Closed = codes "Closed"
-failure_name Refused = codes "Refused"
+failure_name (Refused condition) = codes "Refused"
 failure_name Overrun = codes "Overrun"
 failure_name Mismatch = codes "Mismatch"
 failure_name Repeats = codes "Repeats"

@@ -16,6 +16,7 @@ pub mod ScriptReading
 pub mod Gives
 pub mod Texts
 -- How a script is done, from the pieces that are read.
+pub mod Conditions
 pub mod Failures
 pub mod Courses
 pub mod Views

@@ -11,7 +11,7 @@ use Rattle.cmd_sync.specs.declared.script.Step.{Step}
 use Rattle.cmd_sync.specs.declared.script.User.{User}
 use Rattle.cmd_sync.specs.declared.script_fault.ScriptFault.TheVariants.{BadLine as BadScriptLine}
 use Rattle.cmd_sync.specs.Courses.{Course, CourseStep, begun}
-use Rattle.cmd_sync.specs.Talks.{DialerView, IsBroken, IsHeld, IsUndialed}
+use Rattle.cmd_sync.specs.Talks.{CallStops, DialerView, IsBroken, IsHeld}
 use Rattle.cmd_sync.specs.declared.sync_fault.Stop.TheVariants as stop
 use Rattle.cmd_sync.specs.declared.sync_fault.SyncFault.{SyncFault}
 use Rattle.cmd_sync.specs.declared.sync_fault.SyncFault.TheVariants.{BadLine, Link, Peer, Entropy, NoMemory}
@@ -32,9 +32,9 @@ pub record IsTold (start : CourseStep) (old new : DialerView) (output : List ℕ
   pub written : output ≡ synced_text now.client.client.log
 
 -- Why it was not done. No link was handed out, or a read or a write of the one that was failed, or its end was found before
--- all was done; the server has to answer for it; or memory ran out, for the talk, or for the output.
+-- all was done, and it is told which; the server has to answer for it; or memory ran out, for the talk, or for the output.
 abbrev pub IsUntold : SyncFault → CourseStep → DialerView → DialerView → Type 0
-IsUntold Link start old new = IsUndialed old new ⊎ IsBroken stop.Link start old new
+IsUntold (Link failure) start old new = CallStops (stop.Link failure) start old new
 IsUntold (Peer failure) start old new = (now : Course) × IsOver start old new (Failed failure) now
 IsUntold NoMemory start old new = IsBroken stop.NoMemory start old new ⊎ ((now : Course) × IsOver start old new Done now)
 IsUntold (BadLine line why) start old new = ⊥
@@ -92,6 +92,6 @@ pub record IsUnsynced (text drawn_first drawn_now : List ℕ) (old new : DialerV
 abbrev pub IsWhy : SyncFault → List ℕ → List ℕ → List ℕ → ℕ → ℕ → DialerView → DialerView → Type 0
 IsWhy (BadLine line why) text drawn_first drawn_now before after old new = (script_reading text ≡ Err (BadScriptLine line why)) × (after ≡ before) × (new ≡ old)
 IsWhy Entropy text drawn_first drawn_now before after old new = IsOk (script_reading text) × Rose before after × (new ≡ old)
-IsWhy Link text drawn_first drawn_now before after old new = IsUnsynced text drawn_first drawn_now old new Link × (after ≡ before)
+IsWhy (Link failure) text drawn_first drawn_now before after old new = IsUnsynced text drawn_first drawn_now old new (Link failure) × (after ≡ before)
 IsWhy (Peer failure) text drawn_first drawn_now before after old new = IsUnsynced text drawn_first drawn_now old new (Peer failure) × (after ≡ before)
 IsWhy NoMemory text drawn_first drawn_now before after old new = ((new ≡ old) ⊎ IsUnsynced text drawn_first drawn_now old new NoMemory) × (after ≡ before)

@@ -6,6 +6,8 @@ use Rattle.base_io.specs.Counts.{Rose, counted}
 use Rattle.base_io.specs.Prefixes.{AppendsPrefix}
 use Rattle.net_traits.specs.Links.{IsUnused, LinkView, counted_if, has_ended, has_failed}
 use Rattle.cmd_sync.specs.Courses.{Course, CourseStep, is_awaiting, over, takes}
+use Rattle.cmd_sync.specs.declared.failure.LinkFailure.{LinkFailure}
+use Rattle.cmd_sync.specs.declared.failure.LinkFailure.TheVariants.{Dial, Read, Write, End}
 use Rattle.cmd_sync.specs.declared.sync_fault.Stop.{Stop}
 use Rattle.cmd_sync.specs.declared.sync_fault.Stop.TheVariants.{Link, NoMemory}
 
@@ -30,12 +32,19 @@ pub record IsRound (old new : LinkView) (before after : Course) : Type 0 where
   pub course : after ≡ (takes before piece).course
   pub nothing_failed : NothingFailed old new
 
--- a read failed, or found the end: nothing came, and nothing went out
-pub record IsDry (old new : LinkView) : Type 0 where
+-- the count that tells of such a read
+abbrev pub HasDried : LinkFailure → LinkView → LinkView → Type 0
+HasDried Read old new = Rose old.read_faults new.read_faults
+HasDried End old new = Rose old.ends new.ends
+HasDried Dial old new = ⊥
+HasDried Write old new = ⊥
+
+-- a read failed, or found the end, which is told: nothing came, and nothing went out
+pub record IsDry (failure : LinkFailure) (old new : LinkView) : Type 0 where
   pub read : Appends old.read new.read []
   pub written : new.written ≡ old.written
   pub write_faults : new.write_faults ≡ old.write_faults
-  pub cause : Rose old.read_faults new.read_faults ⊎ Rose old.ends new.ends
+  pub cause : HasDried failure old new
 
 -- a piece was read, and a write failed: a prefix of what is put over it went out
 pub record IsCut (old new : LinkView) (before : Course) : Type 0 where
@@ -51,7 +60,10 @@ pub record IsStuck (old new : LinkView) : Type 0 where
   pub written : new.written ≡ old.written
 
 abbrev pub RoundStops : Stop → LinkView → LinkView → Course → Type 0
-RoundStops Link old new before = IsDry old new ⊎ IsCut old new before
+RoundStops (Link Dial) old new before = ⊥
+RoundStops (Link Read) old new before = IsDry Read old new
+RoundStops (Link Write) old new before = IsCut old new before
+RoundStops (Link End) old new before = IsDry End old new
 RoundStops NoMemory old new before = IsStuck old new
 
 -- ---- all pieces
@@ -64,14 +76,14 @@ pub record IsSpoken (start : CourseStep) (old new : LinkView) (now : Course) : T
   pub course : now ≡ (over start pieces).course
   pub nothing_failed : NothingFailed old new
 
--- a read failed, or found the end, before all was done
-pub record IsSevered (start : CourseStep) (old new : LinkView) : Type 0 where
+-- a read failed, or found the end, which is told, before all was done
+pub record IsSevered (failure : LinkFailure) (start : CourseStep) (old new : LinkView) : Type 0 where
   pub pieces : List (List ℕ)
   pub read : Appends old.read new.read (joined pieces)
   pub written : Appends old.written new.written (over start pieces).put
   pub awaited : is_awaiting (over start pieces).course.stage ≡ true
   pub write_faults : new.write_faults ≡ old.write_faults
-  pub cause : Rose old.read_faults new.read_faults ⊎ Rose old.ends new.ends
+  pub cause : HasDried failure old new
 
 -- a write failed: a prefix went out
 pub record IsUnsent (start : CourseStep) (old new : LinkView) : Type 0 where
@@ -87,7 +99,10 @@ pub record IsStarved (start : CourseStep) (old new : LinkView) : Type 0 where
   pub written : AppendsPrefix old.written new.written (over start pieces).put
 
 abbrev pub TalkStops : Stop → CourseStep → LinkView → LinkView → Type 0
-TalkStops Link start old new = IsSevered start old new ⊎ IsUnsent start old new
+TalkStops (Link Dial) start old new = ⊥
+TalkStops (Link Read) start old new = IsSevered Read start old new
+TalkStops (Link Write) start old new = IsUnsent start old new
+TalkStops (Link End) start old new = IsSevered End start old new
 TalkStops NoMemory start old new = IsStarved start old new
 
 -- ---- the dialer
@@ -130,5 +145,8 @@ pub record IsBroken (stop : Stop) (start : CourseStep) (old new : DialerView) : 
   pub stopped : TalkStops stop start first last
 
 abbrev pub CallStops : Stop → CourseStep → DialerView → DialerView → Type 0
-CallStops Link start old new = IsUndialed old new ⊎ IsBroken Link start old new
-CallStops NoMemory start old new = IsBroken NoMemory start old new
+CallStops (Link Dial) start old new = IsUndialed old new
+CallStops (Link Read) start old new = IsBroken (Link Read) start old new
+CallStops (Link Write) start old new = IsBroken (Link Write) start old new
+CallStops (Link End) start old new = IsBroken (Link End) start old new
+CallStops NoMemory start old new = (new ≡ old) ⊎ IsBroken NoMemory start old new

@@ -3,6 +3,7 @@ ghost use Rattle.std.specs.Prelude.{◌≡◌};
 ghost use Rattle.cmd_sync.specs.Failures.{failure_of, page_failure, peer_failure};
 ghost use Rattle.cmd_sync.specs.Courses.{does, is_acked, is_acknowledged, is_bound, is_caught_up, is_last_acknowledged};
 
+use crate::conditions::SentCondition;
 use crate::failure::PeerFailure;
 use crate::script::Step;
 use crate::stage::Stage;
@@ -15,8 +16,10 @@ fn peer_failure(fault: &PeerFault) -> PeerFailure
 {
     match fault {
         PeerFault::Framing(_) => PeerFailure::Framing,
-        PeerFault::Stream(_) => PeerFailure::Stream,
-        PeerFault::Sasl(_) => PeerFailure::Sasl,
+        PeerFault::Stream(condition) => {
+            PeerFailure::Stream(SentCondition::named(condition.as_str()))
+        }
+        PeerFault::Sasl(condition) => PeerFailure::Sasl(SentCondition::named(condition.as_str())),
         PeerFault::BadVerifier => PeerFailure::BadVerifier,
         PeerFault::Scram => PeerFailure::Scram,
         PeerFault::NoFeature => PeerFailure::NoFeature,
@@ -31,7 +34,9 @@ fn page_failure(fault: &CatchUpFault) -> PeerFailure
     ensures { result ≡ page_failure fault.now }
 {
     match fault {
-        CatchUpFault::Refused(_) => PeerFailure::Refused,
+        CatchUpFault::Refused(condition) => {
+            PeerFailure::Refused(SentCondition::named(condition.name()))
+        }
         CatchUpFault::Overrun => PeerFailure::Overrun,
         CatchUpFault::Mismatch { .. } => PeerFailure::Mismatch,
         CatchUpFault::Repeats(_) => PeerFailure::Repeats,

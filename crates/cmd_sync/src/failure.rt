@@ -1,8 +1,22 @@
-//! Why a script was not done, which the server has to answer for.
+//! Why a script was not done, which the server or the connection has to answer for.
 ghost use Rattle.std.specs.Prelude.{◌≡◌};
 ghost use Rattle.cmd_sync.specs.Failures.{ask_name, failure_name, say_name};
 
+use crate::conditions::SentCondition;
 use cl_core::{CatchUpStart, SayFault};
+
+/// Which call of the dialer or of its link stopped a script.
+#[derive(Clone, Copy, Debug, PartialEq, Eq)]
+pub enum LinkFailure {
+    /// No connection was made.
+    Dial,
+    /// A read failed.
+    Read,
+    /// A write failed.
+    Write,
+    /// The connection ended.
+    End,
+}
 
 /// Why a script was not done, which the server has to answer for: the connection was left, a catch-up ended before its last
 /// page, the client refused a step, or too much came.
@@ -10,10 +24,10 @@ use cl_core::{CatchUpStart, SayFault};
 pub enum PeerFailure {
     /// What came can't be read (RFC 6120, section 11; XML 1.0).
     Framing,
-    /// The server ended the stream by an error (RFC 6120, section 4.9).
-    Stream,
-    /// The server refused the login (RFC 6120, section 6.5).
-    Sasl,
+    /// The server ended the stream by an error with this condition (RFC 6120, section 4.9).
+    Stream(SentCondition),
+    /// The server refused the login with this condition (RFC 6120, section 6.5).
+    Sasl(SentCondition),
     /// The server's verifier isn't the right one (RFC 5802, section 3).
     BadVerifier,
     /// Another check of SCRAM-SHA-256 failed (RFC 5802, section 5).
@@ -28,8 +42,8 @@ pub enum PeerFailure {
     Unacknowledged,
     /// The server ended the stream (RFC 6120, section 4.4).
     Closed,
-    /// The server refused a page (XEP-0313, section 4).
-    Refused,
+    /// The server refused a page with this condition (XEP-0313, section 4).
+    Refused(SentCondition),
     /// More results came than were asked for.
     Overrun,
     /// The last result told is not the last one that came.
@@ -75,8 +89,8 @@ impl PeerFailure {
     {
         match self {
             PeerFailure::Framing => "Framing",
-            PeerFailure::Stream => "Stream",
-            PeerFailure::Sasl => "Sasl",
+            PeerFailure::Stream(_) => "Stream",
+            PeerFailure::Sasl(_) => "Sasl",
             PeerFailure::BadVerifier => "BadVerifier",
             PeerFailure::Scram => "Scram",
             PeerFailure::NoFeature => "NoFeature",
@@ -84,7 +98,7 @@ impl PeerFailure {
             PeerFailure::TooHigh => "TooHigh",
             PeerFailure::Unacknowledged => "Unacknowledged",
             PeerFailure::Closed => "Closed",
-            PeerFailure::Refused => "Refused",
+            PeerFailure::Refused(_) => "Refused",
             PeerFailure::Overrun => "Overrun",
             PeerFailure::Mismatch => "Mismatch",
             PeerFailure::Repeats => "Repeats",

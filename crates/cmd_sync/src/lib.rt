@@ -2,6 +2,7 @@
 //! and their reading; and the text of what the client took over.
 #![tactic(auto)]
 
+mod conditions;
 mod course;
 mod events;
 mod failure;
@@ -24,8 +25,10 @@ mod sync_fault;
 mod sync_laws;
 mod synced;
 mod talk;
+mod told;
 
-pub use failure::PeerFailure;
+pub use conditions::SentCondition;
+pub use failure::{LinkFailure, PeerFailure};
 pub use reading::read_script;
 pub use running::{MOST_RECEIVED, sync};
 pub use script::{Script, Step, Steps, User};

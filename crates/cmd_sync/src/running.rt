@@ -6,7 +6,7 @@ ghost use Rattle.cl_core.specs.declared.faults.ClientFault.TheVariants.{NoMemory
 ghost use Rattle.cmd_sync.specs.Texts.{synced_text};
 ghost use Rattle.cmd_sync.specs.Scripts.{may_do, may_log_in};
 ghost use Rattle.cmd_sync.specs.Courses.{begun, is_awaiting};
-ghost use Rattle.cmd_sync.specs.Syncs.{IsOutcome, IsRead, IsSynced, IsTold, IsUnread, IsUnrun, IsUntold, IsWhy};
+ghost use Rattle.cmd_sync.specs.Syncs.{IsOutcome, IsRead, IsSynced, IsTold, IsUnread, IsUnrun, IsWhy};
 ghost use Rattle.cmd_sync.specs.Talks.{DialerView};
 ghost use Rattle.cmd_sync.specs.Views.{course_step_of};
 ghost use Rattle.cmd_sync.specs.declared.stage.Stage.TheVariants.{Done};
@@ -80,14 +80,14 @@ fn through<D: Dialer>(
         IfOk result (λ text. IsTold (course_step_of course.old first.now) before after text.items) }
     ensures err { let before : DialerView = record { faults = D.faults dialer.old; ends = D.ends dialer.old; handed = D.handed dialer.old; given = D.given dialer.old } in
         let after : DialerView = record { faults = D.faults dialer.new; ends = D.ends dialer.new; handed = D.handed dialer.new; given = D.given dialer.new } in
-        IfErr result (λ fault. IsUntold fault (course_step_of course.old first.now) before after) }
+        IfErr result (λ fault. IsUnrun fault (course_step_of course.old first.now) before after) }
 {
     match call(alloc, dialer, port, course, first) {
         Ok(()) => match outcome(alloc, course) {
             Ok(text) => Ok(text),
             Err(fault) => Err(fault),
         },
-        Err(Stop::Link) => Err(SyncFault::Link),
+        Err(Stop::Link(failure)) => Err(SyncFault::Link(failure)),
         Err(Stop::NoMemory) => Err(SyncFault::NoMemory),
     }
 }
@@ -145,7 +145,7 @@ fn read(alloc: Global, text: &[u8]) -> Result<(User, Steps), SyncFault>
 ///
 /// The refusals, in the order in which they may come: `BadLine` where the bytes are no script's text, of which nothing is done;
 /// `Entropy` where no random bytes were drawn; `Link` where no connection was made, a read or a write failed, or the
-/// connection ended before all was done; `Peer` where the connection was left for a fault of the server, a catch-up ended before
+/// connection ended before all was done, with which of them it was; `Peer` where the connection was left for a fault of the server, a catch-up ended before
 /// its last page, the client refused a step, or more than `MOST_RECEIVED` bytes came, each before all was done. Bytes that can't
 /// be written come before what the piece in hand says. `NoMemory` may come in place of any answer.
 #[tactic(none)]

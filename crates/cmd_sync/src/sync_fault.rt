@@ -3,7 +3,7 @@ ghost use Rattle.std.specs.Prelude.{◌≡◌};
 ghost use Rattle.cmd_sync.specs.declared.sync_fault.Stop.TheVariants.{NoMemory as StopForMemory};
 ghost use Rattle.cmd_sync.specs.declared.sync_fault.SyncFault.TheVariants.{NoMemory as SyncForMemory};
 
-use crate::failure::PeerFailure;
+use crate::failure::{LinkFailure, PeerFailure};
 use base_io::NoMemory;
 use cmd_schedule::LineWhy;
 
@@ -12,8 +12,9 @@ use cmd_schedule::LineWhy;
 pub enum SyncFault {
     /// The bytes are no script's text: this is the first bad line, counted from 1, and its first reason.
     BadLine { line: u64, why: LineWhy },
-    /// No connection was made, or a read or a write failed, or the connection ended before the script was done.
-    Link,
+    /// No connection was made, or a read or a write failed, or the connection ended, before the script was done: which of them
+    /// it was.
+    Link(LinkFailure),
     /// The server has to answer for it.
     Peer(PeerFailure),
     /// No random bytes were drawn.
@@ -33,8 +34,8 @@ impl From<NoMemory> for SyncFault {
 /// Why a talk over a link stopped.
 #[derive(Clone, Copy, Debug, PartialEq, Eq)]
 pub enum Stop {
-    /// A read or a write failed, or the link ended.
-    Link,
+    /// No link was handed out, a read or a write failed, or the link ended: which of them it was.
+    Link(LinkFailure),
     /// Memory ran out.
     NoMemory,
 }

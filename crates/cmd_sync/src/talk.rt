@@ -4,11 +4,12 @@ ghost use Rattle.cmd_sync.specs.Courses.{is_awaiting};
 ghost use Rattle.cmd_sync.specs.Talks.{CallStops, DialerView, IsHeld, IsSpoken, TalkStops};
 ghost use Rattle.cmd_sync.specs.Views.{course_of, course_step_of};
 
+use crate::failure::LinkFailure;
 use crate::progress::Course;
 use crate::rounds::exchange;
 use crate::sync_fault::Stop;
 use base_io::{Bytes, WriteFault};
-use net_traits::{Dialer, Link, send_whole};
+use net_traits::{Dialer, Link, OpenFault, send_whole};
 use std::alloc::Global;
 
 /// Writes the first bytes, and then takes piece by piece, as long as something is awaited.
@@ -24,7 +25,7 @@ fn converse<L: Link>(
     ensures err { IfErr result (λ stop. TalkStops stop (course_step_of course.old first.now) (L.told link.old) (L.told link.new)) }
 {
     if let Err(WriteFault) = send_whole(link, first) {
-        return Err(Stop::Link);
+        return Err(Stop::Link(LinkFailure::Write));
     }
     while course.stage.is_awaiting() {
         match exchange(alloc, link, course) {
@@ -36,6 +37,7 @@ fn converse<L: Link>(
 }
 
 /// Dials, talks over the link, and gives it back.
+#[tactic(auto, using(crate::proofs::Spoken::call_stops, crate::proofs::Spoken::same_dialer))]
 pub fn call<D: Dialer>(
     alloc: Global,
     dialer: &mut D,
@@ -54,7 +56,8 @@ pub fn call<D: Dialer>(
 {
     let mut link = match dialer.dial(port) {
         Ok(link) => link,
-        Err(_) => return Err(Stop::Link),
+        Err(OpenFault::Failed) => return Err(Stop::Link(LinkFailure::Dial)),
+        Err(OpenFault::NoMemory) => return Err(Stop::NoMemory),
     };
     let talked = converse(alloc, &mut link, course, first);
     link.close();

@@ -37,5 +37,6 @@ pub mod CountedLinks
 pub mod JoinedReaders
 -- faults
 pub mod Refusals
+pub mod DoorFaults
 -- a server that has served
 pub mod Served

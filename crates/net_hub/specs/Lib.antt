@@ -20,6 +20,8 @@ pub mod Sendings
 pub mod Bundles
 -- view
 pub mod Records
+-- machine
+pub mod Faults
 -- law
 pub mod GivenLinks
 pub mod Served

@@ -1,9 +1,11 @@
 //! Why connections were not served together.
 ghost use Rattle.std.specs.Prelude.{◌≡◌};
+ghost use Rattle.net_hub.specs.Faults.{of_door};
 ghost use Rattle.net_hub.specs.declared.fault.HubFault.TheVariants.{NoMemory as WantOfMemory};
 
 use base_io::NoMemory;
 use cmd_schedule::LineWhy;
+use net_traits::OpenFault;
 use std::error::Error;
 use std::fmt;
 
@@ -41,5 +43,15 @@ impl From<NoMemory> for HubFault {
 
     fn from(_e: NoMemory) -> HubFault {
         HubFault::NoMemory
+    }
+}
+
+/// What a fault of the door is to the server: want of memory stays that.
+pub(crate) fn of_door(fault: OpenFault) -> HubFault
+    ensures { result ≡ of_door fault }
+{
+    match fault {
+        OpenFault::Failed => HubFault::LinkFault,
+        OpenFault::NoMemory => HubFault::NoMemory,
     }
 }

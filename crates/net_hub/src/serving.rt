@@ -24,7 +24,7 @@ ghost use Rattle.net_hub.specs.Records.{IsKept, bares_of};
 ghost use Rattle.net_hub.specs.Sendings.{numbers_of};
 ghost use Rattle.net_hub.specs.GivenLinks.{AreFewer, AreGivenBack};
 
-use crate::fault::HubFault;
+use crate::fault::{HubFault, of_door};
 use crate::giving::give_back;
 use crate::journal::journal_of;
 use crate::recorder::Recorder;
@@ -63,7 +63,8 @@ fn leave<
     door
 }
 
-// Once all readers have ended: joins all workers, gives the links back, and writes the journal, unless the door failed.
+// Once all readers have ended: joins all workers, gives the links back, and writes the journal, unless the door failed or wanted
+// memory.
 fn finish<
     R: Threads + Wait + Drop,
     I: Incoming + Drop,
@@ -103,10 +104,11 @@ fn finish<
         events,
         senders,
     } = taker;
-    let (mut door, failed) = settle_acceptor(rt, &to, &mut pass, acceptor);
+    let (mut door, stopped) = settle_acceptor(rt, &to, &mut pass, acceptor);
     settle_all(rt, &to, &mut pass, positions, senders, &mut door);
-    if failed {
-        return (Err(HubFault::LinkFault), door);
+    match stopped {
+        Some(fault) => return (Err(of_door(fault)), door),
+        None => {}
     }
     match journal_of(alloc, &file, server, events.as_slice()) {
         Ok(text) => (Ok(text), door),
@@ -123,9 +125,9 @@ fn finish<
 /// has, and no others. A connection is gone where a read fails, where its end is read, and where it gave as much as one may.
 ///
 /// `LinkFault`, `NoWorker` and `EntropyFault` come only where the count of faults rose of the door, of the spawner and of the
-/// source of random bytes: where several did, that which was met first. After `LinkFault` all links that the door handed out
-/// are given back, which are fewer than the acceptor was to take in. After the others, and after want of memory, all readers are
-/// joined, and their links given back. Whatever is answered, as many links are given back as there were readers: those that the
+/// source of random bytes: where several did, that which was met first. Want of memory of the door is want of memory here too.
+/// After `LinkFault` all links that the door handed out are given back, which are fewer than the acceptor was to take in. After
+/// the others, and after want of memory, all readers are joined, and their links given back. Whatever is answered, as many links are given back as there were readers: those that the
 /// owner had, and as many more as the spawner counted threads in this call.
 #[tactic(auto, using(crate::proofs::JoinedReaders::after_run, crate::proofs::JoinedReaders::after_drain))]
 pub fn serve_started<

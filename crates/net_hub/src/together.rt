@@ -12,7 +12,7 @@ ghost use Rattle.net_hub.specs.Records.{IsKept};
 ghost use Rattle.net_hub.specs.GivenLinks.{AreFewer, AreGivenBack};
 ghost use Rattle.net_traits.specs.ToldSince.{ToldSince};
 
-use crate::fault::HubFault;
+use crate::fault::{HubFault, of_door};
 use crate::recorder::Recorder;
 use crate::serving::serve_started;
 use base_io::{Bytes, NoMemory};
@@ -94,9 +94,9 @@ fn ready<O: Outgoing + Drop>(alloc: Global, file: AccountsFile) -> Result<Record
 ///
 /// `BadLine` comes where `accounts` is the text of no accounts file, with the first bad line and its first reason; then the door
 /// stays closed. `LinkFault`, `NoWorker` and `EntropyFault` come only where the count of faults rose of the door, of the spawner
-/// and of the source of random bytes: where several did, that which was met first. After `LinkFault` all links that the door
-/// handed out are given back. After the others, and after want of memory, all readers are joined, and the links of which a
-/// reader was started are given back. Where the acceptor can't be started, the door is dropped, and no thread was started. Else
+/// and of the source of random bytes: where several did, that which was met first. Want of memory of the door is want of memory
+/// here too. After `LinkFault` all links that the door handed out are given back. After the others, and after want of memory, all
+/// readers are joined, and the links of which a reader was started are given back. Where the acceptor can't be started, the door is dropped, and no thread was started. Else
 /// no thread was started and no link given back, or an acceptor was started and as many links are given back as readers were,
 /// as the spawner counts them.
 #[tactic(auto, using(crate::proofs::Served::served_again, crate::proofs::Refusals::refused, crate::proofs::JoinedReaders::none_started, crate::proofs::JoinedReaders::workers_again))]
@@ -146,6 +146,6 @@ where
     };
     match door.listen(port) {
         Ok(()) => serve_with(rt, n, recorder, door, clock, entropy, spawner),
-        Err(_) => (Err(HubFault::LinkFault), Some(door)),
+        Err(fault) => (Err(of_door(fault)), Some(door)),
     }
 }

@@ -1,15 +1,15 @@
 //! Dialers in memory.
 ghost use Rattle.std.specs.Prelude.{◌≡◌, ◌⊎◌, ◌∷◌, ◌++◌, [], IfOk, IsErr, is_ok, Contains};
-ghost use Rattle.base_io.specs.Counts.{HasCause};
 ghost use Rattle.net_traits.specs.Links.{IsUnused, counted_if, has_ended, has_failed};
+ghost use Rattle.net_traits.specs.Opens.{IsOpenCounted};
 ghost use Rattle.net_memory.specs.InMemory.{AreUnused, called, new_dialer};
 ghost use Rattle.net_memory.specs.Shelves.{links_of};
 
 use crate::link::{Links, MemoryLink};
 use crate::shelf::{Shelf, put};
 use crate::supply::Supply;
-use base_io::{Failed, Numbers};
-use net_traits::Dialer;
+use base_io::Numbers;
+use net_traits::{Dialer, OpenFault};
 use std::marker::Model;
 
 /// A dialer that hands out links of a list, in order. Chosen calls fail, and so does a `dial` past the last link.
@@ -66,9 +66,9 @@ impl Dialer for MemoryDialer {
 
     ghost given = { λ s. s.given };
 
-    fn dial(&mut self, _port: u16) -> Result<MemoryLink, Failed>
+    fn dial(&mut self, _port: u16) -> Result<MemoryLink, OpenFault>
         ensures unused { IfOk result (λ link. IsUnused link.told) }
-        ensures cause { HasCause self.old.faults self.new.faults result }
+        ensures cause { IsOpenCounted self.old.faults self.new.faults result }
         ensures handed { self.new.handed ≡ counted_if (is_ok result) self.old.handed }
         ensures ends { self.new.ends ≡ self.old.ends }
         ensures given { self.new.given ≡ self.old.given }
@@ -83,7 +83,7 @@ impl Dialer for MemoryDialer {
             }
             None => {
                 self.faults = self.faults.saturating_add(1);
-                Err(Failed)
+                Err(OpenFault::Failed)
             }
         }
     }

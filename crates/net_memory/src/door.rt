@@ -1,15 +1,15 @@
 //! Doors in memory.
 ghost use Rattle.std.specs.Prelude.{◌≡◌, ◌↔◌, ◌⊎◌, ◌∷◌, ◌++◌, [], IfOk, IsErr, is_ok, Contains};
-ghost use Rattle.base_io.specs.Counts.{HasCause};
 ghost use Rattle.net_traits.specs.Links.{IsUnused, counted_if};
+ghost use Rattle.net_traits.specs.Opens.{IsOpenCounted};
 ghost use Rattle.net_memory.specs.InMemory.{AreUnused, called, new_door};
 ghost use Rattle.net_memory.specs.Shelves.{links_of};
 
 use crate::link::{Links, MemoryLink};
 use crate::shelf::{Shelf, put};
 use crate::supply::Supply;
-use base_io::{Failed, Numbers};
-use net_traits::Door;
+use base_io::Numbers;
+use net_traits::{Door, OpenFault};
 use std::marker::Model;
 
 /// A door that hands out links of a list, in order. Chosen calls fail, and so does an `accept` past the last link.
@@ -62,8 +62,8 @@ impl Door for MemoryDoor {
 
     ghost given = { λ s. s.given };
 
-    fn listen(&mut self, _port: u16) -> Result<(), Failed>
-        ensures cause { HasCause self.old.faults self.new.faults result }
+    fn listen(&mut self, _port: u16) -> Result<(), OpenFault>
+        ensures cause { IsOpenCounted self.old.faults self.new.faults result }
         ensures handed { self.new.handed ≡ self.old.handed }
         ensures given { self.new.given ≡ self.old.given }
         ensures chosen { IsErr result ↔ Contains self.old.supply.calls.fails self.new.supply.calls.made }
@@ -72,14 +72,14 @@ impl Door for MemoryDoor {
     {
         if self.supply.next_fails() {
             self.faults = self.faults.saturating_add(1);
-            return Err(Failed);
+            return Err(OpenFault::Failed);
         }
         Ok(())
     }
 
-    fn accept(&mut self) -> Result<MemoryLink, Failed>
+    fn accept(&mut self) -> Result<MemoryLink, OpenFault>
         ensures unused { IfOk result (λ link. IsUnused link.told) }
-        ensures cause { HasCause self.old.faults self.new.faults result }
+        ensures cause { IsOpenCounted self.old.faults self.new.faults result }
         ensures handed { self.new.handed ≡ counted_if (is_ok result) self.old.handed }
         ensures given { self.new.given ≡ self.old.given }
         ensures next { IfOk result (λ link. self.old.supply.links ≡ link ∷ self.new.supply.links) }
@@ -93,7 +93,7 @@ impl Door for MemoryDoor {
             }
             None => {
                 self.faults = self.faults.saturating_add(1);
-                Err(Failed)
+                Err(OpenFault::Failed)
             }
         }
     }

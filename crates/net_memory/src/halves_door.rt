@@ -1,12 +1,14 @@
 //! Doors in memory that hand out links in halves.
 ghost use Rattle.std.specs.Prelude.{◌≡◌, [], false, IfNone, IfOk, IfSome, is_ok};
-ghost use Rattle.base_io.specs.Counts.{HasCause};
 ghost use Rattle.net_memory.specs.Backs.{links_back};
 ghost use Rattle.net_traits.specs.Links.{counted_if};
+ghost use Rattle.net_traits.specs.Opens.{IsOpenCounted};
 
 use crate::uncut::Uncut;
 use base_io::{Failed, NoMemory, Numbers};
-use net_traits::{Door, GivenBack, Halves, Incoming, JoinedLink, Outgoing, Pair, put_back};
+use net_traits::{
+    Door, GivenBack, Halves, Incoming, JoinedLink, OpenFault, Outgoing, Pair, put_back,
+};
 use std::alloc::Global;
 use std::collections::VecDeque;
 
@@ -25,8 +27,7 @@ impl<I: Incoming, O> Incoming for RoomedHalf<I, O> {
     }
 }
 
-/// A door that hands out the links of a list, in order. Chosen calls fail, and so does an accept past the last link, or for
-/// which memory runs out.
+/// A door that hands out the links of a list, in order. Chosen calls fail, and so does an accept past the last link.
 #[derive(Drop)]
 pub struct MemoryHalvesDoor<U: Uncut + Drop> {
     alloc: Global,
@@ -98,16 +99,16 @@ impl<U: Uncut + Drop> MemoryHalvesDoor<U> {
     // Hands out the next link.
     fn hand_out(
         &mut self,
-    ) -> Result<Pair<RoomedHalf<U::Incoming, U::Outgoing>, U::Outgoing>, Failed>
+    ) -> Result<Pair<RoomedHalf<U::Incoming, U::Outgoing>, U::Outgoing>, OpenFault>
         ensures number { IfOk result (λ pair. (U.Incoming.told pair.incoming.half).number ≡ self.new.handed) }
         ensures open { IfOk result (λ pair. U.Outgoing.closed pair.outgoing ≡ false) }
-        ensures cause { HasCause self.old.faults self.new.faults result }
+        ensures cause { IsOpenCounted self.old.faults self.new.faults result }
         ensures handed { self.new.handed ≡ counted_if (is_ok result) self.old.handed }
         ensures given { self.new.given ≡ self.old.given }
     {
         if self.next_fails() {
             self.faults = self.faults.saturating_add(1);
-            return Err(Failed);
+            return Err(OpenFault::Failed);
         }
         let number = self.handed.saturating_add(1);
         match self.next(number) {
@@ -115,10 +116,11 @@ impl<U: Uncut + Drop> MemoryHalvesDoor<U> {
                 self.handed = number;
                 Ok(pair)
             }
-            Ok(None) | Err(NoMemory) => {
+            Ok(None) => {
                 self.faults = self.faults.saturating_add(1);
-                Err(Failed)
+                Err(OpenFault::Failed)
             }
+            Err(NoMemory) => Err(OpenFault::NoMemory),
         }
     }
 }
@@ -132,20 +134,20 @@ impl<U: Uncut + Drop> Door for MemoryHalvesDoor<U> {
 
     ghost given = { λ s. links_back U.Incoming.told U.Outgoing.told s.given };
 
-    fn listen(&mut self, _port: u16) -> Result<(), Failed> {
+    fn listen(&mut self, _port: u16) -> Result<(), OpenFault> {
         if self.next_fails() {
             self.faults = self.faults.saturating_add(1);
-            return Err(Failed);
+            return Err(OpenFault::Failed);
         }
         Ok(())
     }
 
     fn accept(
         &mut self,
-    ) -> Result<JoinedLink<RoomedHalf<U::Incoming, U::Outgoing>, U::Outgoing>, Failed> {
+    ) -> Result<JoinedLink<RoomedHalf<U::Incoming, U::Outgoing>, U::Outgoing>, OpenFault> {
         match self.hand_out() {
             Ok(pair) => Ok(JoinedLink::new(pair)),
-            Err(_) => Err(Failed),
+            Err(fault) => Err(fault),
         }
     }
 
@@ -163,7 +165,7 @@ impl<U: Uncut + Drop> Halves for MemoryHalvesDoor<U> {
 
     fn accept_halves(
         &mut self,
-    ) -> Result<Pair<RoomedHalf<U::Incoming, U::Outgoing>, U::Outgoing>, Failed> {
+    ) -> Result<Pair<RoomedHalf<U::Incoming, U::Outgoing>, U::Outgoing>, OpenFault> {
         self.hand_out()
     }
 

@@ -6,6 +6,7 @@ ghost use Rattle.net_owner.specs.Rule.{sender};
 
 use crate::item::Item;
 use crate::queue::{Receipt, Sending};
+use net_traits::OpenFault;
 
 /// What the acceptor works with: the door, the queue, its pass, which has sent nothing, and how many connections it is to
 /// take in.
@@ -20,12 +21,12 @@ pub struct AcceptorJob<R: Drop, D: Drop, P: Drop> {
     ghost unused: { view pass ≡ sender 0 },
 }
 
-/// What the acceptor gives back in the end, and whether the door failed.
+/// What the acceptor gives back in the end, and the fault for which it stopped before it had taken in as many as it was to.
 #[derive(Drop)]
 pub struct AcceptorAnswer<D: Drop, P: Drop> {
     pub door: D,
     pub pass: Receipt<Item<P>>,
-    pub failed: bool,
+    pub stopped: Option<OpenFault>,
 }
 
 impl<R: Drop, D: Drop, P: Drop> AcceptorJob<R, D, P> {

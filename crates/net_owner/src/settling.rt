@@ -1,12 +1,11 @@
 //! Workers that have ended are joined.
-ghost use Rattle.std.specs.Prelude.{◌≡◌, ◌<◌, true, false};
+ghost use Rattle.std.specs.Prelude.{◌≡◌, ◌<◌, true, false, None, IsSome};
 ghost use Rattle.crossbeam_channel.specs.Claims.{IsSeatAt, view};
 ghost use Rattle.crossbeam_channel.specs.Ends.{sends_on};
-ghost use Rattle.base_io.specs.Counts.{Rose};
 ghost use Rattle.net_owner.specs.Arrivals.{arrivals, has_closed};
 ghost use Rattle.net_owner.specs.Owners.{HasGiven};
 ghost use Rattle.net_owner.specs.Merge.{items_of};
-ghost use Rattle.net_owner.specs.Acceptors.{counted_times};
+ghost use Rattle.net_owner.specs.Acceptors.{IsStopCounted, counted_times};
 ghost use Rattle.net_owner.specs.Feeds.{has_end, number as number_of};
 
 use crate::acceptor::{AcceptorAnswer, AcceptorJob};
@@ -14,7 +13,7 @@ use crate::item::Item;
 use crate::queue::{Receipt, Sending, retire};
 use crate::reader::{ReaderAnswer, ReaderJob};
 use crate::worker::Worker;
-use net_traits::{Halves, Incoming, Pair};
+use net_traits::{Halves, Incoming, OpenFault, Pair};
 use std::sync::Wait;
 use std::thread::Threads;
 
@@ -41,14 +40,14 @@ pub fn settle<R: Threads + Wait + Drop, I: Incoming + Drop, P: Drop>(
     half
 }
 
-/// Joins the acceptor, whose last item was taken, and takes in its pass. Answers its door, and whether that failed: the
-/// connections that were taken of it are all that the door handed out.
+/// Joins the acceptor, whose last item was taken, and takes in its pass. Answers its door, and the fault for which it stopped,
+/// where it did: the connections that were taken of it are all that the door handed out.
 pub fn settle_acceptor<R: Threads + Wait + Drop, D: Halves + Drop>(
     rt: &R,
     to: &Sending<Item<Pair<D::Incoming, D::Outgoing>>>,
     pass: &mut Receipt<Item<Pair<D::Incoming, D::Outgoing>>>,
     worker: Worker<AcceptorJob<R, D, Pair<D::Incoming, D::Outgoing>>>,
-) -> (D, bool)
+) -> (D, Option<OpenFault>)
     requires channel { IsSeatAt (sends_on to.now) pass.old }
     requires owner { ((view pass.old).takes ≡ true) × ((view pass.old).sends ≡ false) }
     requires job { sends_on worker.to ≡ sends_on to.now }
@@ -56,18 +55,17 @@ pub fn settle_acceptor<R: Threads + Wait + Drop, D: Halves + Drop>(
     ensures channel { IsSeatAt (sends_on to.now) pass.new }
     ensures owner { ((view pass.new).takes ≡ true) × ((view pass.new).sends ≡ false) }
     ensures got { (view pass.new).got ≡ (view pass.old).got }
-    ensures all { result.1 ≡ false → arrivals (items_of number_of 0 (view pass.old).got) ≡ worker.count }
-    ensures fewer { result.1 ≡ true → arrivals (items_of number_of 0 (view pass.old).got) < worker.count }
-    ensures cause { result.1 ≡ true → Rose (D.faults worker.door) (D.faults result.0) }
-    ensures quiet { result.1 ≡ false → D.faults result.0 ≡ D.faults worker.door }
+    ensures all { result.1 ≡ None → arrivals (items_of number_of 0 (view pass.old).got) ≡ worker.count }
+    ensures fewer { IsSome result.1 → arrivals (items_of number_of 0 (view pass.old).got) < worker.count }
+    ensures cause { IsStopCounted (D.faults worker.door) (D.faults result.0) result.1 }
     ensures handed { D.handed result.0 ≡ counted_times (arrivals (items_of number_of 0 (view pass.old).got)) (D.handed worker.door) }
     ensures given { D.given result.0 ≡ D.given worker.door }
 {
     let AcceptorAnswer {
         door,
         pass: spent,
-        failed,
+        stopped,
     } = worker.join(rt);
     retire(to, pass, spent);
-    (door, failed)
+    (door, stopped)
 }

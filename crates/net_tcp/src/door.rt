@@ -1,15 +1,15 @@
 //! Doors over TCP that hand out links in halves.
 ghost use Rattle.std.specs.Prelude.{◌≡◌, [], ◌∷◌, ◌++◌, false, IfOk, is_none, is_ok};
-ghost use Rattle.base_io.specs.Counts.{HasCause};
 ghost use Rattle.net_traits.specs.Links.{counted_if};
+ghost use Rattle.net_traits.specs.Opens.{IsOpenCounted};
 ghost use Rattle.net_tcp.specs.ToldLinks.{link_of_halves, told_links};
 
+use crate::cause::{OpenCause, Refusal, SystemWhy, read_error};
 use crate::incoming::{Counts, TcpIncoming};
 use crate::letting_go::LetGo;
 use crate::outgoing::TcpOutgoing;
-use base_io::Failed;
 use base_log::Log;
-use net_traits::{Door, GivenBack, Halves, JoinedLink, Pair, put_back};
+use net_traits::{Door, GivenBack, Halves, JoinedLink, OpenFault, Pair, put_back};
 use std::alloc::Global;
 use std::io::ErrorKind;
 use std::net::{IpAddr, Ipv4Addr, Net, OpenListener, OpenStream, SocketAddr};
@@ -19,8 +19,8 @@ use std::time::Duration;
 const LONGEST_WRITE: u64 = 10;
 
 /// A door at a port of the loopback address of this machine (RFC 1122, section 3.2.1.3), over the system's sockets. Each
-/// error of the system is a fault, and so is an accept where nothing listens, or for which memory runs out. A call that was
-/// interrupted is tried again.
+/// error of the system is a fault, but for want of memory, and so is an accept where nothing listens. A call that was
+/// interrupted is tried again. What the system said of the fault that came last is kept.
 #[derive(Drop)]
 pub struct TcpHalvesDoor<R: Net> {
     net: R,
@@ -29,6 +29,7 @@ pub struct TcpHalvesDoor<R: Net> {
     given: GivenBack<Counts>,
     faults: u64,
     handed: u64,
+    cause: Option<OpenCause>,
 }
 
 impl<R: Net + Drop> TcpHalvesDoor<R>
@@ -48,39 +49,48 @@ where
             given: GivenBack::new(),
             faults: 0,
             handed: 0,
+            cause: None,
         }
     }
 
+    /// What was said of the fault that came last.
+    pub fn cause(&self) -> Option<OpenCause>
+        ensures { result ≡ self.now.cause }
+    {
+        self.cause
+    }
+
     // The next connection.
-    fn next(&self) -> Result<R::Stream, Failed> {
+    fn next(&self) -> Result<R::Stream, Refusal> {
         let Some(listener) = &self.listener else {
-            return Err(Failed);
+            return Err(Refusal::System(SystemWhy::Other));
         };
         // A call that is interrupted each time ends all the same.
         for _ in 0..u64::MAX {
             match listener.accept() {
                 Ok((stream, _)) => return Ok(stream),
                 Err(e) if e.kind() == ErrorKind::Interrupted => {}
-                Err(_) => break,
+                Err(e) => return Err(read_error(&e)),
             }
         }
-        Err(Failed)
+        Err(Refusal::System(SystemWhy::Other))
     }
 
     // The halves of the next connection, with this number.
     fn next_halves(
         &self,
         number: u64,
-    ) -> Result<Pair<TcpIncoming<R::Stream>, TcpOutgoing<R::Stream>>, Failed>
+    ) -> Result<Pair<TcpIncoming<R::Stream>, TcpOutgoing<R::Stream>>, Refusal>
         ensures number { IfOk result (λ pair. pair.incoming.number ≡ number) }
         ensures open { IfOk result (λ pair. is_none pair.outgoing.stream ≡ false) }
     {
         let stream = self.next()?;
-        let Ok(same) = stream.try_clone() else {
-            return Err(Failed);
+        let same = match stream.try_clone() {
+            Ok(same) => same,
+            Err(e) => return Err(read_error(&e)),
         };
         let Ok(room) = Box::new(self.alloc, GivenBack::new()) else {
-            return Err(Failed);
+            return Err(Refusal::NoMemory);
         };
         // A message goes out at once, also where it is short.
         let _ = stream.set_nodelay(true);
@@ -103,10 +113,12 @@ where
     }
 
     // Hands out the next connection.
-    fn hand_out(&mut self) -> Result<Pair<TcpIncoming<R::Stream>, TcpOutgoing<R::Stream>>, Failed>
+    fn hand_out(
+        &mut self,
+    ) -> Result<Pair<TcpIncoming<R::Stream>, TcpOutgoing<R::Stream>>, OpenFault>
         ensures number { IfOk result (λ pair. pair.incoming.number ≡ self.new.handed) }
         ensures open { IfOk result (λ pair. is_none pair.outgoing.stream ≡ false) }
-        ensures cause { HasCause self.old.faults self.new.faults result }
+        ensures cause { IsOpenCounted self.old.faults self.new.faults result }
         ensures handed { self.new.handed ≡ counted_if (is_ok result) self.old.handed }
         ensures given { self.new.given ≡ self.old.given }
     {
@@ -116,10 +128,12 @@ where
                 self.handed = number;
                 Ok(pair)
             }
-            Err(_) => {
+            Err(Refusal::System(why)) => {
                 self.faults = self.faults.saturating_add(1);
-                Err(Failed)
+                self.cause = Some(OpenCause::Accept { why });
+                Err(OpenFault::Failed)
             }
+            Err(Refusal::NoMemory) => Err(OpenFault::NoMemory),
         }
     }
 }
@@ -157,26 +171,30 @@ where
 
     ghost given = { λ s. told_links s.given };
 
-    fn listen(&mut self, port: u16) -> Result<(), Failed> {
+    fn listen(&mut self, port: u16) -> Result<(), OpenFault> {
         let address = SocketAddr::new(IpAddr::V4(Ipv4Addr::LOCALHOST), port);
         match self.net.bind(address) {
             Ok(listener) => {
                 self.listener = Some(listener);
                 Ok(())
             }
-            Err(_) => {
-                self.faults = self.faults.saturating_add(1);
-                Err(Failed)
-            }
+            Err(e) => match read_error(&e) {
+                Refusal::System(why) => {
+                    self.faults = self.faults.saturating_add(1);
+                    self.cause = Some(OpenCause::Listen { port, why });
+                    Err(OpenFault::Failed)
+                }
+                Refusal::NoMemory => Err(OpenFault::NoMemory),
+            },
         }
     }
 
     fn accept(
         &mut self,
-    ) -> Result<JoinedLink<TcpIncoming<R::Stream>, TcpOutgoing<R::Stream>>, Failed> {
+    ) -> Result<JoinedLink<TcpIncoming<R::Stream>, TcpOutgoing<R::Stream>>, OpenFault> {
         match self.hand_out() {
             Ok(pair) => Ok(JoinedLink::new(pair)),
-            Err(_) => Err(Failed),
+            Err(fault) => Err(fault),
         }
     }
 
@@ -196,7 +214,7 @@ where
 
     fn accept_halves(
         &mut self,
-    ) -> Result<Pair<TcpIncoming<R::Stream>, TcpOutgoing<R::Stream>>, Failed> {
+    ) -> Result<Pair<TcpIncoming<R::Stream>, TcpOutgoing<R::Stream>>, OpenFault> {
         self.hand_out()
     }
 

@@ -1,6 +1,7 @@
 //! The outside over the system: sockets of this machine, whole and in halves, its clock and its random bytes.
 #![tactic(auto)]
 
+mod cause;
 mod door;
 mod incoming;
 mod letting_go;
@@ -12,6 +13,7 @@ mod tcp_dialer;
 mod tcp_door;
 mod tcp_link;
 
+pub use cause::{OpenCause, SystemWhy};
 pub use door::TcpHalvesDoor;
 pub use incoming::TcpIncoming;
 pub use letting_go::LetGo;

@@ -3,16 +3,16 @@ ghost use Rattle.std.specs.Prelude.{◌≡◌, [], IfOk};
 ghost use Rattle.net_traits.specs.Links.{IsUnused};
 ghost use Rattle.net_tcp.specs.Returns.{returned, told_link};
 
+use crate::cause::{OpenCause, Refusal, read_error};
 use crate::returns::{Returns, put};
 use crate::tcp_door::loopback;
 use crate::tcp_link::TcpLink;
-use base_io::Failed;
-use net_traits::Dialer;
+use net_traits::{Dialer, OpenFault};
 use std::alloc::Global;
 use std::net::Net;
 
 /// A dialer to the loopback address of this machine (RFC 1122, section 3.2.1.3), over the system's sockets. Each error of
-/// the system is a fault, and so is a `dial` for which memory runs out.
+/// the system is a fault, but for want of memory. What the system said of the `dial` that failed last is kept.
 #[derive(Drop)]
 pub struct TcpDialer<'a, R> {
     net: &'a R,
@@ -21,6 +21,7 @@ pub struct TcpDialer<'a, R> {
     faults: u64,
     ends: u64,
     handed: u64,
+    cause: Option<OpenCause>,
 }
 
 impl<'a, R: Net> TcpDialer<'a, R> {
@@ -38,19 +39,27 @@ impl<'a, R: Net> TcpDialer<'a, R> {
             faults: 0,
             ends: 0,
             handed: 0,
+            cause: None,
         }
     }
 
+    /// What was said of the `dial` that failed last.
+    pub fn cause(&self) -> Option<OpenCause>
+        ensures { result ≡ self.now.cause }
+    {
+        self.cause
+    }
+
     // A link over a new connection.
-    fn new_link(&self, port: u16) -> Result<TcpLink<R::Stream>, Failed>
+    fn new_link(&self, port: u16) -> Result<TcpLink<R::Stream>, Refusal>
         ensures { IfOk result (λ link. IsUnused (told_link link.counts)) }
     {
         match self.net.connect(loopback(port)) {
             Ok(stream) => match TcpLink::new(self.alloc, stream) {
                 Ok(link) => Ok(link),
-                Err(_) => Err(Failed),
+                Err(_) => Err(Refusal::NoMemory),
             },
-            Err(_) => Err(Failed),
+            Err(e) => Err(read_error(&e)),
         }
     }
 }
@@ -66,16 +75,18 @@ impl<'a, R: Net> Dialer for TcpDialer<'a, R> {
 
     ghost given = { λ s. returned s.given };
 
-    fn dial(&mut self, port: u16) -> Result<TcpLink<R::Stream>, Failed> {
+    fn dial(&mut self, port: u16) -> Result<TcpLink<R::Stream>, OpenFault> {
         match self.new_link(port) {
             Ok(link) => {
                 self.handed = self.handed.saturating_add(1);
                 Ok(link)
             }
-            Err(_) => {
+            Err(Refusal::System(why)) => {
                 self.faults = self.faults.saturating_add(1);
-                Err(Failed)
+                self.cause = Some(OpenCause::Dial { port, why });
+                Err(OpenFault::Failed)
             }
+            Err(Refusal::NoMemory) => Err(OpenFault::NoMemory),
         }
     }
 

@@ -3,17 +3,17 @@ ghost use Rattle.std.specs.Prelude.{◌≡◌, [], IfOk};
 ghost use Rattle.net_traits.specs.Links.{IsUnused};
 ghost use Rattle.net_tcp.specs.Returns.{returned, told_link};
 
+use crate::cause::{Refusal, SystemWhy, read_error};
 use crate::returns::{Returns, put};
 use crate::tcp_link::TcpLink;
-use base_io::Failed;
-use net_traits::Door;
+use net_traits::{Door, OpenFault};
 use std::alloc::Global;
 use std::io::ErrorKind;
 use std::net::{IpAddr, Ipv4Addr, Net, OpenListener, SocketAddr};
 
 /// A door at a port of the loopback address of this machine (RFC 1122, section 3.2.1.3), over the system's sockets. Each
-/// error of the system is a fault, and so is an `accept` where nothing listens, or for which memory runs out. A call that
-/// was interrupted is tried again.
+/// error of the system is a fault, but for want of memory, and so is an `accept` where nothing listens. A call that was
+/// interrupted is tried again.
 #[derive(Drop)]
 pub struct TcpDoor<'a, R: Net> {
     net: &'a R,
@@ -47,29 +47,29 @@ impl<'a, R: Net> TcpDoor<'a, R> {
     }
 
     // The next connection.
-    fn next(&self) -> Result<R::Stream, Failed> {
+    fn next(&self) -> Result<R::Stream, Refusal> {
         let Some(listener) = &self.listener else {
-            return Err(Failed);
+            return Err(Refusal::System(SystemWhy::Other));
         };
         // A call that is interrupted each time ends all the same.
         for _ in 0..u64::MAX {
             match listener.accept() {
                 Ok((stream, _)) => return Ok(stream),
                 Err(e) if e.kind() == ErrorKind::Interrupted => {}
-                Err(_) => break,
+                Err(e) => return Err(read_error(&e)),
             }
         }
-        Err(Failed)
+        Err(Refusal::System(SystemWhy::Other))
     }
 
     // A link over the next connection.
-    fn next_link(&self) -> Result<TcpLink<R::Stream>, Failed>
+    fn next_link(&self) -> Result<TcpLink<R::Stream>, Refusal>
         ensures { IfOk result (λ link. IsUnused (told_link link.counts)) }
     {
         let stream = self.next()?;
         match TcpLink::new(self.alloc, stream) {
             Ok(link) => Ok(link),
-            Err(_) => Err(Failed),
+            Err(_) => Err(Refusal::NoMemory),
         }
     }
 }
@@ -83,29 +83,33 @@ impl<'a, R: Net> Door for TcpDoor<'a, R> {
 
     ghost given = { λ s. returned s.given };
 
-    fn listen(&mut self, port: u16) -> Result<(), Failed> {
+    fn listen(&mut self, port: u16) -> Result<(), OpenFault> {
         match self.net.bind(loopback(port)) {
             Ok(listener) => {
                 self.listener = Some(listener);
                 Ok(())
             }
-            Err(_) => {
-                self.faults = self.faults.saturating_add(1);
-                Err(Failed)
-            }
+            Err(e) => match read_error(&e) {
+                Refusal::System(_) => {
+                    self.faults = self.faults.saturating_add(1);
+                    Err(OpenFault::Failed)
+                }
+                Refusal::NoMemory => Err(OpenFault::NoMemory),
+            },
         }
     }
 
-    fn accept(&mut self) -> Result<TcpLink<R::Stream>, Failed> {
+    fn accept(&mut self) -> Result<TcpLink<R::Stream>, OpenFault> {
         match self.next_link() {
             Ok(link) => {
                 self.handed = self.handed.saturating_add(1);
                 Ok(link)
             }
-            Err(_) => {
+            Err(Refusal::System(_)) => {
                 self.faults = self.faults.saturating_add(1);
-                Err(Failed)
+                Err(OpenFault::Failed)
             }
+            Err(Refusal::NoMemory) => Err(OpenFault::NoMemory),
         }
     }
 

@@ -1,10 +1,10 @@
 //! Dialers: how connections are made.
 ghost use Rattle.std.specs.Prelude.{List, ℕ, [], ◌≡◌, ◌∷◌, ◌++◌, IfOk, is_ok};
-ghost use Rattle.base_io.specs.Counts.{HasCause};
 ghost use Rattle.net_traits.specs.Links.{IsUnused, LinkView, counted_if, has_ended, has_failed};
+ghost use Rattle.net_traits.specs.Opens.{IsOpenCounted};
 
+use crate::fault::OpenFault;
 use crate::link::Link;
-use base_io::Failed;
 
 /// How connections are made. Contracts alone see four things of it: `faults`, how many of its calls failed and how many
 /// links came back that had failed; `ends`, how many links came back whose end was found; `handed`, how many links it handed
@@ -21,10 +21,10 @@ pub trait Dialer {
     ghost given: { Self → List LinkView };
 
     /// A connection to a port of this machine: a link from which nothing was read and to which nothing was written. `Failed`
-    /// comes only where `faults` rose in this call, and then none is handed out.
-    fn dial(&mut self, port: u16) -> Result<Self::Link, Failed>
+    /// comes only where `faults` rose in this call, and then none is handed out, as at want of memory, which leaves that count.
+    fn dial(&mut self, port: u16) -> Result<Self::Link, OpenFault>
         ensures unused { IfOk result (λ link. IsUnused (Self.Link.told link)) }
-        ensures cause { HasCause (faults self.old) (faults self.new) result }
+        ensures cause { IsOpenCounted (faults self.old) (faults self.new) result }
         ensures handed { handed self.new ≡ counted_if (is_ok result) (handed self.old) }
         ensures ends { ends self.new ≡ ends self.old }
         ensures given { given self.new ≡ given self.old };

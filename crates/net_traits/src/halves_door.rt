@@ -2,15 +2,15 @@
 //!
 //! Doors that hand out halves are types of their own: a door moves into a thread, so it can't borrow the network.
 ghost use Rattle.std.specs.Prelude.{◌≡◌, [], ◌∷◌, ◌++◌, false, IfOk, is_ok};
-ghost use Rattle.base_io.specs.Counts.{HasCause};
 ghost use Rattle.net_traits.specs.Links.{counted_if};
+ghost use Rattle.net_traits.specs.Opens.{IsOpenCounted};
 ghost use Rattle.net_traits.specs.Halves.{link_of};
 
 use crate::door::Door;
+use crate::fault::OpenFault;
 use crate::incoming::Incoming;
 use crate::outgoing::Outgoing;
 use crate::pair::Pair;
-use base_io::Failed;
 
 /// A door that also hands out links in halves, so that a link can be read in one thread and written in another.
 pub trait Halves: Door {
@@ -19,9 +19,10 @@ pub trait Halves: Door {
     type Outgoing: Outgoing + Drop;
 
     /// The next connection that comes in, in halves. They have the number of the links that were handed out so far, with
-    /// this one, and are not closed. `Failed` comes only where `faults` rose in this call, and then none is handed out.
-    fn accept_halves(&mut self) -> Result<Pair<Self::Incoming, Self::Outgoing>, Failed>
-        ensures cause { HasCause (Self.faults self.old) (Self.faults self.new) result }
+    /// this one, and are not closed. `Failed` comes only where `faults` rose in this call, and then none is handed out, as at
+    /// want of memory, which leaves that count.
+    fn accept_halves(&mut self) -> Result<Pair<Self::Incoming, Self::Outgoing>, OpenFault>
+        ensures cause { IsOpenCounted (Self.faults self.old) (Self.faults self.new) result }
         ensures handed { Self.handed self.new ≡ counted_if (is_ok result) (Self.handed self.old) }
         ensures number { IfOk result (λ pair. (Self.Incoming.told pair.incoming).number ≡ Self.handed self.new) }
         ensures open { IfOk result (λ pair. Self.Outgoing.closed pair.outgoing ≡ false) }

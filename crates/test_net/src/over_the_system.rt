@@ -1,8 +1,10 @@
 //! Bytes over loopback, the ends of links, and the system's clock and random bytes.
 use base_io::Failed;
-use net_tcp::{LetGo, SystemClock, SystemEntropy, TcpDialer, TcpDoor, TcpHalvesDoor};
+use net_tcp::{
+    LetGo, OpenCause, SystemClock, SystemEntropy, SystemWhy, TcpDialer, TcpDoor, TcpHalvesDoor,
+};
 use net_traits::{
-    Clock, Dialer, Door, Entropy, Halves, Incoming, Link, Outgoing, Pair, send_whole,
+    Clock, Dialer, Door, Entropy, Halves, Incoming, Link, OpenFault, Outgoing, Pair, send_whole,
 };
 use std::alloc::{AllocGlobal, Global};
 use std::net::{IpAddr, Ipv4Addr, Net, SocketAddr};
@@ -27,7 +29,7 @@ fn goes_over<A: Link, B: Link>(from: &mut A, to: &mut B) -> bool {
 }
 
 // Bytes go from a dialer to a door of this machine.
-fn goes_over_loopback<R: Net>(net: &R, alloc: Global) -> Result<bool, Failed> {
+fn goes_over_loopback<R: Net>(net: &R, alloc: Global) -> Result<bool, OpenFault> {
     let mut door = TcpDoor::new(net, alloc);
     let mut dialer = TcpDialer::new(net, alloc);
     door.listen(PORT)?;
@@ -44,15 +46,19 @@ fn goes_over_loopback<R: Net>(net: &R, alloc: Global) -> Result<bool, Failed> {
     Ok(went)
 }
 
-// Nothing listens at the port.
+// Nothing listens at the port, and the dialer tells it.
 fn is_refused<R: Net>(net: &R, alloc: Global) -> bool {
     let mut dialer = TcpDialer::new(net, alloc);
-    match dialer.dial(PORT + 1) {
+    let port = PORT + 1;
+    let why = SystemWhy::Refused;
+    match dialer.dial(port) {
         Ok(link) => {
             dialer.give_back(link);
             false
         }
-        Err(_) => true,
+        Err(fault) => {
+            fault == OpenFault::Failed && dialer.cause() == Some(OpenCause::Dial { port, why })
+        }
     }
 }
 
@@ -88,15 +94,27 @@ fn is_loopback_alone<R: Net>(net: &R, port: u16) -> bool {
     net.connect(SocketAddr::new(other, port)).is_err()
 }
 
-// Whether a door of halves listens at one address alone, and a link of it ends.
-fn links_end<R: Net + Copy + Drop>(net: R, alloc: Global) -> Result<bool, Failed>
+// Whether another door can't listen at the port, and tells it.
+fn is_taken<R: Net + Copy + Drop>(net: R, alloc: Global) -> bool
+where
+    R::Stream: LetGo,
+{
+    let port = HALVES_PORT;
+    let why = SystemWhy::InUse;
+    let mut door = TcpHalvesDoor::new(net, alloc);
+    door.listen(port) == Err(OpenFault::Failed)
+        && door.cause() == Some(OpenCause::Listen { port, why })
+}
+
+// Whether a door of halves listens at one address alone, once, and a link of it ends.
+fn links_end<R: Net + Copy + Drop>(net: R, alloc: Global) -> Result<bool, OpenFault>
 where
     R::Stream: LetGo,
 {
     let mut door = TcpHalvesDoor::new(net, alloc);
     let mut dialer = TcpDialer::new(&net, alloc);
     door.listen(HALVES_PORT)?;
-    let alone = is_loopback_alone(&net, HALVES_PORT);
+    let alone = is_loopback_alone(&net, HALVES_PORT) && is_taken(net, alloc);
     let mut other = dialer.dial(HALVES_PORT)?;
     let ended = match door.accept_halves() {
         Ok(pair) => ends_both_ways(pair, &mut other),

@@ -1,5 +1,6 @@
-use Rattle.std.proofs.Common.{refl, ◌∙◌, arith}
+use Rattle.std.proofs.Common.{refl, ◌∙◌, arith, subst}
 use Rattle.crossbeam_channel.specs.Claims.{view}
+use Rattle.net_traits.specs.Opens.{IsFaultCounted}
 use Rattle.net_owner.specs.declared.item.Item.{Item}
 use Rattle.net_owner.specs.declared.item.What.TheVariants.{Came}
 use Rattle.net_owner.proofs.LongerArrivals.{accepts_none, accepts_on}
@@ -16,6 +17,10 @@ loop-taken-preserved g c =
       accepts_on (view c.loop-taken.pass) (view c.post.new.pass) item c.loop-taken.taken (g.D.Door.handed c.args.door.now) (g.D.Door.handed c.loop-taken.door) (g.D.Door.handed c.accept_halves.new.self)
           before.1 c.post.ensures.put refl (c.in-Ok.ensures.handed),
       (let less = c.loop-taken-test.true in omega arith),
-      c.in-Ok.ensures.cause.quiet ∙ before.3,
+      c.in-Ok.ensures.cause ∙ before.3,
       c.in-Ok.ensures.given ∙ before.4,
     )
+
+pub returns-in-Err-clause-cause : goal.returns-in-Err-clause-cause
+returns-in-Err-clause-cause g c =
+    subst (λ n. IsFaultCounted n (g.D.Door.faults c.accept_halves.new.self) c.in-Err.fault) c.loop-taken.invariant.3 c.in-Err.ensures.cause

@@ -9,7 +9,7 @@ use Rattle.net_owner.proofs.accepting.AcceptorJobPairIncomingOutgoingJob.work.Go
 
 pub returns : goal.returns
 returns g c =
-    let before = view c.accept_all-failed.new.pass in let took = c.accept_all-failed.ensures in
+    let before = view c.accept_all-stopped.new.pass in let took = c.accept_all-stopped.ensures in
     let put = ap (λ (v : Known (Item _)). v.put) c.post.ensures.put in
     record {
       seat = c.post.ensures.channel;
@@ -21,7 +21,6 @@ returns g c =
       all = took.all;
       fewer = took.fewer;
       cause = took.cause;
-      quiet = took.quiet;
       handed_is = took.handed;
       given_is = took.given;
     }
