@@ -1,37 +1,16 @@
 -- The lines that a file stands for declare what its own lines declare, so that both begin with the same world.
-use Rattle.std.proofs.Common.{◌≡◌, ℕ, zero, suc, Bool, true, false, List, [], ◌∷◌, ◌++◌, map, refl, sym, ap, ap₂, ◌∙◌}
-use Rattle.std.proofs.lemmas.List.{map-append}
-use Rattle.std.proofs.lemmas.List.Concat.{flat_map-append}
-use Rattle.std.specs.List.{flat_map}
-use Rattle.cmd_network.specs.Starting.{accounts_at_start}
-use Rattle.cmd_report.specs.Addresses.{domain}
+use Rattle.std.proofs.Common.{◌≡◌, ℕ, zero, suc, Bool, true, false, List, [], ◌∷◌, ◌++◌, refl, sym, ap, ap₂, ◌∙◌}
 use Rattle.cmd_restarts.specs.Files.{FileView}
 use Rattle.cmd_restarts.specs.RestartFiles.{ArePauses, IsPause, is_next, without_next}
-use Rattle.cmd_schedule.specs.Contents.{Owned, account_name, owned_at}
-use Rattle.cmd_schedule.specs.Schedules.{common_at, keep_of, steps_of}
-use Rattle.cmd_schedule.specs.declared.schedule.Line.{Line}
+use Rattle.cmd_schedule.specs.Contents.{account_name, owned_at}
 use Rattle.cmd_schedule.specs.declared.schedule.Step.{Step}
 use Rattle.cmd_schedule.specs.declared.schedule.Step.TheVariants.{Tick}
-use Rattle.cmd_schedule.specs.declared.schedule.Version.{Version}
 use Rattle.cmd_schedule.specs.declared.schedule.WireLine.{WireLine}
 use Rattle.cmd_schedule.specs.declared.schedule.WireStep.{WireStep}
 use Rattle.cmd_schedule.specs.declared.schedule.WireStep.TheVariants.{Common}
-use Rattle.srv_core.specs.Configs.{at_start}
-use Rattle.cmd_world.specs.Histories.{owned_at_start, world_at_start}
-use Rattle.cmd_world.specs.Worlds.{ByteWorld}
+use Rattle.cmd_world.specs.Histories.{world_at_start}
+use Rattle.cmd_world.proofs.Gathered.{gathered, gathered_append, made}
 use Rattle.cmd_restart_lines.specs.RestartLines.{as_schedule, expand, line_at, lines_cutting, lines_cutting_all, lines_from, lines_of, with_dial}
-
--- what common steps of lines give
-abbrev gathered : {A : Type 0} → (Step → List A) → List WireLine → List A
-gathered give lines = flat_map give (steps_of (flat_map (λ (line : WireLine). common_at line.number line.step) lines))
-
-gathered_append : {A : Type 0} (give : Step → List A) (xs ys : List WireLine) → gathered give (xs ++ ys) ≡ gathered give xs ++ gathered give ys
-gathered_append give xs ys =
-    let common = λ (line : WireLine). common_at line.number line.step in
-    let step = λ (line : Line). line.step in
-    ap (λ ls. flat_map give (map step ls)) (flat_map-append common xs ys)
-    ∙ ap (flat_map give) (map-append step (flat_map common xs) (flat_map common ys))
-    ∙ flat_map-append give (map step (flat_map common xs)) (map step (flat_map common ys))
 
 -- time that passes declares nothing
 module _ {A : Type 0} (give : Step → List A) (ticks : give (Tick 300000) ≡ []) where
@@ -57,19 +36,6 @@ module _ {A : Type 0} (give : Step → List A) (ticks : give (Tick 300000) ≡ [
       gathered_append give (lines_of is dialed line) rest
       ∙ ap₂ (λ (xs ys : List A). xs ++ ys) (line_same is dialed line pauses.0) (all_same (with_dial line.step dialed) (without_next is restarts) lines pauses.1)
       ∙ sym (gathered_append give (line ∷ []) lines)
-
--- a world at its start, of accounts and devices
-abbrev made : Version → List (List ℕ) → List Owned → ByteWorld
-made version accounts owned = record {
-  version = version;
-  moment = 0;
-  server = at_start domain (accounts_at_start accounts) (keep_of version);
-  accounts = accounts;
-  names = map (λ (o : Owned). o.device) owned;
-  devices = map owned_at_start owned;
-  wires = [];
-  takes = [];
-}
 
 -- the same accounts and devices are there at the start
 pub start_same : (f : FileView) → ArePauses f.restarts f.schedule.lines → world_at_start (as_schedule f) ≡ world_at_start f.schedule

@@ -10,5 +10,7 @@ pub mod ToldMoves
 pub mod StandingWorlds
 -- behind a restart
 pub mod Restarted
+-- behind a file
+pub mod RunWorlds
 -- ---- values
 pub mod Worked

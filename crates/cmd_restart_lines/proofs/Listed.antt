@@ -1,6 +1,6 @@
 -- The lines that a file stands for are a list of lines within the bounds of such lists.
 use Rattle.std.proofs.Common.{◌≡◌, ℕ, zero, suc, ◌+◌, ◌*◌, ◌<◌, ◌≤◌, ◌^◌, Bool, true, false, List, [], ◌∷◌, ◌++◌, append_assoc, length, le-leb, refl, sym, ap, subst, ◌∙◌, length-append, arith}
-use Rattle.std.proofs.lemmas.Bool.{ltb-true}
+use Rattle.std.proofs.lemmas.Bool.{and_from, ltb-true}
 use Rattle.std.specs.Prelude.{IsTrue, ◌&&◌, nat_le}
 use Rattle.cmd_restarts.specs.Files.{FileView}
 use Rattle.cmd_restarts.specs.RestartFiles.{ArePauses, IsPause, IsRestartFile, is_next, without_next}
@@ -27,18 +27,14 @@ ticked_append (x ∷ xs) ys = (let rest = ticked_append xs ys in omega (arith, r
 
 -- ---- connections that are cut
 
-both : (a b : Bool) → IsTrue a → IsTrue b → IsTrue (a && b)
-both true b p q = q
-both false b p q = p
-
 made : (above : WireAbove) (k : ℕ) → 1 ≤ k → k ≤ above.dials → IsTrue (is_made above k)
-made above k low high = both (nat_le 1 k) (nat_le k above.dials) (le-leb 1 k low) (le-leb k above.dials high)
+made above k low high = and_from (nat_le 1 k) (nat_le k above.dials) (le-leb 1 k low) (le-leb k above.dials high)
 
 cut_may : (above : WireAbove) (k : ℕ) → 1 ≤ k → k ≤ above.dials → IsTrue (may_run above (wire.Cut k 0 0))
-cut_may above k low high = both (is_made above k && true) true (both (is_made above k) true (made above k low high) refl) refl
+cut_may above k low high = and_from (is_made above k && true) true (and_from (is_made above k) true (made above k low high) refl) refl
 
 up_may : (above : WireAbove) (k : ℕ) → 1 ≤ k → k ≤ above.dials → IsTrue (may_run above (wire.Up k All))
-up_may above k low high = both (is_made above k) true (made above k low high) refl
+up_may above k low high = and_from (is_made above k) true (made above k low high) refl
 
 cutting_listed : (above : WireAbove) (number k : ℕ) (ys : List WireLine) → number < 2 ^ 32 → k ≤ above.dials → AreListed above ys → AreListed above (lines_cutting_all number k ++ ys)
 cutting_listed above number zero ys small few are = are

@@ -1,5 +1,5 @@
 -- Behind the lines of a restart no connection is open, and the server is one that is started again.
-use Rattle.std.proofs.Common.{◌≡◌, ℕ, zero, suc, ◌+◌, ◌<◌, ◌≤◌, Bool, true, false, not, cond, List, [], ◌∷◌, ◌++◌, Option, Some, None, length, refl, sym, ap, subst, ◌∙◌, arith, inl, inr, le_refl}
+use Rattle.std.proofs.Common.{◌≡◌, ℕ, zero, suc, ◌+◌, ◌<◌, ◌≤◌, Bool, true, false, not, cond, List, [], ◌∷◌, Option, Some, None, length, refl, sym, ap, subst, ◌∙◌, arith, inl, inr, le_refl}
 use Rattle.std.proofs.lemmas.Bool.{cases_lt}
 use Rattle.std.proofs.lemmas.List.{length-map}
 use Rattle.std.proofs.lemmas.Option.{none-some, same_Some}
@@ -16,10 +16,12 @@ use Rattle.cmd_schedule.specs.declared.schedule.WireLine.{WireLine}
 use Rattle.cmd_schedule.specs.declared.schedule.WireStep.{WireStep}
 use Rattle.cmd_schedule.specs.declared.schedule.WireStep.TheVariants as wire
 use Rattle.cmd_world.specs.Histories.{world_at_start}
-use Rattle.cmd_world.specs.Lines.{all_stepped, stepped}
+use Rattle.cmd_world.specs.Lines.{all_stepped}
 use Rattle.cmd_world.specs.Moves as moves
 use Rattle.cmd_world.specs.Moves.{moved, reported_up, served_by}
 use Rattle.cmd_world.specs.Worlds.{ByteWorld, number_at}
+use Rattle.cmd_world.proofs.AllMoves.{kept_by_lines, stepped_append}
+use Rattle.cmd_world.proofs.Numbers.{many_at, many_set}
 use Rattle.law_restart.proofs.Gone.{restarts}
 use Rattle.law_restart.proofs.Stands.{stands_so}
 use Rattle.law_restart.specs.Standing.{numbers_of}
@@ -31,14 +33,10 @@ use Rattle.srv_core.specs.Restarts.{at_restart}
 use Rattle.srv_state.specs.declared.connection.Connection.{Connection}
 use Rattle.xml_writer.specs.Items.{written_item}
 use Rattle.cmd_restart_lines.proofs.OpenOnes.{none_open, told_at, told_here, told_past, told_stays}
-use Rattle.cmd_restart_lines.proofs.StandingWorlds.{Stands, kept_by_lines, stands_at_start, stands_behind, stands_move}
+use Rattle.cmd_restart_lines.proofs.StandingWorlds.{Stands, stands_at_start, stands_behind, stands_move}
 use Rattle.cmd_restart_lines.proofs.ToldMoves.{many_line, told, told_cut, told_end, told_in}
 use Rattle.cmd_restart_lines.specs.RestartLines.{as_schedule, line_at, lines_cutting, lines_cutting_all, lines_of, lines_restarting, with_dial}
 use Rattle.cmd_restart_lines.specs.StartedAgain.{AreStartedAgain, IsStartedAgain, IsStartedWhere}
-
-pub stepped_append : (xs ys : List WireLine) (w : ByteWorld) → all_stepped (xs ++ ys) w ≡ all_stepped ys (all_stepped xs w)
-stepped_append [] ys w = refl
-stepped_append (x ∷ xs) ys w = stepped_append xs ys (stepped x w)
 
 -- ---- a connection that is cut
 
@@ -69,16 +67,6 @@ record IsTold (position : ℕ) (v w : ByteWorld) : Type 0 where
   same : Stays v w
   here : told_at position (told_in v.wires) ≡ true
   others : (q : ℕ) → told_at q (told_in w.wires) ≡ true → told_at q (told_in v.wires) ≡ true
-
-many_set : (ws : List Wire) (position : ℕ) (b : Wire) → length (slice_set ws position b) ≡ length ws
-many_set [] position b = refl
-many_set (w ∷ ws) zero b = refl
-many_set (w ∷ ws) (suc position) b = ap suc (many_set ws position b)
-
-many_changed : (position : ℕ) (f : Wire → Wire) (ws : List Wire) → length (changed_at position f ws) ≡ length ws
-many_changed position f [] = refl
-many_changed zero f (w ∷ ws) = refl
-many_changed (suc position) f (w ∷ ws) = ap suc (many_changed position f ws)
 
 -- what stands at the place of a connection that was cut
 abbrev cut_one : Option Wire → Option Wire
@@ -127,7 +115,7 @@ cut_and_told number position w =
     let v = moved (moves.Cut position 0 0) w in
     let u = moved (moves.Up position All) v in
     let t = told_up position (slice_get w.wires position) v (cut_there position w.wires) in
-    let cut : Stays v w = record { domain = refl; accounts = refl; archives = refl; next = refl; moment = refl; many = many_changed position (cut_at 0 0) w.wires } in
+    let cut : Stays v w = record { domain = refl; accounts = refl; archives = refl; next = refl; moment = refl; many = many_at position (cut_at 0 0) w.wires } in
     record { same = stays_on u v w t.same cut; here = t.here; others = λ q was. t.others q (ap (told_at q) (told_cut position 0 0 w) ∙ was) }
 
 -- ---- the first so many connections

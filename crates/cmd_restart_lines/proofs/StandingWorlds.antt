@@ -14,11 +14,12 @@ use Rattle.cmd_schedule.specs.declared.schedule.Count.{Count}
 use Rattle.cmd_schedule.specs.declared.schedule.WireLine.{WireLine}
 use Rattle.cmd_world.proofs.Numbers.{fresh_conn_at, numbered_move}
 use Rattle.cmd_world.specs.Histories.{common_steps, world_at_start}
-use Rattle.cmd_world.specs.Lines.{all_stepped, moves_of, stepped}
+use Rattle.cmd_world.specs.Lines.{all_stepped}
 use Rattle.cmd_world.specs.Moves as moves
-use Rattle.cmd_world.specs.Moves.{Move, all_moved, caught_up_by, closed_by, dialed_by, down_by, forgot_by, moved, reported_up, said_by, served, served_by, step_of_piece}
+use Rattle.cmd_world.specs.Moves.{Move, caught_up_by, closed_by, dialed_by, down_by, forgot_by, moved, reported_up, said_by, served, served_by, step_of_piece}
 use Rattle.cmd_world.specs.Standing.{IsNumbered}
 use Rattle.cmd_world.specs.Worlds.{ByteWorld, number_at, server_entropy}
+use Rattle.cmd_world.proofs.AllMoves.{kept_by_lines}
 use Rattle.law_restart.proofs.Framed.{Shuts, numbers_inserted, numbers_removed, with_number}
 use Rattle.law_restart.proofs.Stamped.{no_stamps}
 use Rattle.law_restart.proofs.Stands.{Goes, goes_event, goes_first, piece_shuts}
@@ -179,16 +180,6 @@ module _ (accounts : List Account) where
 
 pub stands_move : (m : Move) (w : ByteWorld) → Stands w → Stands (moved m w)
 stands_move m w stands = record { accounts = stands.accounts; fits = fits_move stands.accounts m w stands.numbered stands.fits; numbered = numbered_move m w stands.numbered }
-
--- ---- what each move keeps, lines keep
-
-pub kept_by_moves : (P : ByteWorld → Type 0) → ((m : Move) (w : ByteWorld) → P w → P (moved m w)) → (ms : List Move) (w : ByteWorld) → P w → P (all_moved ms w)
-kept_by_moves P each [] w is = is
-kept_by_moves P each (m ∷ ms) w is = kept_by_moves P each ms (moved m w) (each m w is)
-
-pub kept_by_lines : (P : ByteWorld → Type 0) → ((m : Move) (w : ByteWorld) → P w → P (moved m w)) → (lines : List WireLine) (w : ByteWorld) → P w → P (all_stepped lines w)
-kept_by_lines P each [] w is = is
-kept_by_lines P each (line ∷ lines) w is = kept_by_lines P each lines (stepped line w) (kept_by_moves P each (moves_of line w) w is)
 
 -- ---- the start
 

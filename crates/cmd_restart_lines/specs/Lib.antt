@@ -4,3 +4,4 @@ pub use Rattle.cmd_restarts.specs.RestartFiles
 pub mod StartedAgain
 -- ---- machine
 pub mod RestartLines
+pub mod RestartedRuns

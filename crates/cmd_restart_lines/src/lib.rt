@@ -4,4 +4,6 @@
 
 mod laws;
 
-pub use laws::{a_restart_starts_the_server_again, files_are_line_lists};
+pub use laws::{
+    a_restart_starts_the_server_again, files_are_line_lists, files_come_to_worlds_of_schedules,
+};
