@@ -1,34 +1,26 @@
 -- What a run begins with.
-use Rattle.std.proofs.Common.{◌≡◌, ◌+◌, ℕ, zero, suc, List, [], ◌∷◌, ◌++◌, Option, Some, None, map, refl, sym, subst, ap, ap₂, ◌∙◌}
+use Rattle.std.proofs.Common.{◌≡◌, ◌+◌, ℕ, zero, suc, List, [], ◌∷◌, ◌++◌, map, refl, sym, ap, ap₂, ◌∙◌}
 use Rattle.std.proofs.lemmas.List.{map-append}
 use Rattle.std.specs.Prelude.{IsTrue, slice_get}
-use Rattle.cl_intents.specs.Intents.{IntentsView}
-use Rattle.cmd_intents.specs.Files.{FileView, IsIntentFile}
-use Rattle.cmd_network.specs.Devices.{DeviceState}
+use Rattle.cmd_intents.specs.Files.{FileView}
 use Rattle.cmd_schedule.specs.Contents.{Owned, owned_at, owned_in}
 use Rattle.cmd_schedule.specs.Grammar.{may_keep}
-use Rattle.cmd_schedule.specs.Schedules.{WireView, wire_steps_of}
-use Rattle.cmd_schedule.specs.WireGrammar.{AreRunnable, IsWireSchedule, nothing_above}
-use Rattle.cmd_schedule.specs.declared.schedule.Step.{Step}
+use Rattle.cmd_schedule.specs.Schedules.{WireView}
+use Rattle.cmd_schedule.specs.WireGrammar.{IsWireSchedule}
 use Rattle.cmd_schedule.specs.declared.schedule.Step.TheVariants.{Account, Device, Say, Private, Catchup, Tick}
 use Rattle.cmd_schedule.specs.declared.schedule.WireLine.{WireLine}
 use Rattle.cmd_schedule.specs.declared.schedule.WireStep.{WireStep}
 use Rattle.cmd_schedule.specs.declared.schedule.WireStep.TheVariants.{Common, Dial, Forget, Close, Up, Down, Cut, Pass, Run}
-use Rattle.cmd_world.proofs.Traces.{may_run_schedule}
 use Rattle.cmd_world.specs.Histories.{common_steps, owned_at_start, world_at_start}
-use Rattle.cmd_world.specs.Worlds.{ByteWorld}
+use Rattle.cmd_world.proofs.Gathered.{gathered, gathered_append}
 use Rattle.cmd_resolving.specs.Expansion.{Watching, none_of, observed_by, observed_from, watching_at_start}
 use Rattle.cmd_deciding.specs.Looks.{HasLooked, watching}
 use Rattle.cmd_deciding.specs.Starts.{none_by, none_in}
-use Rattle.cmd_resolving.proofs.Declared.{gathered, gathered_append}
 
 -- ---- a file's schedule may be run
 
 pub may_keep_first : (schedule : WireView) → IsWireSchedule schedule → IsTrue (may_keep schedule.version)
 may_keep_first schedule is = is.keeps
-
-pub may_run_first : (schedule : WireView) → IsWireSchedule schedule → AreRunnable nothing_above (wire_steps_of schedule.lines)
-may_run_first schedule is = may_run_schedule schedule is
 
 -- ---- no intents, of the devices that lines declare
 

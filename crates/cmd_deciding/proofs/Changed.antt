@@ -1,5 +1,5 @@
 -- Lists whose items are changed at an index.
-use Rattle.std.proofs.Common.{◌≡◌, ◌≢◌, ◌<◌, ◌≤◌, ◌+◌, ℕ, zero, suc, List, [], ◌∷◌, ◌++◌, Option, Some, None, length, map, refl, sym, ap, ◌∙◌, arith}
+use Rattle.std.proofs.Common.{◌≡◌, ◌≢◌, ◌<◌, ◌≤◌, ◌+◌, ℕ, zero, suc, List, [], ◌∷◌, ◌++◌, Some, length, map, refl, ap, ◌∙◌, arith}
 use Rattle.std.specs.List.{slice_get, slice_index_or, slice_set}
 use Rattle.std.specs.Option.{option_map}
 use Rattle.cmd_network.specs.Positions.{changed_at}
@@ -44,11 +44,6 @@ got_mapped g (suc k) (x ∷ xs) = got_mapped g k xs
 
 -- ---- what is set
 
-pub got_there : {A : Type 0} (xs : List A) (k : ℕ) (x : A) → k < length xs → x ≡ slice_index_or xs k x → slice_get xs k ≡ Some x
-got_there [] k x within is = absurd (omega (arith, within))
-got_there (y ∷ xs) zero x within is = ap Some (sym is)
-got_there (y ∷ xs) (suc k) x within is = got_there xs k x (omega (arith, within)) is
-
 pub set_changes : {A B : Type 0} (g : A → B) (h : B → B) (xs : List A) (k : ℕ) (old new : A) → k < length xs → old ≡ slice_index_or xs k old → g new ≡ h (g old) →
     map g (slice_set xs k new) ≡ changed_at k h (map g xs)
 set_changes g h [] k old new within is becomes = absurd (omega (arith, within))
@@ -72,7 +67,3 @@ set_elsewhere (x ∷ xs) (suc k) (suc i) new other = set_elsewhere xs k i new (�
 pub got_behind : {A : Type 0} (xs ys : List A) (y : A) → slice_get (xs ++ y ∷ ys) (length xs) ≡ Some y
 got_behind [] ys y = refl
 got_behind (x ∷ xs) ys y = got_behind xs ys y
-
-pub none_behind : {A : Type 0} (xs : List A) → slice_get xs (length xs) ≡ None
-none_behind [] = refl
-none_behind (x ∷ xs) = none_behind xs

@@ -1,7 +1,7 @@
 -- Intents as they are, whatever room there is for tries.
 use Rattle.std.proofs.Common.{◌≡◌, ◌<◌, ◌≤◌, ◌+◌, ℕ, zero, suc, Bool, cond, List, [], ◌∷◌, ◌++◌, Option, Some, None, length, map, refl, sym, ap, ◌∙◌, arith}
 use Rattle.std.proofs.lemmas.List.{length-map, map-append}
-use Rattle.std.proofs.lemmas.Option.{slice_get_past}
+use Rattle.std.proofs.lemmas.Option.{slice_get_past, slice_get_read}
 use Rattle.std.specs.List.{list_any, slice_index_or, slice_set}
 use Rattle.std.specs.Option.{option_and_then, option_map}
 use Rattle.std.specs.Prelude.{◌||◌, slice_get}
@@ -16,7 +16,7 @@ use Rattle.cmd_network.specs.Devices.{DeviceState}
 use Rattle.cmd_resolving.specs.Expansion.{Watching, count_at, intent_in, next_at, next_where}
 use Rattle.cmd_network.specs.Positions.{changed_at}
 use Rattle.cmd_deciding.specs.Turns.{next_in}
-use Rattle.cmd_deciding.proofs.Changed.{changed_beyond, changed_same, got_mapped, got_there, set_changes}
+use Rattle.cmd_deciding.proofs.Changed.{changed_beyond, changed_same, got_mapped, set_changes}
 
 tried_under : (index : ℕ) (t : Try) (is : List OneIntent) → map without_room (intents.changed_at index (tried_again t) is) ≡ intents.changed_at index (tried_again t) (map without_room is)
 tried_under index t [] = refl
@@ -60,8 +60,8 @@ view_at vs index v there = got_mapped without_rooms index vs ∙ ap (option_map 
 pub intent_at : (vs : List IntentsView) (index k : ℕ) (v : IntentsView) → slice_get vs index ≡ Some v → intent_in index k (map without_rooms vs) ≡ option_map without_room (intent_under k v.intents)
 intent_at vs index k v there = ap (λ o. option_and_then (λ (u : IntentsView). intent_under k u.intents) o) (view_at vs index v there) ∙ under_rooms k v.intents
 
-no_intent_at : (vs : List IntentsView) (index k : ℕ) → slice_get vs index ≡ None → intent_in index k (map without_rooms vs) ≡ None
-no_intent_at vs index k nowhere = ap (λ o. option_and_then (λ (u : IntentsView). intent_under k u.intents) o) (got_mapped without_rooms index vs ∙ ap (option_map without_rooms) nowhere)
+pub no_intent_there : (vs : List IntentsView) (index k : ℕ) → slice_get vs index ≡ None → intent_in index k (map without_rooms vs) ≡ None
+no_intent_there vs index k nowhere = ap (λ o. option_and_then (λ (u : IntentsView). intent_under k u.intents) o) (got_mapped without_rooms index vs ∙ ap (option_map without_rooms) nowhere)
 
 -- ---- a try is noted
 
@@ -125,7 +125,7 @@ count_rooms (v ∷ vs) (suc index) = count_rooms vs index
 
 pub next_of_there : (vs : List IntentsView) (index : ℕ) (c : ClientView (List ℕ)) (v : IntentsView) (x : Next) → index < length vs → v ≡ slice_index_or vs index v → x ≡ next_of c v → x ≡ next_in c (slice_get (map without_rooms vs) index)
 next_of_there vs index c v x within is wants =
-    wants ∙ sym (next_rooms c v) ∙ ap (next_in c) (sym (view_at vs index v (got_there vs index v within is)))
+    wants ∙ sym (next_rooms c v) ∙ ap (next_in c) (sym (view_at vs index v (slice_get_read vs (length vs) index v refl within is)))
 
 pub nothing_next : (vs : List IntentsView) (index : ℕ) (c : ClientView (List ℕ)) → length vs ≤ index → next_in c (slice_get (map without_rooms vs) index) ≡ Rest
 nothing_next vs index c beyond = ap (next_in c) (got_mapped without_rooms index vs ∙ ap (option_map without_rooms) (slice_get_past vs index beyond))
@@ -144,6 +144,3 @@ no_device s index nowhere = ap (λ o. next_where o (slice_get s.intents index)) 
 
 pub intent_there : (vs : List IntentsView) (index k : ℕ) (v : IntentsView) (o : Option OneIntent) → slice_get vs index ≡ Some v → o ≡ intent_under k v.intents → intent_in index k (map without_rooms vs) ≡ option_map without_room o
 intent_there vs index k v o there is = intent_at vs index k v there ∙ ap (option_map without_room) (sym is)
-
-pub no_intent_there : (vs : List IntentsView) (index k : ℕ) → slice_get vs index ≡ None → intent_in index k (map without_rooms vs) ≡ None
-no_intent_there vs index k nowhere = no_intent_at vs index k nowhere

@@ -1,7 +1,8 @@
 -- A submission that a client accepts is the first one after those that there were before.
-use Rattle.std.proofs.Common.{◌≡◌, ◌+◌, ℕ, Bool, true, false, cond, List, [], ◌∷◌, ◌++◌, Option, Some, None, Result, Ok, Err, length, refl, sym, ap, ◌∙◌, append_assoc}
+use Rattle.std.proofs.Common.{◌≡◌, ◌+◌, ℕ, Bool, true, false, cond, List, [], ◌∷◌, ◌++◌, Option, Some, None, Result, Ok, Err, length, refl, sym, ap, ◌∙◌, append_assoc, le_refl}
 use Rattle.std.specs.Option.{option_map}
 use Rattle.std.specs.Prelude.{nat_le, slice_get}
+use Rattle.std.proofs.lemmas.Option.{slice_get_past}
 use Rattle.cl_core.specs.UserCalls.{is_bad_text, outbox_bound, say_answer, say_in, says, submission_of, submits}
 use Rattle.cl_core.specs.declared.faults.SayFault.{SayFault}
 use Rattle.cl_core.specs.declared.faults.SayFault.TheVariants as say
@@ -19,7 +20,7 @@ use Rattle.sm_outbox.specs.declared.said.Said.{Said}
 use Rattle.cmd_resolving.specs.Expansion.{Watching, intent_in, is_try, looked_at, noted_try, try_at, try_by}
 use Rattle.cmd_deciding.specs.Turns.{before_of, is_accepted, is_accepted_where, said_for, submitted, submitted_for, submitted_where, try_in, try_of_said, try_since}
 use Rattle.cmd_deciding.specs.declared.submitting.Before.{Before}
-use Rattle.cmd_deciding.proofs.Changed.{got_behind, none_behind, set_here}
+use Rattle.cmd_deciding.proofs.Changed.{got_behind, set_here}
 
 -- a refused one leaves the client
 same_client : (line : ℕ) (fault : SayFault) (d : DeviceState) → (say_refused line fault d).client ≡ d.client
@@ -69,7 +70,7 @@ module _ (line : ℕ) (to text : List ℕ) (d : DeviceState) where
   by_answer : (r : Result ℕ SayFault) → say_answer c text ≡ r → try_in (before_of d) (after r) ≡ try_by c r
   by_answer (Err fault) answers =
       ap (λ (f : DeviceState). try_in (before_of d) f) (ap (λ k. record (say_refused line fault d) { client = k }) (same_client line fault d))
-      ∙ ap (try_of_said (length c.log.entries)) (none_behind (all_said c.said))
+      ∙ ap (try_of_said (length c.log.entries)) (slice_get_past (all_said c.said) (length (all_said c.said)) (le_refl (length (all_said c.said))))
   by_answer (Ok n) answers = by_text (is_bad_text text) n answers
 
 -- of the device at an index, where there is one

@@ -65,7 +65,7 @@ fn none_in(alloc: Global, lines: &[WireLine]) -> Result<Vec<Intents>, NoMemory>
 }
 
 // The world of a schedule before its first line, and no intents.
-#[tactic(auto, using(crate::proofs::Begins::may_keep_first, crate::proofs::Begins::may_run_first))]
+#[tactic(auto, using(crate::proofs::Begins::may_keep_first, cmd_world::proofs::Traces::may_run_schedule))]
 fn watch_schedule(alloc: Global, schedule: &WireSchedule) -> Result<Watch, NoMemory>
     requires { IsWireSchedule schedule.now }
     ensures { IfOk result (λ watch. watch ≡ watching (world_at_start schedule.now) (none_in schedule.now.lines)) }

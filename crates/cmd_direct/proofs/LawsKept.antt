@@ -297,10 +297,15 @@ lawful_two keep s known some = record {
   paged = paged_in_runs keep s known some;
 }
 
+-- a version that may stand keeps an entry at least
+pub keeps_some : (version : Version) → IsTrue (may_keep version) → 1 ≤ keep_of version
+keeps_some One may = omega arith
+keeps_some (Two keep) may = leb-true 1 keep (and_parts _ _ may).0
+
 laws_of : (version : Version) (s : ScheduleView) → IsDirectSchedule s → IsTrue (may_keep version) →
     KeepsLawsOf version (worlds_of (keep_of version) (steps_of s.lines)) s (report_by version (steps_of s.lines))
 laws_of One s known may = lawful_one s known
-laws_of (Two keep) s known may = lawful_two keep s known (leb-true 1 keep (and_parts _ _ may).0)
+laws_of (Two keep) s known may = lawful_two keep s known (keeps_some (Two keep) may)
 
 pub lawful : (s : ScheduleView) → IsDirectSchedule s → KeepsLaws (direct_history s) s (direct_report s)
 unfolding direct_report

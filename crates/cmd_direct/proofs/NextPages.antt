@@ -14,12 +14,14 @@ use Rattle.mam_archive.specs.Ids.{id_of}
 use Rattle.cmd_direct.specs.Direct.{as_logged, entries_numbered, next_page, page_from, query_after}
 use Rattle.cmd_direct.specs.NextPages.{cut_at, kept_after, page_at, purged}
 use Rattle.mam_log.specs.LogPages.{LogPage, last_id, log_of}
+use Rattle.mam_log.specs.Views.{same_id}
 use Rattle.mam_pages.specs.Cuts.{CutView}
 use Rattle.mam_pages.specs.Kept.{kept_by}
 use Rattle.mam_pages.specs.Matches.{matching}
 use Rattle.mam_pages.specs.PageOf.{candidates, entry_of_id, index_of_page, page_among, page_of}
 use Rattle.mam_pages.specs.Spans.{numbers_of}
 use Rattle.mam_pages.specs.declared.query.PagePosition.TheVariants.{After}
+use Rattle.base_lemmas.proofs.Bytes.{bytes_eq-self}
 
 -- the id of a log's last entry, by its number, which is 0 where there is none
 abbrev pub id_after : ℕ → Option (List ℕ)
@@ -42,7 +44,7 @@ all_match owner after most [] = refl
 all_match owner after most (e ∷ es) = ap (λ t. e ∷ t) (all_match owner after most es)
 
 -- ids of numbers that differ differ
-other_id : (m n : ℕ) → m < 2 ^ 64 → n < 2 ^ 64 → m ≢ n → bytes_eq (id_of m) (id_of n) ≡ false
+pub other_id : (m n : ℕ) → m < 2 ^ 64 → n < 2 ^ 64 → m ≢ n → bytes_eq (id_of m) (id_of n) ≡ false
 other_id m n small few other =
     false_from_ne_true (bytes_eq (id_of m) (id_of n)) (λ same. other (id_of_same m n small few ((bytes_eq-Decides (id_of m) (id_of n)).0 same)))
 
@@ -100,13 +102,13 @@ page_of_first n last most owner kept cap old =
     page_among_all owner None most kept ∙ rw (kept_whole n last kept old, least) refl
 
 -- what stands at places of fronts and rests
-get_in_take : (m : ℕ) (xs : List EntryView) (i : ℕ) (x : EntryView) → slice_get (take m xs) i ≡ Some x → slice_get xs i ≡ Some x
+pub get_in_take : (m : ℕ) (xs : List EntryView) (i : ℕ) (x : EntryView) → slice_get (take m xs) i ≡ Some x → slice_get xs i ≡ Some x
 get_in_take zero xs i x at = absurd (none-some x at)
 get_in_take (suc m) [] i x at = absurd (none-some x at)
 get_in_take (suc m) (y ∷ ys) zero x at = at
 get_in_take (suc m) (y ∷ ys) (suc i) x at = get_in_take m ys i x at
 
-get_in_drop : (k : ℕ) (xs : List EntryView) (i : ℕ) (x : EntryView) → slice_get (drop k xs) i ≡ Some x → slice_get xs (k + i) ≡ Some x
+pub get_in_drop : (k : ℕ) (xs : List EntryView) (i : ℕ) (x : EntryView) → slice_get (drop k xs) i ≡ Some x → slice_get xs (k + i) ≡ Some x
 get_in_drop zero xs i x at = let same : zero + i ≡ i = omega arith in rw same at
 get_in_drop (suc k) [] i x at = absurd (none-some x at)
 get_in_drop (suc k) (y ∷ ys) i x at = let same : suc k + i ≡ suc (k + i) = omega arith in rw same (get_in_drop k ys i x at)
@@ -174,3 +176,8 @@ pub next_page_is : (keep n last most : ℕ) (owner : List ℕ) (kept : List Entr
 next_page_is keep n last most owner kept pages known cap within following =
     ap (λ id. option_or (page_from id most (kept_by owner kept)) (page_from None most (kept_by owner kept))) following
     ∙ next_is keep n last most owner kept known cap within
+
+-- a place is itself
+pub same_id-self : (id : Option (List ℕ)) → same_id id id ≡ true
+same_id-self None = refl
+same_id-self (Some id) = bytes_eq-self id

@@ -38,7 +38,7 @@ history_at all device = archive_after all (home_of all device) all
 abbrev pub last_at : List Step → List ℕ → List Step → ℕ
 last_at all device before = length (archive_after all (home_of all device) before)
 
-numbered_more : (n : ℕ) (xs ys : List EntryView) → (more : List EntryView) × (numbered_from n (xs ++ ys) ≡ numbered_from n xs ++ more)
+pub numbered_more : (n : ℕ) (xs ys : List EntryView) → (more : List EntryView) × (numbered_from n (xs ++ ys) ≡ numbered_from n xs ++ more)
 numbered_more n [] ys = (numbered_from n ys, refl)
 numbered_more n (x ∷ xs) ys =
     let rest = numbered_more (n + 1) xs ys in

@@ -44,7 +44,7 @@ ends_there is same size whole = omega arith
 top_within : {last high keep : ℕ} → last ≤ high → high ≤ keep → last ≤ keep
 top_within top wide = omega arith
 
-prefix_run : (keep n low high : ℕ) (history : List EntryView) (turns : List Turn) → 1 ≤ keep → high ≤ keep → n ≤ low → AreRising low high turns →
+pub prefix_run : (keep n low high : ℕ) (history : List EntryView) (turns : List Turn) → 1 ≤ keep → high ≤ keep → n ≤ low → AreRising low high turns →
     high ≤ length history → FollowFrom 1 history → run_by keep history n turns ≡ span n (ends_at keep n turns) history
 prefix_run keep n low high history [] some wide within rise long follow = let none : n - n ≡ 0 = omega arith in ap (λ k. take k (drop n history)) (sym none)
 prefix_run keep n low high history (turn ∷ turns) some wide within rise long follow =
@@ -120,7 +120,7 @@ unbroken_after : (broken : Bool) (es : List LogEntry) → broken ≡ false → A
 unbroken_after broken [] is = tt
 unbroken_after broken (e ∷ es) is = (is, all_map (λ l. l.broken ≡ false) (logged_line false) es (all_of (λ l. false ≡ false) (λ l. refl) es))
 
-unbroken_turns : (keep n low high c : ℕ) (history : List EntryView) (turns : List Turn) → 1 ≤ keep → high ≤ keep → n ≤ low → AreRising low high turns →
+pub unbroken_turns : (keep n low high c : ℕ) (history : List EntryView) (turns : List Turn) → 1 ≤ keep → high ≤ keep → n ≤ low → AreRising low high turns →
     high ≤ length history → FollowFrom 1 history → c ≡ n → AllByRecursion (λ l. l.broken ≡ false) (logged_from c (pages_by keep history n turns))
 unbroken_turns keep n low high c history [] some wide within rise long follow is = tt
 unbroken_turns keep n low high c history (turn ∷ turns) some wide within rise long follow is =
@@ -177,7 +177,7 @@ whole_total keep n turn count many some within wide before size complete =
     summed : {last n many count : ℕ} → n ≤ last → many ≡ n → count ≡ last - n → last ≡ many + count
     summed within before pieces = omega arith
 
-tiles_one : (keep n low high : ℕ) (history : List EntryView) (turns : List Turn) (before : List LoggedLine) → 1 ≤ keep → high ≤ keep → n ≤ low → AreRising low high turns →
+pub tiles_one : (keep n low high : ℕ) (history : List EntryView) (turns : List Turn) (before : List LoggedLine) → 1 ≤ keep → high ≤ keep → n ≤ low → AreRising low high turns →
     high ≤ length history → FollowFrom 1 history → last_logged before ≡ id_after n → length before ≡ n →
     AreTiles before (map page_line (pages_by keep history n turns)) (logged_from (length before) (pages_by keep history n turns))
 tiles_one keep n low high history [] before some wide within rise long follow known many = refl

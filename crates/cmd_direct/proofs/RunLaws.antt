@@ -147,7 +147,7 @@ last_of_span keep last history some long follow =
     nothing_purged : (size last keep : ℕ) → 1 ≤ keep → size ≡ last - (last - keep) → size ≡ 0 → 0 ≡ last - keep
     nothing_purged size last keep some is none = omega arith
 
-first_follow : (s : ℕ) (es : List EntryView) → FollowFrom (suc s) es → (length es ≡ 0 → s ≡ 0) → first_number es ≡ suc s
+pub first_follow : (s : ℕ) (es : List EntryView) → FollowFrom (suc s) es → (length es ≡ 0 → s ≡ 0) → first_number es ≡ suc s
 first_follow s [] follow empty = ap suc (sym (empty refl))
 first_follow s (e ∷ es) follow empty = follow.0
 
@@ -301,7 +301,7 @@ is_fresh_to keep all name some stand few k total last line at is number i j aski
     let grows : last_at all name take.before ≤ last_at all name (take.before ++ take.step ∷ []) = last_grows all name take.before (take.step ∷ []) in
     (no_later was low, no_earlier now high grows)
 
-asked_without : (n old : ℕ) → cond (leb n old) None (Some (id_of n)) ≡ None → n ≤ old
+pub asked_without : (n old : ℕ) → cond (leb n old) None (Some (id_of n)) ≡ None → n ≤ old
 asked_without n old none =
     elim (cases_Bool (leb n old)) [
       | inl gone ↦ leb-true n old gone
@@ -403,7 +403,7 @@ is_oldest_kept keep all name some stand few k first line at after number i j ask
     up_to keep is same grows = omega arith
 
 -- the number behind which a page was asked for
-asked_number : (n old last : ℕ) → n ≤ 4294967295 → 1 ≤ last → IsLastNumber (cond (leb n old) None (Some (id_of n))) last → (n ≡ last) × (old < n)
+pub asked_number : (n old last : ℕ) → n ≤ 4294967295 → 1 ≤ last → IsLastNumber (cond (leb n old) None (Some (id_of n))) last → (n ≡ last) × (old < n)
 asked_number n old last small one is =
     elim (cases_Bool (leb n old)) [
       | inl gone ↦ absurd (let none : last ≡ 0 = subst (λ b. IsLastNumber (cond b None (Some (id_of n))) last) gone is in omega arith)

@@ -1,14 +1,12 @@
 -- Logs whose entries are in the order of their numbers: their last entry, and what stays so as they grow.
-use Rattle.std.proofs.Common.{◌≡◌, ◌≢◌, ℕ, zero, suc, ◌+◌, ◌-◌, ◌<◌, ◌≤◌, ◌^◌, min, false, List, [], ◌∷◌, ◌++◌, Some, None, length, take, map, refl, sym, ap, ◌∙◌, subst, arith}
+use Rattle.std.proofs.Common.{◌≡◌, ℕ, zero, suc, ◌+◌, ◌-◌, ◌<◌, ◌≤◌, ◌^◌, min, false, List, [], ◌∷◌, ◌++◌, Some, None, length, take, map, refl, sym, ap, ◌∙◌, subst, arith}
 use Rattle.std.proofs.lemmas.List.{append_assoc, length-drop, length-take, map-append}
 use Rattle.std.specs.List.{AllByRecursion, list_any}
 use Rattle.std.specs.Str.{bytes_eq}
-use Rattle.mam_archive.proofs.IdDigits.{id_of_same}
 use Rattle.mam_archive.proofs.NumberedEntries.{FollowFrom, follow_drop}
 use Rattle.mam_archive.specs.Entries.{AreKept, EntryView}
 use Rattle.mam_archive.specs.Ids.{id_of}
-use Rattle.base_lemmas.proofs.Bytes.{bytes_eq-from_other}
-use Rattle.cmd_direct.proofs.NextPages.{id_after, kept_follow}
+use Rattle.cmd_direct.proofs.NextPages.{id_after, kept_follow, other_id}
 use Rattle.cmd_direct.specs.Direct.{as_logged}
 use Rattle.cmd_direct.specs.NextPages.{kept_after, last_logged, purged}
 use Rattle.mam_log.specs.LogPages.{ids_of, last_id}
@@ -63,13 +61,10 @@ high_enough low high m (n ∷ ns) ms rises = high_enough n high m ns ms rises.2
 
 -- ---- ids of numbers that rise
 
-other_ids : (m n : ℕ) → m < 2 ^ 64 → n < 2 ^ 64 → m ≢ n → bytes_eq (id_of m) (id_of n) ≡ false
-other_ids m n low below apart = bytes_eq-from_other (id_of m) (id_of n) (λ e. apart (id_of_same m n low below e))
-
 new_id : (m : ℕ) (ns : List ℕ) → m < 2 ^ 64 → AllByRecursion (λ n. n < m) ns → list_any (λ other. bytes_eq (id_of m) other) (map id_of ns) ≡ false
 new_id m [] small below = refl
 new_id m (n ∷ ns) small below =
-    let here : bytes_eq (id_of m) (id_of n) ≡ false = other_ids m n small (omega (arith, below.0)) (λ same. omega (arith, below.0)) in
+    let here : bytes_eq (id_of m) (id_of n) ≡ false = other_id m n small (omega (arith, below.0)) (λ same. omega (arith, below.0)) in
     rw here (new_id m ns small below.1)
 
 -- none of the ids repeats

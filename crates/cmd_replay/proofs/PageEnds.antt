@@ -10,7 +10,7 @@ use Rattle.mam_archive.proofs.NumberedEntries.{FollowFrom}
 use Rattle.mam_archive.specs.Entries.{AreKept, EntryView}
 use Rattle.mam_archive.specs.Ids.{id_of}
 use Rattle.base_lemmas.proofs.Bytes.{bytes_eq-self}
-use Rattle.cmd_direct.proofs.NextPages.{id_after}
+use Rattle.cmd_direct.proofs.NextPages.{id_after, same_id-self}
 use Rattle.cmd_direct.specs.Direct.{as_logged}
 use Rattle.cmd_direct.specs.NextPages.{cut_at, is_purged, kept_after, last_logged, purged}
 use Rattle.mam_log.specs.LogPages.{last_id}
@@ -21,10 +21,6 @@ use Rattle.mam_pages.specs.Spans.{number_of_entry, numbers_of}
 use Rattle.mam_pages.specs.declared.fin.Fin.{Fin}
 use Rattle.cmd_replay.proofs.InOrder.{after_follows, last_id_is, page_is_new}
 use Rattle.cmd_replay.specs.Turns.{IsInOrder, opened, turn_of, with_results, with_turn}
-
-same_id_itself : (id : Option (List ℕ)) → same_id id id ≡ true
-same_id_itself None = refl
-same_id_itself (Some id) = bytes_eq-self id
 
 -- the id of a page's last entry
 last_of_page : (es : List EntryView) → option_map id_of (slice_get (numbers_of es) (length (numbers_of es) - 1)) ≡ last_id (map as_logged es)
@@ -71,7 +67,7 @@ page_ends_well keep last most kept queryid after log now fin known low order tol
     let ends : fin.last ≡ last_id (map as_logged (take most (kept_after (last_logged log.entries) last kept))) =
     ap (λ (f : Fin). f.last) told ∙ last_of_page (take most (kept_after (last_logged log.entries) last kept)) in
     let ids : same_id fin.last (last_id (map as_logged (take most (kept_after (last_logged log.entries) last kept)))) ≡ true =
-    rw ends (same_id_itself (last_id (map as_logged (take most (kept_after (last_logged log.entries) last kept))))) in
+    rw ends (same_id-self (last_id (map as_logged (take most (kept_after (last_logged log.entries) last kept))))) in
     let new = page_is_new keep last most kept log.entries known order in
     rw opens (rw (named, ids, new) (page_advances most (kept_after (last_logged log.entries) last kept)
     (record { queryid = queryid; max = most; after = after; results = map as_logged (take most (kept_after (last_logged log.entries) last kept)) })

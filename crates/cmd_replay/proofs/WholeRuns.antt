@@ -1,6 +1,6 @@
 -- A run from a schedule's first step to its last.
-use Rattle.std.proofs.Common.{◌≡◌, ℕ, zero, suc, add-one, ◌+◌, ◌-◌, ◌<◌, ◌≤◌, true, false, List, [], ◌∷◌, ◌++◌, Some, not, ◌&&◌, IsTrue, nat_lt, nat_le, length, take, drop, get_or, map, refl, sym, ap, ◌∙◌, subst, arith}
-use Rattle.std.proofs.lemmas.Bool.{and_parts, leb-true, not-true, or_left}
+use Rattle.std.proofs.Common.{◌≡◌, ℕ, zero, suc, add-one, ◌+◌, ◌-◌, ◌<◌, ◌≤◌, true, false, List, [], ◌∷◌, ◌++◌, Some, not, ◌&&◌, nat_lt, length, take, drop, get_or, map, refl, sym, ap, ◌∙◌, subst, arith}
+use Rattle.std.proofs.lemmas.Bool.{and_parts, not-true, or_left}
 use Rattle.std.proofs.Math.Seq.{drop-nil}
 use Rattle.std.proofs.lemmas.List.{append-nil, get_or-map, length-map, length-take, map-append, take-append-drop, take_all, take_more}
 use Rattle.std.proofs.lemmas.List.Concat.{flat_map-append}
@@ -16,10 +16,11 @@ use Rattle.cmd_schedule.proofs.Prefixes.{accounts_push, right_steps}
 use Rattle.cmd_replay.proofs.FollowedSteps.{after_followed, may_follow, ready_after}
 use Rattle.cmd_report.proofs.LoggedLines.{logged_by-pages}
 use Rattle.cmd_direct.specs.Direct.{account_line, device_line, direct_report, pages_of, takes_of}
+use Rattle.cmd_direct.proofs.LawsKept.{keeps_some}
 use Rattle.cmd_schedule.proofs.Moments.{moment_few}
 use Rattle.cmd_schedule.specs.Contents.{account_name, accounts_of, moment_after}
 use Rattle.cmd_report.specs.Lines.{page_line, tile_line}
-use Rattle.cmd_schedule.specs.Grammar.{IsDirectSchedule, is_name, may_keep}
+use Rattle.cmd_schedule.specs.Grammar.{IsDirectSchedule, is_name}
 use Rattle.base_io.specs.Names.{is_among}
 use Rattle.cmd_replay.specs.Homes.{Home, empty_home, home_at, names_of}
 use Rattle.cmd_replay.specs.ReportLines.{home_line, report_of, state_line}
@@ -27,7 +28,6 @@ use Rattle.cmd_report.specs.Reports.{DeviceView}
 use Rattle.cmd_replay.specs.Runs.{HasFollowed, IsAfter, IsDevice, IsReady, MayFollow}
 use Rattle.cmd_schedule.specs.Schedules.{ScheduleView, keep_of, steps_of}
 use Rattle.cmd_schedule.specs.declared.schedule.Version.{Version}
-use Rattle.cmd_schedule.specs.declared.schedule.Version.TheVariants.{One, Two}
 use Rattle.cmd_schedule.specs.Standing.{AreOnce, AreRight}
 use Rattle.cmd_replay.specs.declared.run.Run.{Run}
 use Rattle.cmd_replay.specs.Devices.{DeviceState}
@@ -196,11 +196,7 @@ after_all version all i run past is = subst (λ ss. IsAfter version all ss run) 
 
 -- each archive keeps an entry at least
 pub keep_some : (schedule : ScheduleView) → IsDirectSchedule schedule → 1 ≤ keep_of schedule.version
-keep_some schedule is = some schedule.version is.keeps
-  where
-    some : (version : Version) → IsTrue (may_keep version) → 1 ≤ keep_of version
-    some One may = omega arith
-    some (Two keep) may = leb-true 1 keep (and_parts (nat_le 1 keep) (nat_le keep 4294967295) may).0
+keep_some schedule is = keeps_some schedule.version is.keeps
 
 -- a schedule's lines are in their places
 pub lines_of_schedule : (lines : List Line) (schedule : ScheduleView) → lines ≡ schedule.lines → IsDirectSchedule schedule → AreRight (steps_of lines)

@@ -1,43 +1,24 @@
 -- The lines that a file of intents stands for declare what its own lines declare.
 use Rattle.std.proofs.Common.{◌≡◌, ℕ, zero, suc, ◌+◌, Bool, true, false, cond, List, [], ◌∷◌, ◌++◌, Option, Some, None, map, refl, sym, ap, ap₂, ◌∙◌}
-use Rattle.std.specs.List.{flat_map, slice_get}
+use Rattle.std.specs.List.{slice_get}
 use Rattle.std.proofs.lemmas.List.{map-append}
-use Rattle.std.proofs.lemmas.List.Concat.{flat_map-append}
 use Rattle.base_io.specs.Names.{position_of}
 use Rattle.cl_intents.specs.Intents.{IntentsView}
 use Rattle.cl_intents.specs.declared.intents.Intent.{Intent as OneIntent}
 use Rattle.cl_intents.specs.declared.intents.Next.{Next}
 use Rattle.cl_intents.specs.declared.intents.Next.TheVariants as next
-use Rattle.cmd_network.specs.Starting.{accounts_at_start}
-use Rattle.cmd_report.specs.Addresses.{domain}
 use Rattle.cmd_schedule.specs.Contents.{Owned, account_name, owned_at}
-use Rattle.cmd_schedule.specs.Schedules.{common_at, keep_of, steps_of}
-use Rattle.cmd_schedule.specs.declared.schedule.Line.{Line}
 use Rattle.cmd_schedule.specs.declared.schedule.Step.{Step}
 use Rattle.cmd_schedule.specs.declared.schedule.Step.TheVariants.{Account, Device, Say, Private, Catchup, Tick}
-use Rattle.cmd_schedule.specs.declared.schedule.Version.{Version}
 use Rattle.cmd_schedule.specs.declared.schedule.WireLine.{WireLine}
 use Rattle.cmd_schedule.specs.declared.schedule.WireStep.{WireStep}
 use Rattle.cmd_schedule.specs.declared.schedule.WireStep.TheVariants.{Common, Dial, Forget, Close, Up, Down, Cut, Pass, Run}
-use Rattle.srv_core.specs.Configs.{at_start}
-use Rattle.cmd_world.specs.Histories.{owned_at_start, world_at_start, world_of}
+use Rattle.cmd_world.specs.Histories.{world_at_start, world_of}
 use Rattle.cmd_world.specs.Lines.{all_stepped}
-use Rattle.cmd_world.specs.Worlds.{ByteWorld}
+use Rattle.cmd_world.proofs.Gathered.{gathered, gathered_append, made}
 use Rattle.cmd_resolving.specs.Expansion.{Asked, RunLine, Watching, all_lines, as_schedule, asked_by_intent, asked_by_resolve, begun, count_at, done, expand, first_submission, gone, intent_in, intent_of, is_number_among, is_try, lines_by, lines_of, next_at, resolve_of, resolved, say_line, submission, submission_and_on, try_of, wanted, watched_end, watching_at_start}
 use Rattle.cmd_intents.specs.Files.{FileView}
 use Rattle.cmd_resolving.proofs.Expanded.{expanded_world, line_in}
-
--- what common steps of lines give
-abbrev pub gathered : {A : Type 0} → (Step → List A) → List WireLine → List A
-gathered give lines = flat_map give (steps_of (flat_map (λ (line : WireLine). common_at line.number line.step) lines))
-
-pub gathered_append : {A : Type 0} (give : Step → List A) (xs ys : List WireLine) → gathered give (xs ++ ys) ≡ gathered give xs ++ gathered give ys
-gathered_append give xs ys =
-    let common = λ (line : WireLine). common_at line.number line.step in
-    let step = λ (line : Line). line.step in
-    ap (λ ls. flat_map give (map step ls)) (flat_map-append common xs ys)
-    ∙ ap (flat_map give) (map-append step (flat_map common xs) (flat_map common ys))
-    ∙ flat_map-append give (map step (flat_map common xs)) (map step (flat_map common ys))
 
 -- steps of users declare nothing
 record IsOfDeclared (A : Type 0) (give : Step → List A) : Type 0 where
@@ -45,8 +26,8 @@ record IsOfDeclared (A : Type 0) (give : Step → List A) : Type 0 where
   asks : (device : List ℕ) (most : ℕ) → give (Catchup device most) ≡ []
 
 module _ {A : Type 0} (give : Step → List A) (of : IsOfDeclared A give) where
-  said : (n : ℕ) (device to text : List ℕ) → gathered give (record { number = n; step = Common (Say device to text) } ∷ []) ≡ []
-  said n device to text = ap (λ l. l ++ []) (of.says device to text)
+  nothing_of : (line : WireLine) (step : Step) → line.step ≡ Common step → give step ≡ [] → gathered give (line ∷ []) ≡ []
+  nothing_of line step is none = ap (λ st. gathered give (record { number = line.number; step = st } ∷ [])) is ∙ ap (λ l. l ++ []) none
 
   caught_up : (n : ℕ) (device : List ℕ) (most : ℕ) → gathered give (record { number = n; step = Common (Catchup device most) } ∷ []) ≡ []
   caught_up n device most = ap (λ l. l ++ []) (of.asks device most)
@@ -81,15 +62,12 @@ module _ {A : Type 0} (give : Step → List A) (of : IsOfDeclared A give) where
   intent_same : (line : WireLine) (s : Watching) (step : WireStep) → line.step ≡ step → IsSame line s (asked_by_intent s.world.names step)
   intent_same line s (Common (Say device to text)) is = by_position (position_of device s.world.names)
     where
-      nothing : gathered give (line ∷ []) ≡ []
-      nothing = ap (λ st. gathered give (record { number = line.number; step = st } ∷ [])) is ∙ said line.number device to text
-
       by_position : (p : Option ℕ) → IsSame line s (intent_of to text p)
-      by_position None = sym nothing
+      by_position None = sym (nothing_of line (Say device to text) is (of.says device to text))
       by_position (Some index) = by_view (slice_get (begun (Asked.NewIntent index to text) s).intents index)
         where
           by_view : (o : Option IntentsView) → gathered give (map line_in (first_submission line index o)) ≡ gathered give (line ∷ [])
-          by_view None = sym nothing
+          by_view None = sym (nothing_of line (Say device to text) is (of.says device to text))
           by_view (Some v) = refl
   intent_same line s (Common (Account name)) is = refl
   intent_same line s (Common (Device name account)) is = refl
@@ -108,12 +86,10 @@ module _ {A : Type 0} (give : Step → List A) (of : IsOfDeclared A give) where
   resolve_same : (line : WireLine) (s : Watching) (step : WireStep) → line.step ≡ step → IsSame line s (asked_by_resolve s.world.names step)
   resolve_same line s (Common (Catchup device most)) is = by_position (position_of device s.world.names)
     where
-      nothing : gathered give (line ∷ []) ≡ []
-      nothing = ap (λ st. gathered give (record { number = line.number; step = st } ∷ [])) is ∙ caught_up line.number device most
-
       by_position : (p : Option ℕ) → IsSame line s (resolve_of device most p)
-      by_position None = sym nothing
-      by_position (Some index) = resolved_none (count_at index s.intents + 1) line.number device index most s ∙ sym nothing
+      by_position None = sym (nothing_of line (Catchup device most) is (of.asks device most))
+      by_position (Some index) =
+          resolved_none (count_at index s.intents + 1) line.number device index most s ∙ sym (nothing_of line (Catchup device most) is (of.asks device most))
   resolve_same line s (Common (Account name)) is = refl
   resolve_same line s (Common (Device name account)) is = refl
   resolve_same line s (Common (Say device to text)) is = refl
@@ -152,19 +128,6 @@ accounts_of_declared = record { says = λ device to text. refl; asks = λ device
 
 owned_of_declared : IsOfDeclared Owned owned_at
 owned_of_declared = record { says = λ device to text. refl; asks = λ device most. refl }
-
--- a world at its start, of accounts and devices
-abbrev made : Version → List (List ℕ) → List Owned → ByteWorld
-made version accounts owned = record {
-  version = version;
-  moment = 0;
-  server = at_start domain (accounts_at_start accounts) (keep_of version);
-  accounts = accounts;
-  names = map (λ (o : Owned). o.device) owned;
-  devices = map owned_at_start owned;
-  wires = [];
-  takes = [];
-}
 
 -- the same accounts and devices are there at the start
 pub start_same : (f : FileView) → world_at_start (as_schedule f) ≡ world_at_start f.schedule

@@ -1,5 +1,5 @@
 -- The world that a file of intents comes to is that of the lines that it stands for.
-use Rattle.std.proofs.Common.{◌≡◌, ℕ, List, [], ◌∷◌, ◌++◌, Option, Some, None, length, map, refl, sym, ap, ◌∙◌}
+use Rattle.std.proofs.Common.{◌≡◌, ℕ, List, [], ◌∷◌, Option, Some, None, length, map, refl, sym, ap, ◌∙◌}
 use Rattle.std.proofs.lemmas.List.{map-append}
 use Rattle.cl_intents.specs.declared.intents.Try.{Try}
 use Rattle.cmd_network.specs.Positions.{position_under}
@@ -10,6 +10,7 @@ use Rattle.cmd_world.specs.Histories.{world_at_start}
 use Rattle.cmd_world.specs.Lines.{all_stepped, passes_where, rounds_of, stepped, step_moves}
 use Rattle.cmd_world.specs.Moves.{Move, all_moved}
 use Rattle.cmd_world.specs.Worlds.{ByteWorld}
+use Rattle.cmd_world.proofs.AllMoves.{stepped_append}
 use Rattle.cmd_resolving.specs.Expansion.{Asked, RunLine, Submitted, Watching, all_done, all_gone, all_lines, asked, begun, done, expand, gone, gone_by, lines_by, lines_of, noted, noted_try, try_of, watched, watched_end, watched_line, watched_move, watched_step, watching_at_start}
 use Rattle.cmd_intents.specs.Files.{FileView}
 
@@ -53,10 +54,6 @@ done_world l s = noted_world l.submits l.line s.world (watched_line l.line s) �
 pub all_done_world : (ls : List RunLine) (s : Watching) → (all_done ls s).world ≡ all_stepped (map line_in ls) s.world
 all_done_world [] s = refl
 all_done_world (l ∷ ls) s = all_done_world ls (done l s) ∙ ap (all_stepped (map line_in ls)) (done_world l s)
-
-pub stepped_append : (xs ys : List WireLine) (w : ByteWorld) → all_stepped (xs ++ ys) w ≡ all_stepped ys (all_stepped xs w)
-stepped_append [] ys w = refl
-stepped_append (x ∷ xs) ys w = stepped_append xs ys (stepped x w)
 
 begun_world : (a : Asked) (s : Watching) → (begun a s).world ≡ s.world
 begun_world Asked.Plain s = refl

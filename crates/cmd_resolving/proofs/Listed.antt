@@ -1,6 +1,6 @@
 -- The lines that a file stands for are a list of lines within the bounds of such lists.
 use Rattle.std.proofs.Common.{◌≡◌, ℕ, zero, suc, ◌+◌, ◌*◌, ◌<◌, ◌≤◌, ◌==◌, ◌^◌, Bool, true, false, cond, List, [], ◌∷◌, ◌++◌, Option, Some, None, length, map, refl, sym, ap, subst, ◌∙◌, length-append, arith}
-use Rattle.std.proofs.lemmas.Bool.{and_parts, eqb-true, leb-false, leb-true}
+use Rattle.std.proofs.lemmas.Bool.{and_from, and_parts, eqb-true, leb-false, leb-true}
 use Rattle.std.proofs.lemmas.List.{length-map, map-append}
 use Rattle.std.specs.Prelude.{IsTrue, ◌&&◌, nat_le, slice_get}
 use Rattle.base_io.specs.Names.{is_among, position_of}
@@ -28,10 +28,6 @@ use Rattle.cmd_world.specs.Worlds.{ByteWorld}
 use Rattle.cmd_resolving.specs.Expansion.{Asked, RunLine, Watching, expand}
 use Rattle.cmd_resolving.specs.Expansion as expansion
 use Rattle.cmd_intents.specs.Files.{FileView, IsIntentFile}
-
-both : (a b : Bool) → IsTrue a → IsTrue b → IsTrue (a && b)
-both true b p q = q
-both false b p q = p
 
 -- ---- the messages of intents are such as a line may have
 
@@ -135,7 +131,7 @@ module _ (above : WireAbove) (number : ℕ) (device : List ℕ) (most : ℕ) (sm
   among = (and_parts (is_among device above.names.devices) (nat_le 1 most) (and_parts (is_among device above.names.devices && nat_le 1 most) (nat_le most 100) may).0).0
 
   may_say : (i : OneIntent) → CanSay i → IsTrue (may_run above (wire.Common (Say device i.to i.text)))
-  may_say i can = both (is_among device above.names.devices && is_name i.to) (is_text i.text) (both (is_among device above.names.devices) (is_name i.to) among can.0) can.1
+  may_say i can = and_from (is_among device above.names.devices && is_name i.to) (is_text i.text) (and_from (is_among device above.names.devices) (is_name i.to) among can.0) can.1
 
   -- one turn of it, where those after it are listed
   turn_listed : (index : ℕ) (more : Watching → List RunLine) (s : Watching) (ys : List WireLine) → ((after : Watching) → CanEachSay after.intents → AreListed above (lines_in (more after) ++ ys))
@@ -230,13 +226,11 @@ by_here n m x y same low = by_both (nat_le (n + 1) m) (nat_le n m) refl refl
     by_both false false above below = absurd (let q = leb-false n m below in omega (arith, q, same))
 
 by_there : (n m x y : ℕ) → suc x ≤ y → suc (cond (nat_le (n + 1) m) (suc x) x) ≤ cond (nat_le n m) (suc y) y
-by_there n m x y low = by_both (nat_le (n + 1) m) (nat_le n m) refl refl
+by_there n m x y low = subst (λ k. k ≤ cond (nat_le n m) (suc y) y) (one_more (nat_le (n + 1) m)) (by_two n m (suc x) y low)
   where
-    by_both : (a b : Bool) → nat_le (n + 1) m ≡ a → nat_le n m ≡ b → suc (cond a (suc x) x) ≤ cond b (suc y) y
-    by_both true true above below = omega (arith, low)
-    by_both true false above below = absurd (let p = leb-true (n + 1) m above in let q = leb-false n m below in omega (arith, p, q))
-    by_both false true above below = omega (arith, low)
-    by_both false false above below = low
+    one_more : (b : Bool) → cond b (suc (suc x)) (suc x) ≡ suc (cond b (suc x) x)
+    one_more true = refl
+    one_more false = refl
 
 many_fewer : (n : ℕ) (ms : List ℕ) → many (n + 1) ms ≤ many n ms
 many_fewer n [] = omega arith

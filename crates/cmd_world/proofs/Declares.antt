@@ -205,7 +205,7 @@ accounts_from (line ∷ lines) above run = accounts_more line.number line.step a
 pub are_accounts : (schedule : WireView) → AreRunnable nothing_above (wire_steps_of schedule.lines) → AreAccounts [] (accounts_of (common_steps schedule))
 are_accounts schedule run = accounts_from schedule.lines nothing_above run
 
-names_from : (before names : List (List ℕ)) → AreAccounts before names → AreNames names
+pub names_from : (before names : List (List ℕ)) → AreAccounts before names → AreNames names
 names_from before [] are = tt
 names_from before (name ∷ names) are = (are.1, names_from (before ++ name ∷ []) names are.3)
 

@@ -1,5 +1,6 @@
 -- A device that dials, and the world with its connection.
-use Rattle.std.proofs.Common.{◌≡◌, ◌<◌, ◌+◌, ℕ, zero, suc, List, [], ◌∷◌, ◌++◌, length, Option, Some, ap, refl, sym, ◌∙◌, arith}
+use Rattle.std.proofs.Common.{◌≡◌, ◌<◌, ◌+◌, ℕ, zero, suc, List, [], ◌∷◌, ◌++◌, length, Option, refl, sym, ◌∙◌, arith}
+use Rattle.std.proofs.lemmas.Option.{slice_get_read}
 use Rattle.std.specs.List.{slice_get, slice_index_or, slice_set}
 use Rattle.cmd_network.specs.Devices.{DeviceState, dials_at}
 use Rattle.srv_core.specs.Events.{Whole, after_connect}
@@ -8,11 +9,6 @@ use Rattle.cmd_network.specs.Wires.{fresh_wire, left, put_up}
 use Rattle.cmd_network.specs.declared.wire.Wire.{Wire}
 use Rattle.cmd_world.specs.Moves.{dialed_by}
 use Rattle.cmd_world.specs.Worlds.{ByteWorld, client_entropy, server_entropy}
-
-there : {T : Type 0} (xs : List T) (position : ℕ) (x : T) → position < length xs → x ≡ slice_index_or xs position x → slice_get xs position ≡ Some x
-there [] position x within is = absurd (omega (arith, within))
-there (y ∷ xs) zero x within is = ap Some (sym is)
-there (y ∷ xs) (suc position) x within is = there xs position x (omega (arith, within)) is
 
 same_there : {T : Type 0} (xs : List T) (position : ℕ) (x y : T) → position < length xs → x ≡ slice_index_or xs position x → y ≡ slice_index_or xs position y → x ≡ y
 same_there [] position x y within p q = absurd (omega (arith, within))
@@ -26,5 +22,5 @@ pub dialed : (w : ByteWorld) (position n : ℕ) (here : Option ℕ) (shown d e :
     → record w { server = server; devices = slice_set w.devices position e; wires = wires } ≡ dialed_by position (slice_get w.devices position) w
 dialed w position n here shown d e drawn seed put server wires within shown_is d_is here_is many draw seeds e_is put_is served wires_are =
     let same = same_there w.devices position shown d within shown_is d_is in
-    let found = there w.devices position d within d_is in
+    let found = slice_get_read w.devices (length w.devices) position d refl within d_is in
     rw (found, served, e_is, wires_are, put_is, seeds, draw, many, here_is, same) refl

@@ -5,3 +5,6 @@ pub mod Declares
 pub mod Traces
 pub mod ReportLines
 pub mod Dials
+pub mod AllMoves
+pub mod UpDevices
+pub mod Gathered

@@ -216,19 +216,19 @@ under_same a b w same under = subst (λ n. IsUnder n w) (sym same) under
 
 -- ---- as many connections
 
-many_at : {T : Type 0} (position : ℕ) (f : T → T) (xs : List T) → length (changed_at position f xs) ≡ length xs
+pub many_at : {T : Type 0} (position : ℕ) (f : T → T) (xs : List T) → length (changed_at position f xs) ≡ length xs
 many_at position f [] = refl
 many_at zero f (x ∷ xs) = refl
 many_at (suc position) f (x ∷ xs) = ap (λ n. suc n) (many_at position f xs)
 
-many_where : {T : Type 0} (o : Option ℕ) (f : T → T) (xs : List T) → length (changed_where o f xs) ≡ length xs
+pub many_where : {T : Type 0} (o : Option ℕ) (f : T → T) (xs : List T) → length (changed_where o f xs) ≡ length xs
 many_where None f xs = refl
 many_where (Some position) f xs = many_at position f xs
 
 many_under : {T : Type 0} (k : ℕ) (f : T → T) (xs : List T) → length (changed_under k f xs) ≡ length xs
 many_under k f xs = many_where (position_under k) f xs
 
-many_set : {T : Type 0} (xs : List T) (position : ℕ) (x : T) → length (slice_set xs position x) ≡ length xs
+pub many_set : {T : Type 0} (xs : List T) (position : ℕ) (x : T) → length (slice_set xs position x) ≡ length xs
 many_set [] position y = refl
 many_set (x ∷ xs) zero y = refl
 many_set (x ∷ xs) (suc position) y = ap (λ n. suc n) (many_set xs position y)
@@ -238,7 +238,7 @@ many_emitted version moment (Put k bytes) e = many_under k _ e.wires
 many_emitted version moment (Shut k) e = many_under k _ e.wires
 many_emitted version moment (Took from to origin) e = refl
 
-many_all_emitted : (version : Version) (moment : ℕ) (outs : List (Out (List ℕ))) (e : Effects) → length (all_emitted version moment outs e).wires ≡ length e.wires
+pub many_all_emitted : (version : Version) (moment : ℕ) (outs : List (Out (List ℕ))) (e : Effects) → length (all_emitted version moment outs e).wires ≡ length e.wires
 many_all_emitted version moment [] e = refl
 many_all_emitted version moment (o ∷ outs) e = many_all_emitted version moment outs (emitted version moment o e) ∙ many_emitted version moment o e
 

@@ -31,26 +31,21 @@ rounds_reach k (suc n) v last (next, round, more) =
 -- ---- what they bring
 
 pub online_or : {A : Type 0} (v last : View A) (k n : ℕ) (w : WorksOn k v) → LinkReached v → AreRounds IsAny k n v last → rounds_to_go w.conn.client ≤ n → ((p : ℕ) × IsOnlineOn k p last) ⊎ EndsWithin (WorksOn k) (EndsConn k) v last
-online_or {A = A} v last k n w reached rounds low = by (stays_open ms.0 v last k reached w ms.1)
+online_or {A = A} v last k n w reached rounds low = let ms = rounds_reach k n v last rounds in by ms.0 ms.1 (stays_open ms.0 v last k reached w ms.1)
   where
-    ms : (moves : List (LinkMove A)) × LinkReaches moves v last
-    ms = rounds_reach k n v last rounds
-
-    by : WorksOn k last ⊎ IsAmong (WorksOn k) (EndsConn k) ms.0 v last → ((p : ℕ) × IsOnlineOn k p last) ⊎ EndsWithin (WorksOn k) (EndsConn k) v last
-    by (inl e) = let o = online_then v last k n w.conn e.conn reached w.here w.is rounds low e.is e.flows in inl (o.0, record { works = e; online = o.1 })
-    by (inr a) = inr (record { moves = ms.0; leads = ms.1; among = a })
+    by : (moves : List (LinkMove A)) → LinkReaches moves v last → WorksOn k last ⊎ IsAmong (WorksOn k) (EndsConn k) moves v last → ((p : ℕ) × IsOnlineOn k p last) ⊎ EndsWithin (WorksOn k) (EndsConn k) v last
+    by moves leads (inl e) = let o = online_then v last k n w.conn e.conn reached w.here w.is rounds low e.is e.flows in inl (o.0, record { works = e; online = o.1 })
+    by moves leads (inr a) = inr (record { moves = moves; leads = leads; among = a })
 
 pub resumed_or : {A : Type 0} (v last : View A) (k n : ℕ) (own : Own A) (w : WorksOn k v) → LinkReached v → v.own ≡ Some own → HasCounted own.number v → w.conn.client ≡ InHeader1 → AreRounds IsAny k n v last → 5 ≤ n →
     (IsOnlineOn k own.number last × (last.epoch ≡ v.epoch)) ⊎ (EndsWithin (WorksOn k) (EndsConn k) v last ⊎ EndsWithin (HasCounted own.number) EndsSession v last)
-resumed_or {A = A} v last k n own w reached is_own has client rounds low = by (stays_open ms.0 v last k reached w ms.1) (session_stays ms.0 v last own.number reached has ms.1)
+resumed_or {A = A} v last k n own w reached is_own has client rounds low =
+    let ms = rounds_reach k n v last rounds in by ms.0 ms.1 (stays_open ms.0 v last k reached w ms.1) (session_stays ms.0 v last own.number reached has ms.1)
   where
-    ms : (moves : List (LinkMove A)) × LinkReaches moves v last
-    ms = rounds_reach k n v last rounds
-
-    by : WorksOn k last ⊎ IsAmong (WorksOn k) (EndsConn k) ms.0 v last → HasCounted own.number last ⊎ IsAmong (HasCounted own.number) EndsSession ms.0 v last →
+    by : (moves : List (LinkMove A)) → LinkReaches moves v last → WorksOn k last ⊎ IsAmong (WorksOn k) (EndsConn k) moves v last → HasCounted own.number last ⊎ IsAmong (HasCounted own.number) EndsSession moves v last →
         (IsOnlineOn k own.number last × (last.epoch ≡ v.epoch)) ⊎ (EndsWithin (WorksOn k) (EndsConn k) v last ⊎ EndsWithin (HasCounted own.number) EndsSession v last)
-    by (inr a) s = inr (inl (record { moves = ms.0; leads = ms.1; among = a }))
-    by (inl e) (inr a) = inr (inr (record { moves = ms.0; leads = ms.1; among = a }))
-    by (inl e) (inl s) =
+    by moves leads (inr a) s = inr (inl (record { moves = moves; leads = leads; among = a }))
+    by moves leads (inl e) (inr a) = inr (inr (record { moves = moves; leads = leads; among = a }))
+    by moves leads (inl e) (inl s) =
         let r = resumed_then v last k n w.conn e.conn own has.row s.row reached w.here w.is is_own has.is has.number client rounds low e.is e.flows s.is (s.number ∙ sym has.number) in
         inl (record { works = e; online = r.0 }, r.1)

@@ -13,10 +13,6 @@ use Rattle.sim_1_applications.specs.Reported.{mark_of, said_among, said_in, said
 use Rattle.sim_1_applications.specs.Stanzas.{Up}
 use Rattle.sim_1_applications.specs.Stanzas.Up.{Carbons, Presence, Message, Query}
 
-both : (P Q R : SaidLine → Type 0) → ((l : SaidLine) → P l → Q l → R l) → (xs : List SaidLine) → AllByRecursion P xs → AllByRecursion Q xs → AllByRecursion R xs
-both P Q R each [] first second = tt
-both P Q R each (x ∷ xs) first second = (each x first.0 second.0, both P Q R each xs first.1 second.1)
-
 -- a line is acknowledged, or has the mark
 chosen : (b : Bool) (mark : SaidMark) → (cond b Acknowledged mark ≡ Acknowledged) ⊎ (cond b Acknowledged mark ≡ mark)
 chosen true mark = inl refl

@@ -1,14 +1,12 @@
 -- The report of a run of a wire schedule is of the last of its worlds.
-use Rattle.std.proofs.Common.{◌≡◌, ◌≢◌, ℕ, zero, suc, ◌+◌, ◌≤◌, true, false, List, [], ◌∷◌, ◌++◌, Option, Some, None, length, take, drop, map, refl, sym, ap, ◌∙◌, subst, arith}
+use Rattle.std.proofs.Common.{◌≡◌, ◌≢◌, ℕ, ◌+◌, ◌≤◌, true, false, List, [], ◌∷◌, ◌++◌, Option, Some, None, length, take, map, refl, sym, ap, ◌∙◌, subst, arith}
 use Rattle.std.proofs.lemmas.Bool.{true≢false}
-use Rattle.std.proofs.lemmas.Option.{none-some, same_Some}
 use Rattle.std.specs.List.{AllByRecursion, flat_map, slice_get}
 use Rattle.base_io.specs.Names.{is_among}
 use Rattle.base_lemmas.proofs.Lists.{AllByRecursion-weaker}
-use Rattle.mam_archive.specs.Entries.{EntryView, newest}
+use Rattle.mam_archive.specs.Entries.{newest}
 use Rattle.cmd_direct.proofs.TurnRuns.{all_positions}
 use Rattle.cmd_report.specs.LawfulRuns.{tells_moments}
-use Rattle.cmd_report.specs.Lines.{page_line}
 use Rattle.cmd_report.specs.Reports.{AccountView, DeviceView, ReportView}
 use Rattle.cmd_report.specs.Takes.{archive_of}
 use Rattle.cmd_report.specs.Worlds.{ReportWorld}
@@ -20,19 +18,19 @@ use Rattle.cmd_schedule.specs.Schedules.{WireView, keep_of, seen_of}
 use Rattle.cmd_schedule.specs.declared.schedule.Version.{Version}
 use Rattle.cmd_schedule.specs.declared.schedule.Version.TheVariants.{One, Two}
 use Rattle.sim_1_applications.proofs.Later.{IsLater, later_along}
-use Rattle.sim_1_applications.proofs.LawsKept.{ground_of}
+use Rattle.sim_1_applications.proofs.LawsKept.{ground_of, home_at, tiles_many}
 use Rattle.sim_1_applications.proofs.Moments.{passed_at, reaches_is, was_device}
 use Rattle.sim_1_applications.proofs.Owners.{LineAt}
 use Rattle.sim_1_applications.proofs.Runs.{taken_beginning}
-use Rattle.sim_1_applications.proofs.Shown.{shown_at}
+use Rattle.sim_1_applications.proofs.Shown.{after_both, shown_at}
 use Rattle.sim_1_applications.proofs.TakenLaws.{each_device}
 use Rattle.sim_1_applications.proofs.TileRuns.{read_beginning}
 use Rattle.sim_1_applications.proofs.Rendered.{history_few}
 use Rattle.sim_1_applications.specs.Devices as sessions
-use Rattle.sim_1_applications.specs.Devices.{OpenPage, Reading, Tile, new_device}
-use Rattle.sim_1_applications.specs.Events.{AppEvent, Reaches, devices_of as new_devices}
+use Rattle.sim_1_applications.specs.Devices.{OpenPage, Reading, new_device}
+use Rattle.sim_1_applications.specs.Events.{AppEvent, Reaches}
 use Rattle.sim_1_applications.specs.Histories.{asked_of, asked_with, state_after, states_of}
-use Rattle.sim_1_applications.specs.Reported.{AreRepresented, IsShown, account_line, history_at, pages_with, take_of, underway_of}
+use Rattle.sim_1_applications.specs.Reported.{AreRepresented, IsShown, account_line, history_at, take_of, underway_of}
 use Rattle.sim_1_applications.specs.Runs.{IsRunOf, begins, moves_of, owned_of, steps_in}
 use Rattle.law_commands.proofs.HistoriesGrow.{Extends, archive_grows, front_few, front_is, fronts_of, newest_none}
 use Rattle.law_commands.proofs.Marks.{one_kind, waits_now}
@@ -56,20 +54,11 @@ few_underway : (page : Option OpenPage) → length (underway_of page) ≤ 1
 few_underway None = omega arith
 few_underway (Some page) = omega arith
 
-tiles_many : (keep : ℕ) (history : List EntryView) (ts : List Tile) (numbers : List ℕ) → length (map page_line (pages_with keep history ts numbers)) ≡ length ts
-tiles_many keep history [] numbers = refl
-tiles_many keep history (t ∷ ts) numbers = ap suc (tiles_many keep history ts (drop t.count numbers))
-
 -- ---- lists
 
 mapped : {A B : Type 0} (f : A → B) (xs ys : List A) → map f (xs ++ ys) ≡ map f xs ++ map f ys
 mapped f [] ys = refl
 mapped f (x ∷ xs) ys = ap (λ rest. f x ∷ rest) (mapped f xs ys)
-
-home_at : (owned : List Owned) (i : ℕ) (o : Owned) → slice_get owned i ≡ Some o → slice_get (new_devices (map (λ (p : Owned). p.account) owned)) i ≡ Some (new_device o.account)
-home_at [] i o at = absurd (none-some o at)
-home_at (p ∷ owned) zero o at = ap (λ (q : Owned). Some (new_device q.account)) (same_Some p o at)
-home_at (p ∷ owned) (suc i) o at = home_at owned i o at
 
 -- in version 1 an archive keeps as many entries as it can number
 unpurged : (version : Version) (n : ℕ) → tells_moments version ≡ false → n ≤ 4294967295 → n ≤ keep_of version
@@ -84,10 +73,6 @@ module _ (owned : List Owned) where
   first_shown P [] w (x ∷ worlds) are each = each x are.0
   first_shown P (move ∷ moves) w [] are each = absurd are
   first_shown P (move ∷ moves) w (x ∷ worlds) are each = each x are.0
-
-  after_both : (xs ys : List AppEvent) (v : sessions.AppWorld) → state_after v (xs ++ ys) ≡ state_after (state_after v xs) ys
-  after_both [] ys v = refl
-  after_both (x ∷ xs) ys v = after_both xs ys _
 
   none_left : (w : sessions.AppWorld) (moves : List (List AppEvent)) → AreRepresented owned (states_of w moves) [] → ⊥
   none_left w [] is = is

@@ -9,6 +9,7 @@ use Rattle.law_xml.specs.AllRows.{FaultRow}
 use Rattle.law_xml.specs.Prefixes.{IsPrefix}
 use Rattle.law_xml.specs.StreamLimits.{IsStreamWithin}
 use Rattle.law_xml.specs.Streams.{InForce, StreamTo, position_of}
+use Rattle.law_xml.proofs.LongRowLaws.{same_front}
 use Rattle.xml_check.specs.Checked.{Told, sound_with, told, told_fault, told_item, told_items, told_last, told_turn, wrong_with}
 use Rattle.xml_check.specs.Lines.{end_line, fault_line, item_line, strange_at, truncated_line, why_name}
 use Rattle.xml_framer.specs.Limits.{server_limits}
@@ -48,21 +49,6 @@ Rows limits = (bytes : List ℕ) (b at : ℕ) (w : Why) → fault_of limits byte
 known : {A : Type 0} (o : Option A) → (o ≡ None) ⊎ ((x : A) × (o ≡ Some x))
 known None = inl refl
 known (Some x) = inr (x, refl)
-
-tails : (x y : ℕ) (xs ys : List ℕ) → x ∷ xs ≡ y ∷ ys → xs ≡ ys
-tails x y xs ys e = cc
-
-heads : (x y : ℕ) (xs ys : List ℕ) → x ∷ xs ≡ y ∷ ys → x ≡ y
-heads x y xs ys e = cc
-
--- fronts of one length of one list
-same_front : (a b c d : List ℕ) → a ++ b ≡ c ++ d → length a ≡ length c → (a ≡ c) × (b ≡ d)
-same_front [] b [] d e n = (refl, e)
-same_front [] b (y ∷ ys) d e n = absurd (omega (arith, n))
-same_front (x ∷ xs) b [] d e n = absurd (omega (arith, n))
-same_front (x ∷ xs) b (y ∷ ys) d e n =
-    let r = same_front xs b ys d (tails x y (xs ++ b) (ys ++ d) e) (omega (arith, n)) in
-    let same = heads x y (xs ++ b) (ys ++ d) e in ((λ i. same i ∷ r.0 i), r.1)
 
 -- ---- what is told of items
 

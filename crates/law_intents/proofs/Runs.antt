@@ -1,8 +1,7 @@
 -- Along all events_are.
-use Rattle.std.proofs.Common.{◌≡◌, ℕ, zero, suc, ◌+◌, ◌-◌, ◌≤◌, ◌<◌, ◌==◌, Bool, true, false, cond, List, [], ◌∷◌, ◌++◌, Option, Some, None, length, refl, sym, ap, ◌∙◌, subst, arith}
-use Rattle.std.specs.List.{AllByRecursion, filter, list_any, slice_get}
-use Rattle.std.specs.Option.{option_map_or}
-use Rattle.sim_1_applications.specs.Devices.{Device, Take, AppWorld, concerns, epoch_of, last_of, log_of, new_device}
+use Rattle.std.proofs.Common.{◌≡◌, ℕ, ◌-◌, ◌≤◌, true, false, List, [], ◌∷◌, Some, length, refl, sym, ap, ◌∙◌, subst, arith}
+use Rattle.std.specs.List.{AllByRecursion, filter, slice_get}
+use Rattle.sim_1_applications.specs.Devices.{Device, Take, AppWorld, epoch_of, last_of, log_of, new_device}
 use Rattle.sim_1_applications.specs.Events as events
 use Rattle.sim_1_applications.specs.Kept.{Read, Taken}
 use Rattle.sim_1_applications.proofs.Fresh.{seen_now}
@@ -158,30 +157,8 @@ module _ (rises : Rises) (i : ℕ) (s : IntentWorld) (reached : IntentReached i 
     taken_are : taken_of i s.tries s.world.takes ≡ filter (is_try i t) s.world.takes
     taken_are = ap (λ ts. taken_of i ts s.world.takes) are ∙ taken_of_newest i t tries s.world.takes newest_is
 
-    few : length (taken_of i s.tries s.world.takes) ≤ 1
-    few = one_less (ap length taken_are) (once_of_try i t s.world.takes (rises s.world (reached_world i s reached) i d at).rise)
-      where
-        one_less : {a b : ℕ} → a ≡ b → b ≤ 1 → a ≤ 1
-        one_less is low = omega arith
-
     pub absent_is : is_absent i t s.notes s.world.takes d ≡ true → taken_of i s.tries s.world.takes ≡ []
     absent_is absent = taken_are ∙ none_of_none (is_try i t) s.world.takes (absent_is_gone i t s.notes s.world d kept.taken kept.read at (kept.each d at).watched of.0 absent).none
-
-    exactly : is_taken i t s.world.takes ≡ true → length (taken_of i s.tries s.world.takes) ≡ 1
-    exactly taken =
-        let some = some_of_any (is_try i t) s.world.takes taken in
-        let same = ap length taken_are in
-        let most = few in
-        just (length (taken_of i s.tries s.world.takes)) (length (filter (is_try i t) s.world.takes)) same some most
-      where
-        just : (a b : ℕ) → a ≡ b → 1 ≤ b → a ≤ 1 → a ≡ 1
-        just a b same some most = omega arith
-
-    pub logged_once : is_logged i t s.world.takes d ≡ true → length (taken_of i s.tries s.world.takes) ≡ 1
-    logged_once logged = exactly (logged_is i t s.world.takes d logged)
-
-    pub acknowledged_once : is_acknowledged s.world.accounts t d ≡ true → length (taken_of i s.tries s.world.takes) ≡ 1
-    acknowledged_once acknowledged = exactly (acknowledged_is s.world i d t kept.taken at acknowledged)
 
   pub once_is : length (taken_of i s.tries s.world.takes) ≤ 1
   once_is = by_tries s.tries refl
@@ -195,4 +172,24 @@ module _ (rises : Rises) (i : ℕ) (s : IntentWorld) (reached : IntentReached i 
           nothing_of : (takes : List Take) → taken_of i [] takes ≡ []
           nothing_of [] = refl
           nothing_of (x ∷ takes) = nothing_of takes
-      by_tries (t ∷ tries) are = few t tries are
+      by_tries (t ∷ tries) are = one_less (ap length (taken_are t tries are)) (once_of_try i t s.world.takes (rises s.world (reached_world i s reached) i d at).rise)
+        where
+          one_less : {a b : ℕ} → a ≡ b → b ≤ 1 → a ≤ 1
+          one_less is low = omega arith
+
+  module _ (t : Try) (tries : List Try) (are : s.tries ≡ t ∷ tries) where
+    exactly : is_taken i t s.world.takes ≡ true → length (taken_of i s.tries s.world.takes) ≡ 1
+    exactly taken =
+        let some = some_of_any (is_try i t) s.world.takes taken in
+        let same = ap length (taken_are t tries are) in
+        let most = once_is in
+        just (length (taken_of i s.tries s.world.takes)) (length (filter (is_try i t) s.world.takes)) same some most
+      where
+        just : (a b : ℕ) → a ≡ b → 1 ≤ b → a ≤ 1 → a ≡ 1
+        just a b same some most = omega arith
+
+    pub logged_once : is_logged i t s.world.takes d ≡ true → length (taken_of i s.tries s.world.takes) ≡ 1
+    logged_once logged = exactly (logged_is i t s.world.takes d logged)
+
+    pub acknowledged_once : is_acknowledged s.world.accounts t d ≡ true → length (taken_of i s.tries s.world.takes) ≡ 1
+    acknowledged_once acknowledged = exactly (acknowledged_is s.world i d t kept.taken at acknowledged)

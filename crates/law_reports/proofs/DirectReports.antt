@@ -1,14 +1,14 @@
 -- The report of each direct schedule can be read, so that its text tells it.
 use Rattle.std.proofs.Common.{◌≡◌, ℕ, zero, suc, ◌-◌, ◌<◌, ◌≤◌, ◌^◌, true, List, [], ◌∷◌, IfSome, IsTrue, length, map, drop, Ok, refl, sym, subst, arith}
-use Rattle.std.proofs.lemmas.Bool.{and_parts, leb-true}
 use Rattle.std.proofs.lemmas.List.{append-nil, length-drop}
 use Rattle.std.specs.List.{AllByRecursion}
-use Rattle.std.specs.Prelude.{is_some, nat_le}
+use Rattle.std.specs.Prelude.{is_some}
 use Rattle.mam_archive.specs.Entries.{EntryView, newest}
 use Rattle.base_lemmas.proofs.Lists.{AllByRecursion-weaker}
 use Rattle.cmd_direct.proofs.PageRuns.{ArePaged, history_at, history_few, paged_at, pages_at}
 use Rattle.cmd_direct.proofs.Prefixes.{takes_few}
 use Rattle.cmd_direct.specs.Direct.{account_line, device_line, device_with, direct_report, report_by, takes_of}
+use Rattle.cmd_direct.proofs.LawsKept.{keeps_some}
 use Rattle.base_io.specs.Names.{is_among}
 use Rattle.law_reports.proofs.Archived.{IsLined, archive_lined, logged_right, pages_right}
 use Rattle.law_reports.proofs.Declared.{IsKnown, IsNamed, IsTaken, both, home_named, known, said_right, takes_right}
@@ -106,10 +106,6 @@ device_right : (keep : ℕ) (all : List Step) (name : List ℕ) → 1 ≤ keep �
 device_right keep all name some is named among =
     let paged = paged_at keep all name all [] (append-nil all) is.stand is.right.few some in
     subst (λ pages. IsDevice (device_with all name pages)) (sym paged.are) (device_of_turns keep all name is named among paged)
-
-pub keeps_some : (version : Version) → IsTrue (may_keep version) → 1 ≤ keep_of version
-keeps_some One keeps = omega arith
-keeps_some (Two keep) keeps = leb-true 1 keep (and_parts (nat_le 1 keep) (nat_le keep MOST_KEPT) keeps).0
 
 steps_readable : (version : Version) (all : List Step) → IsTrue (may_keep version) → IsKnown all → IsReadable (report_by version all)
 steps_readable version all keeps is =

@@ -1,6 +1,6 @@
 -- The report of each run keeps the five laws of version 2.
-use Rattle.std.proofs.Common.{◌≡◌, ℕ, zero, suc, ◌-◌, ◌<◌, ◌≤◌, true, List, [], ◌∷◌, ◌++◌, Some, IsTrue, length, drop, map, refl, sym, ap, ◌∙◌, subst, arith}
-use Rattle.std.proofs.lemmas.Bool.{and_parts, false≢true, leb-true}
+use Rattle.std.proofs.Common.{◌≡◌, ℕ, zero, suc, ◌-◌, ◌<◌, ◌≤◌, true, List, [], ◌∷◌, ◌++◌, Some, length, drop, map, refl, sym, ap, ◌∙◌, subst, arith}
+use Rattle.std.proofs.lemmas.Bool.{false≢true}
 use Rattle.std.proofs.lemmas.List.{length-map}
 use Rattle.std.proofs.lemmas.List.Concat.{flat_map-append}
 use Rattle.std.proofs.lemmas.Option.{none-some, same_Some}
@@ -17,11 +17,9 @@ use Rattle.cmd_report.specs.Worlds.{ReportWorld}
 use Rattle.cmd_schedule.proofs.Lists.{all_map, all_of, map-map, map_nothing}
 use Rattle.cmd_schedule.proofs.StandingSteps.{AreStanding, home_in, homes_are, homes_exist}
 use Rattle.cmd_schedule.specs.Contents.{Owned, accounts_of, devices_of}
-use Rattle.cmd_schedule.specs.Grammar.{may_keep}
 use Rattle.cmd_schedule.specs.Schedules.{WireView, keep_of, seen_of}
 use Rattle.cmd_schedule.specs.WireGrammar.{nothing_above}
-use Rattle.cmd_schedule.specs.declared.schedule.Version.{Version}
-use Rattle.cmd_schedule.specs.declared.schedule.Version.TheVariants.{One, Two}
+use Rattle.cmd_schedule.specs.declared.schedule.Version.TheVariants.{Two}
 use Rattle.sim_1_applications.proofs.Later.{later_along}
 use Rattle.sim_1_applications.proofs.Runs.{taken_along, taken_beginning}
 use Rattle.sim_1_applications.proofs.Spoken.{all_spoken, said_along, spoken_at}
@@ -43,12 +41,10 @@ use Rattle.sim_1_applications.proofs.Rendered.{history_few, history_follows, his
 use Rattle.sim_1_applications.specs.Reported.{AreDeviceLines, IsShown, account_line, history_at, pages_with}
 use Rattle.sim_1_applications.proofs.WireSteps.{wire_stand}
 use Rattle.sim_1_applications.specs.Runs.{IsRunOf, LineRun, begins, events_in, moves_of, owned_of, refused_by, steps_in}
+use Rattle.sim_1_applications.proofs.Lists.{all_at}
+use Rattle.cmd_direct.proofs.LawsKept.{keeps_some}
 
 -- What is known of the last state.
-
-pub keeps_some : (version : Version) → IsTrue (may_keep version) → 1 ≤ keep_of version
-keeps_some One may = omega arith
-keeps_some (Two keep) may = leb-true 1 keep (and_parts _ _ may).0
 
 pub standing : (s : WireView) (worlds : List ReportWorld) (r : ReportView) → IsRunOf s worlds r → AreStanding [] (steps_in s)
 standing s worlds r run = wire_stand [] nothing_above s.lines refl run.right.lines
@@ -165,11 +161,6 @@ accounts_exist s known =
     subst (AllByRecursion (λ (o : Owned). is_among o.account (accounts_of all) ≡ true)) (homes_are all [] all refl known)
     (all_map (λ (o : Owned). is_among o.account (accounts_of all) ≡ true) (home_in all) (devices_of all) (homes_exist all [] all refl known))
 
-get_all : {A : Type 0} (P : A → Type 0) (xs : List A) (i : ℕ) (x : A) → AllByRecursion P xs → slice_get xs i ≡ Some x → P x
-get_all P [] i x all at = absurd (none-some x at)
-get_all P (y ∷ xs) zero x all at = subst P (same_Some y x at) all.0
-get_all P (y ∷ xs) (suc i) x all at = get_all P xs i x all.1 at
-
 pub device_logged : (s : WireView) (worlds : List ReportWorld) (r : ReportView) (run : IsRunOf s worlds r) (i : ℕ) (line : DeviceView) →
     (at : LineAt (keep_of s.version) (history_at (owned_of s) run.last.takes) (owned_of s) run.last.devices i line) → Logged (keep_of s.version) (history_at (owned_of s) run.last.takes at.o.account) at.d
 device_logged s worlds r run i line at =
@@ -212,7 +203,7 @@ at_world s worlds r run i line at j shown found =
     let home : was.was.account ≡ at.o.account = was.account ∙ g.homes i at.o at.d at.owner at.device in
     let keeps : v.state.keep ≡ keep_of s.version = sym later.keep ∙ g.keeps in
     let exist : is_among at.o.account v.state.accounts ≡ true =
-    ap (is_among at.o.account) (sym later.accounts ∙ g.exist) ∙ get_all (λ (o : Owned). is_among o.account accounts ≡ true) (owned_of s) i at.o (accounts_exist s (standing s worlds r run)) at.owner in
+    ap (is_among at.o.account) (sym later.accounts ∙ g.exist) ∙ all_at (λ (o : Owned). is_among o.account accounts ≡ true) (owned_of s) i at.o (accounts_exist s (standing s worlds r run)) at.owner in
     let numbers = shown_numbers (owned_of s) v.state shown at.o.account passed.read.keep v.is exist in
     let last_is : last_of v.state.takes was.was.account ≡ last_of v.state.takes at.o.account = ap (last_of v.state.takes) home in
     let pages : length (shown.pages line.name) ≡ length was.was.reading.tiles = ap (λ name. length (shown.pages name)) at.is.name ∙ v.is.pages i at.o was.was at.owner was.at in

@@ -2,7 +2,6 @@
 use Rattle.std.proofs.Common.{◌≡◌, ℕ, zero, suc, ◌+◌, ◌<◌, ◌≤◌, ◌^◌, true, false, List, [], ◌∷◌, ◌++◌, Option, Some, None, IsTrue, is_some, length, map, refl, sym, ap, ◌∙◌, subst, arith, inl, inr}
 use Rattle.std.proofs.lemmas.Bool.{and_parts, cases_Bool, eqb-true, false≢true, true≢false}
 use Rattle.std.proofs.lemmas.List.{length-append}
-use Rattle.std.proofs.lemmas.Option.{none-some, same_Some}
 use Rattle.std.proofs.lemmas.Slice.Eq.{bytes_eq-Decides}
 use Rattle.std.specs.List.{AllByRecursion, filter, flat_map, list_all, slice_get}
 use Rattle.std.specs.List.Sorted.{IsNonDecreasing}
@@ -20,7 +19,7 @@ use Rattle.mam_pages.specs.Kept.{last_number}
 use Rattle.cmd_report.proofs.Pairs.{pairs_by_both, pairs_map}
 use Rattle.cmd_report.specs.Addresses.{origin_of}
 use Rattle.cmd_report.specs.EntryLines.{EntryLineView}
-use Rattle.cmd_report.specs.Lawful.{AgreeOnStamp, ArePages, EachPair, IsLawful, IsPrefixOfAccount, account_named, at_any_time, device_named, submission, take_named, takes_in, text_named}
+use Rattle.cmd_report.specs.Lawful.{AgreeOnStamp, ArePages, IsLawful, IsPrefixOfAccount, account_named, at_any_time, device_named, submission, take_named, takes_in, text_named}
 use Rattle.cmd_report.specs.LawfulRuns.{IsInForm, IsLastNumber, KeepsLaws, KeepsLawsOf, tells_moments}
 use Rattle.cmd_report.specs.Lines.{entry_line, reported_moment, take_line}
 use Rattle.cmd_report.specs.Reports.{AccountView, DeviceView, ReportView}
@@ -47,7 +46,6 @@ use Rattle.sim_1_applications.proofs.Orders.{once_in_order}
 use Rattle.sim_1_applications.proofs.Runs.{taken_beginning}
 use Rattle.sim_1_applications.proofs.TileRuns.{read_beginning}
 use Rattle.sim_1_applications.specs.Devices as sessions
-use Rattle.sim_1_applications.specs.Kept.{AreMoments}
 use Rattle.sim_1_applications.proofs.Ground.{IsTakeLine, line_by, take_lines, takes_within}
 use Rattle.sim_1_applications.proofs.LawsKept.{acknowledged_right, device_logged, device_paged, ground_of, lawful_keeping, of_schedule, once_in_order as in_order, said_right, standing}
 use Rattle.sim_1_applications.proofs.Moments.{passed_at}
@@ -61,6 +59,7 @@ use Rattle.sim_1_applications.specs.Runs.{IsRunOf, begins, moves_of, owned_of, s
 use Rattle.sim_1_applications.proofs.Stamps.{IsStamped, moment_in, moments_found, stamps_agree, takes_apart}
 use Rattle.sim_1_applications.proofs.WholeLogs.{prefix_right, tiles_right, unbroken_right}
 use Rattle.sim_1_applications.specs.Counted.{AreCounted}
+use Rattle.sim_1_applications.proofs.Lists.{all_at}
 
 -- Names.
 
@@ -251,16 +250,11 @@ account_found line is name (other ∷ names) known =
           rw miss (account_found line is name names (rw differs at known))
     ]
 
-get_all : {A : Type 0} (P : A → Type 0) (xs : List A) (i : ℕ) (x : A) → AllByRecursion P xs → slice_get xs i ≡ Some x → P x
-get_all P [] i x all at = absurd (none-some x at)
-get_all P (y ∷ xs) zero x all at = subst P (same_Some y x at) all.0
-get_all P (y ∷ xs) (suc i) x all at = get_all P xs i x all.1 at
-
 account_exists : (s : WireView) (worlds : List ReportWorld) (r : ReportView) (run : IsRunOf s worlds r) (i : ℕ) (o : Owned) → slice_get (owned_of s) i ≡ Some o → is_among o.account (accounts_of (steps_in s)) ≡ true
 account_exists s worlds r run i o owner =
     let all = steps_in s in
     let known = standing s worlds r run in
-    get_all (λ (p : Owned). is_among p.account (accounts_of all) ≡ true) (owned_of s) i o
+    all_at (λ (p : Owned). is_among p.account (accounts_of all) ≡ true) (owned_of s) i o
     (subst (AllByRecursion (λ (p : Owned). is_among p.account (accounts_of all) ≡ true)) (homes_are all [] all refl known)
     (all_map (λ (p : Owned). is_among p.account (accounts_of all) ≡ true) (home_in all) (devices_of all) (homes_exist all [] all refl known)))
     owner

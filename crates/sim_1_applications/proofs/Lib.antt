@@ -50,7 +50,6 @@ pub mod Shown
 pub mod LawsKept
 pub mod AsPages
 pub mod Existing
-pub mod Prefixes
 pub mod Stamps
 pub mod WholeLogs
 pub mod LawsOfBoth

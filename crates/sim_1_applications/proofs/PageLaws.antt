@@ -1,10 +1,9 @@
 -- Law 5 of reports of version 2: the pages of a device are tiles of its log, each as fresh as its archive.
-use Rattle.std.proofs.Common.{◌≡◌, ◌≢◌, ℕ, suc, ◌+◌, ◌-◌, ◌<◌, ◌≤◌, max, min, true, cond, leb, List, [], ◌∷◌, ◌++◌, Some, None, length, drop, take, map, refl, sym, ap, ◌∙◌, subst, arith, inl, inr}
-use Rattle.std.proofs.lemmas.Bool.{cases_Bool, false≢true, leb-false, leb-true}
+use Rattle.std.proofs.Common.{◌≡◌, ◌≢◌, ℕ, suc, ◌+◌, ◌-◌, ◌<◌, ◌≤◌, max, min, true, leb, List, [], ◌∷◌, ◌++◌, Some, None, length, drop, take, map, refl, sym, ap, ◌∙◌, subst, arith}
+use Rattle.std.proofs.lemmas.Bool.{false≢true}
 use Rattle.std.proofs.lemmas.List.{append_assoc, append-nil, drop-map, drop_at, length-append, length-map, map-append}
-use Rattle.std.proofs.lemmas.Option.{none-some, same_Some, slice_get_within}
+use Rattle.std.proofs.lemmas.Option.{same_Some, slice_get_within}
 use Rattle.std.specs.List.{slice_get, sum}
-use Rattle.mam_archive.proofs.IdDigits.{id_of_same}
 use Rattle.mam_archive.proofs.NumberedEntries.{FollowFrom}
 use Rattle.mam_archive.specs.Entries.{EntryView}
 use Rattle.mam_archive.specs.Ids.{id_of}
@@ -12,6 +11,7 @@ use Rattle.cmd_direct.proofs.NextPages.{id_after}
 use Rattle.cmd_direct.proofs.TurnRuns.{each_by, ids_differ, ids_from, line_entry, line_id, lines_by, numbers_within, pairs_unmap, runs_by}
 use Rattle.cmd_direct.proofs.TurnTiles.{before_turns, complete_end, first_number_is, last_lines_by, last_number_is, length-pages_by, page_at_turn, split_at, tiles_by, total_whole, whole_by}
 use Rattle.cmd_direct.proofs.Turns.{AreRising, Turn, end_of, ends_at, ends_at-append, ends_bounds, follow_span, id_of_entry, page_by, pages_by, rising_append, rising_bounds, rising_split, run_by, run_by-append, span, start_of}
+use Rattle.cmd_direct.proofs.RunLaws.{asked_number, asked_without}
 use Rattle.mam_pages.specs.Kept.{first_number, last_number}
 use Rattle.cmd_report.proofs.Pairs.{pairs_map}
 use Rattle.cmd_report.specs.EntryLines.{EntryLineView}
@@ -147,25 +147,6 @@ fresh_number keep history d line k total last p some a at is number =
 
 le_small : {a b : ℕ} → a ≤ b → b ≤ 4294967295 → a ≤ 4294967295
 le_small low small = omega arith
-
-asked_without : (n old : ℕ) → cond (leb n old) None (Some (id_of n)) ≡ None → n ≤ old
-asked_without n old none =
-    elim (cases_Bool (leb n old)) [
-      | inl gone ↦ leb-true n old gone
-      | inr there ↦ absurd (let given : Some (id_of n) ≡ None = rw there at none in none-some (id_of n) (sym given))
-    ]
-
--- the number behind which a page was asked for
-asked_number : (n old last : ℕ) → n ≤ 4294967295 → 1 ≤ last → IsLastNumber (cond (leb n old) None (Some (id_of n))) last → (n ≡ last) × (old < n)
-asked_number n old last small one is =
-    elim (cases_Bool (leb n old)) [
-      | inl gone ↦ absurd (let none : last ≡ 0 = subst (λ b. IsLastNumber (cond b None (Some (id_of n))) last) gone is in omega arith)
-      | inr there ↦
-          let number : IsLastNumber (Some (id_of n)) last = subst (λ b. IsLastNumber (cond b None (Some (id_of n))) last) there is in
-          let newer : old < n = leb-false n old there in
-          let high : last ≤ 4294967295 = number.1 in
-          (id_of_same n last (omega arith) (omega arith) number.2, newer)
-    ]
 
 -- of a page that was asked for without an id, the last number before it was purged
 purged_number : (keep : ℕ) (history : List EntryView) (d : sessions.Device) (line : DeviceView) (k : ℕ) (p : PageLine) (a : TileAt keep history d line k) → slice_get line.pages k ≡ Some p → p.after ≡ None →

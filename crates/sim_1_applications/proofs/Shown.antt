@@ -6,6 +6,7 @@ use Rattle.std.specs.List.{flat_map, slice_get}
 use Rattle.mam_archive.proofs.NumberedEntries.{FollowFrom, follow_drop}
 use Rattle.mam_archive.specs.Entries.{EntryView, newest}
 use Rattle.cmd_direct.proofs.TurnRuns.{number_follow}
+use Rattle.cmd_direct.proofs.RunLaws.{first_follow}
 use Rattle.base_io.specs.Names.{is_among}
 use Rattle.mam_pages.specs.Kept.{first_number, last_number, last_number_or}
 use Rattle.cmd_report.specs.Lawful.{EndsWith}
@@ -33,10 +34,6 @@ last_newest keep history some follow =
     let following : FollowFrom (suc p) entries = subst (λ k. FollowFrom k entries) first (follow_drop p 1 history follow) in
     let end : p + length entries ≡ length history = omega arith in
     ap (last_number_or 0) (sym (append-nil entries)) ∙ number_follow 0 p entries [] following (λ none. small_drop keep (length history) (length entries) some size none) ∙ end
-
-first_follow : (s : ℕ) (es : List EntryView) → FollowFrom (suc s) es → (length es ≡ 0 → s ≡ 0) → first_number es ≡ suc s
-first_follow s [] follow empty = ap suc (sym (empty refl))
-first_follow s (e ∷ es) follow empty = follow.0
 
 pub first_newest : (keep : ℕ) (history : List EntryView) → 1 ≤ keep → FollowFrom 1 history → first_number (newest keep history) ≡ suc (length history - keep)
 first_newest keep history some follow =

@@ -10,6 +10,7 @@ use Rattle.mam_archive.specs.Ids.{id_of}
 use Rattle.base_lemmas.proofs.Lists.{AllByRecursion-weaker}
 use Rattle.cmd_direct.proofs.TurnRuns.{line_entry, lines_by}
 use Rattle.cmd_direct.proofs.Turns.{ends_at, ends_bounds, id_of_entry, length_span, pages_by, run_by}
+use Rattle.cmd_direct.proofs.PrefixLaws.{prefix_run, tiles_one, unbroken_turns}
 use Rattle.base_io.specs.Names.{is_among}
 use Rattle.cmd_report.specs.EntryLines.{EntryLineView}
 use Rattle.cmd_report.specs.Lawful.{AreTiles, IsPrefixOf}
@@ -25,7 +26,6 @@ use Rattle.sim_1_applications.specs.Events.{is_number_among}
 use Rattle.sim_1_applications.proofs.LogLaws.{Logged, rendered, rising, runs_right}
 use Rattle.sim_1_applications.proofs.Rendered.{id_from, number_of, numbers_follow, run_numbers, turns_of}
 use Rattle.sim_1_applications.specs.Reported.{held_line, pages_of}
-use Rattle.sim_1_applications.proofs.Prefixes.{prefix_run, tiles_one, unbroken_turns}
 
 -- the log is a front of the history
 record Front (keep : ℕ) (history : List EntryView) (d : sessions.Device) : Type 0 where

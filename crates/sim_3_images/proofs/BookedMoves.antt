@@ -16,10 +16,11 @@ use Rattle.cmd_network.specs.Wires.{amount, handed_up, up_end_reported}
 use Rattle.cmd_network.specs.declared.wire.Wire.{Wire}
 use Rattle.cmd_world.specs.Effects.{effects_of}
 use Rattle.cmd_world.specs.Histories.{history_of, world_at_start, world_of, worlds_along, worlds_by}
-use Rattle.cmd_world.specs.Lines.{all_stepped, moves_of, stepped}
+use Rattle.cmd_world.specs.Lines.{moves_of, stepped}
 use Rattle.cmd_world.specs.Moves as moves
-use Rattle.cmd_world.specs.Moves.{Move, all_moved, caught_up_by, closed_by, dialed_by, down_by, down_to, forgot_by, moved, reported_up, said_by, served, served_by, step_of_piece}
+use Rattle.cmd_world.specs.Moves.{Move, caught_up_by, closed_by, dialed_by, down_by, down_to, forgot_by, moved, reported_up, said_by, served, served_by, step_of_piece}
 use Rattle.cmd_world.specs.Worlds.{ByteWorld, number_at, server_entropy}
+use Rattle.cmd_world.proofs.AllMoves.{kept_by_lines, kept_by_moves}
 use Rattle.xml_writer.specs.Items.{written_item}
 use Rattle.sim_3_images.proofs.Booked.{Booked, IsBooked, booked_fresh, booked_gone, booked_later, booked_more, emitted_lines}
 
@@ -100,10 +101,6 @@ by_move start names first (moves.Cut position up down) w is = is
 
 -- ---- histories
 
-pub in_the_end : (P : ByteWorld → Type 0) → ((m : Move) (w : ByteWorld) → P w → P (moved m w)) → (moves : List Move) (w : ByteWorld) → P w → P (all_moved moves w)
-in_the_end P each [] w is = is
-in_the_end P each (m ∷ moves) w is = in_the_end P each moves (moved m w) (each m w is)
-
 along_moves : (P : ByteWorld → Type 0) → ((m : Move) (w : ByteWorld) → P w → P (moved m w)) → (moves : List Move) (w : ByteWorld) → P w → AllByRecursion P (worlds_by moves w)
 along_moves P each [] w is = tt
 along_moves P each (m ∷ moves) w is = (each m w is, along_moves P each moves (moved m w) (each m w is))
@@ -116,15 +113,11 @@ along_lines : (P : ByteWorld → Type 0) → ((m : Move) (w : ByteWorld) → P w
 along_lines P each [] w is = tt
 along_lines P each (line ∷ lines) w is =
     both P (worlds_by (moves_of line w) w) (worlds_along lines (stepped line w)) (along_moves P each (moves_of line w) w is)
-    (along_lines P each lines (stepped line w) (in_the_end P each (moves_of line w) w is))
-
-after_lines : (P : ByteWorld → Type 0) → ((m : Move) (w : ByteWorld) → P w → P (moved m w)) → (lines : List WireLine) (w : ByteWorld) → P w → P (all_stepped lines w)
-after_lines P each [] w is = is
-after_lines P each (line ∷ lines) w is = after_lines P each lines (stepped line w) (in_the_end P each (moves_of line w) w is)
+    (along_lines P each lines (stepped line w) (kept_by_moves P each (moves_of line w) w is))
 
 pub each_world : (P : ByteWorld → Type 0) → ((m : Move) (w : ByteWorld) → P w → P (moved m w)) → (schedule : WireView) → P (world_at_start schedule) → AllByRecursion P (history_of schedule)
 each_world P each schedule is = (is, along_lines P each schedule.lines (world_at_start schedule) is)
 
 pub last_world : (P : ByteWorld → Type 0) → ((m : Move) (w : ByteWorld) → P w → P (moved m w)) → (schedule : WireView) → P (world_at_start schedule) → P (world_of schedule)
 unfolding world_of
-last_world P each schedule is = after_lines P each schedule.lines (world_at_start schedule) is
+last_world P each schedule is = kept_by_lines P each schedule.lines (world_at_start schedule) is

@@ -1,7 +1,6 @@
 -- What holds of all of a list holds of all behind a change that keeps it.
 use Rattle.std.proofs.Common.{◌≡◌, ℕ, zero, suc, List, [], ◌∷◌, Option, Some, None, IfSome, subst}
 use Rattle.std.specs.List.{AllByRecursion, slice_get, slice_set}
-use Rattle.sim_3_images.specs.WorldEncodings.{Both}
 use Rattle.cmd_network.specs.Positions.{changed_at, changed_where}
 
 pub all_changed : {T : Type 0} (P : T → Type 0) (f : T → T) → ((x : T) → P x → P (f x)) → (position : ℕ) (l : List T) → AllByRecursion P l → AllByRecursion P (changed_at position f l)
@@ -28,9 +27,3 @@ all_at P (x ∷ l) (suc position) all = all_at P l position all.1
 
 pub all_found : {T : Type 0} (P : T → Type 0) (l : List T) (position : ℕ) (x : T) → slice_get l position ≡ Some x → AllByRecursion P l → P x
 all_found P l position x found all = subst (λ o. IfSome o P) found (all_at P l position all)
-
--- Two lists of which at each place the one stands so to the other: what follows of that holds of all of the second.
-pub all_both : {A B : Type 0} (R : ℕ → A → B → Type 0) (P : B → Type 0) → ((position : ℕ) (a : A) (b : B) → R position a b → P b) → (xs : List A) (ys : List B) → ((position : ℕ) → Both (R position) (slice_get xs position) (slice_get ys position)) → AllByRecursion P ys
-all_both R P follows xs [] both = tt
-all_both R P follows [] (y ∷ ys) both = absurd (both 0)
-all_both R P follows (x ∷ xs) (y ∷ ys) both = (follows 0 x y (both 0), all_both (λ position. R (suc position)) P (λ position. follows (suc position)) xs ys (λ position. both (suc position)))

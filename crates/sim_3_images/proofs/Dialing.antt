@@ -25,12 +25,15 @@ use Rattle.sim_3_images.proofs.Beginnings.{begins_where, closed_begun}
 use Rattle.sim_3_images.proofs.ServerStatesRendered.{moment_rendered}
 use Rattle.sim_3_images.proofs.Lookups.{found_beside_inserted, found_inserted, get_before, get_last}
 use Rattle.sim_3_images.proofs.NetworkMoves.{both_weaker, number_apart}
-use Rattle.sim_3_images.proofs.UserMoves.{After, away, devices_changed, get_set_same, left_at_here, length_where, wires_changed}
+use Rattle.sim_3_images.proofs.UserMoves.{After, away, client_fits, devices_changed, get_set_same, left_at_here, length_where, wires_changed}
 use Rattle.sim_3_images.proofs.WireSteps.{wire_fresh}
 use Rattle.sim_3_images.proofs.NotesTold.{nothing_noted}
 use Rattle.sim_3_images.specs.EncodingsCores.{ClientStepFits, CoresFit, writer_at, writer_of}
 use Rattle.sim_3_images.specs.WireEncodings.{WireEncodes}
 use Rattle.sim_3_images.specs.WorldEncodings.{Begins, Both, DeviceEncodes, IsBegun, IsMoved, WorldEncodes, framer_here}
+use Rattle.sim_3_images.proofs.ChangedLists.{all_set, all_where}
+use Rattle.sim_3_images.proofs.WiresFit.{fresh_fits, left_fits, put_up_fits}
+use Rattle.sim_3_images.specs.Fitting.{WireFits}
 use Rattle.sim_3_items.specs.ItemMoves as items
 use Rattle.sim_3_items.specs.ItemMoves.{fed_of}
 use Rattle.sim_3_items.specs.ItemPipes as pipes
@@ -44,9 +47,10 @@ use Rattle.cmd_network.specs.declared.wire.Wire.{Wire}
 use Rattle.cmd_world.specs.Moves.{Dial, dialed_by}
 use Rattle.cmd_world.specs.Worlds.{ByteWorld, client_entropy, number_at, server_entropy}
 use Rattle.xml_writer.specs.Items.{ItemOut, Opening, written_item}
+use Rattle.law_xml.proofs.PlainElements.{append_each}
 
 module _ (UpFits DownFits : ItemOut → Type 0) (ServerFits : ℕ → ServerState ItemOut → Type 0) (ClientFits : ClientView ItemOut → Type 0) (cores : CoresFit UpFits DownFits ServerFits ClientFits) where
-  module _ (i : ℕ) (w : ByteWorld) (v : ItemWorld) (d : DeviceState) (e : ItemDevice) (found : slice_get w.devices i ≡ Some d) (found_item : slice_get v.devices i ≡ Some e) (h : DeviceEncodes ClientFits d e)
+  module _ (i : ℕ) (w : ByteWorld) (v : ItemWorld) (d : DeviceState) (e : ItemDevice) (found : slice_get w.devices i ≡ Some d) (found_item : slice_get v.devices i ≡ Some e) (h : DeviceEncodes d e)
       (encodes : WorldEncodes UpFits DownFits ServerFits ClientFits w v) where
     -- how many connections there are, and the number of the new one
     abbrev n : ℕ
@@ -86,13 +90,13 @@ module _ (UpFits DownFits : ItemOut → Type 0) (ServerFits : ℕ → ServerStat
     framers_now = insert_entry nat_cmp w.server.framers k (from_start server_limits)
 
     abbrev Now : ℕ → Wire → ItemWire → Type 0
-    Now q b p = WireEncodes UpFits DownFits (framer_at (number_at q) framers_now) (framer_here q (slice_get (slice_set w.devices i d') b.device)) (writer_at (number_at q) server_state_now) b p
+    Now q b p = WireEncodes (framer_at (number_at q) framers_now) (framer_here q (slice_get (slice_set w.devices i d') b.device)) (writer_at (number_at q) server_state_now) b p
 
     fits : ClientStepFits UpFits ClientFits t
-    fits = cores.client.dials_so k e.client h.fits
+    fits = cores.client.dials_so k e.client (client_fits UpFits DownFits ServerFits ClientFits cores w v i e found_item encodes)
 
-    device_encodes : DeviceEncodes ClientFits d' e'
-    device_encodes = record { client = refl; here = ap Some encodes.as_many; framed = λ a. absurd (false_is_not a); fits = fits.client }
+    device_encodes : DeviceEncodes d' e'
+    device_encodes = record { client = refl; here = ap Some encodes.encoding.as_many; framed = λ a. absurd (false_is_not a) }
       where
         false_is_not : false ≡ true → ⊥
         false_is_not a = cc
@@ -104,9 +108,9 @@ module _ (UpFits DownFits : ItemOut → Type 0) (ServerFits : ℕ → ServerStat
     new_encodes : Now n new_wire new_item_wire
     new_encodes =
         subst (λ l. Now n (put_up l (fresh_wire i)) new_item_wire) (sym (append-nil (written_item (Opening header))))
-        (subst (λ r. WireEncodes UpFits DownFits r (framer_here n (slice_get (slice_set w.devices i d') i)) (writer_at k server_state_now) (put_up (written_item (Opening header)) (fresh_wire i)) new_item_wire) (sym (found_inserted k (from_start server_limits) w.server.framers))
-        (subst (λ r. WireEncodes UpFits DownFits (Some (from_start server_limits)) r (writer_at k server_state_now) (put_up (written_item (Opening header)) (fresh_wire i)) new_item_wire) (sym new_here)
-        (subst (λ o. WireEncodes UpFits DownFits (Some (from_start server_limits)) (Some (from_start client_limits)) o (put_up (written_item (Opening header)) (fresh_wire i)) new_item_wire)
+        (subst (λ r. WireEncodes r (framer_here n (slice_get (slice_set w.devices i d') i)) (writer_at k server_state_now) (put_up (written_item (Opening header)) (fresh_wire i)) new_item_wire) (sym (found_inserted k (from_start server_limits) w.server.framers))
+        (subst (λ r. WireEncodes (Some (from_start server_limits)) r (writer_at k server_state_now) (put_up (written_item (Opening header)) (fresh_wire i)) new_item_wire) (sym new_here)
+        (subst (λ o. WireEncodes (Some (from_start server_limits)) (Some (from_start client_limits)) o (put_up (written_item (Opening header)) (fresh_wire i)) new_item_wire)
         (sym (ap (option_map writer_of) (found_inserted k (fresh_conn (server_entropy k)) v.server.conns)))
         (wire_fresh UpFits DownFits cores.up_limits cores.down_limits i header fits.puts.0))))
 
@@ -121,8 +125,8 @@ module _ (UpFits DownFits : ItemOut → Type 0) (ServerFits : ℕ → ServerStat
     old_encodes : (q : ℕ) → (q ≡ n → ⊥) → Both (Now q) (slice_get old_wires q) (slice_get old_item_wires q)
     old_encodes q other =
         both_weaker (After UpFits DownFits ServerFits ClientFits cores w v i d' q) (Now q)
-        (λ b p x. subst (λ r. WireEncodes UpFits DownFits r (framer_here q (slice_get (slice_set w.devices i d') b.device)) (writer_at (number_at q) server_state_now) b p) (sym (found_beside_inserted (number_at q) k (from_start server_limits) w.server.framers (number_apart q n other)))
-        (subst (λ o. WireEncodes UpFits DownFits (framer_at (number_at q) w.server.framers) (framer_here q (slice_get (slice_set w.devices i d') b.device)) o b p)
+        (λ b p x. subst (λ r. WireEncodes r (framer_here q (slice_get (slice_set w.devices i d') b.device)) (writer_at (number_at q) server_state_now) b p) (sym (found_beside_inserted (number_at q) k (from_start server_limits) w.server.framers (number_apart q n other)))
+        (subst (λ o. WireEncodes (framer_at (number_at q) w.server.framers) (framer_here q (slice_get (slice_set w.devices i d') b.device)) o b p)
         (sym (ap (option_map writer_of) (found_beside_inserted (number_at q) k (fresh_conn (server_entropy k)) v.server.conns (number_apart q n other)))) x))
         (slice_get old_wires q) (slice_get old_item_wires q)
         (wires_changed UpFits DownFits ServerFits ClientFits cores w v i d d' left pipes.left d.here q found encodes
@@ -130,7 +134,7 @@ module _ (UpFits DownFits : ItemOut → Type 0) (ServerFits : ℕ → ServerStat
         (λ not_here. not_new q other ∙ sym (away UpFits DownFits ServerFits ClientFits cores d.here d.client.framer q not_here)))
 
     many_items : length old_item_wires ≡ n
-    many_items = length_where d.here pipes.left v.wires ∙ sym encodes.as_many
+    many_items = length_where d.here pipes.left v.wires ∙ sym encodes.encoding.as_many
 
     all_encodings : (q : ℕ) → Both (Now q) (slice_get (old_wires ++ new_wire ∷ []) q) (slice_get (old_item_wires ++ new_item_wire ∷ []) q)
     all_encodings q = elim (cases_eq q n) [
@@ -166,15 +170,22 @@ module _ (UpFits DownFits : ItemOut → Type 0) (ServerFits : ℕ → ServerStat
 
     dialed_encodes : WorldEncodes UpFits DownFits ServerFits ClientFits world_now items_now
     dialed_encodes = record {
-      moment = encodes.moment;
-      server_state = ap₂ (λ m x. with_fresh k (server_entropy k) (at_moment m x)) encodes.moment encodes.server_state ∙ ap (with_fresh k (server_entropy k)) (moment_rendered written_item v.moment v.server);
-      server_state_fits = subst (λ m. ServerFits m server_state_now) (sym (length-append old_item_wires (new_item_wire ∷ []) ∙ ap (λ m. m + 1) many_items))
-          (cores.comes n (at_moment v.moment v.server) (cores.moment n v.moment v.server (subst (λ m. ServerFits m v.server) (sym encodes.as_many) encodes.server_state_fits)));
+      encoding = record {
+        moment = encodes.encoding.moment;
+        server_state = ap₂ (λ m x. with_fresh k (server_entropy k) (at_moment m x)) encodes.encoding.moment encodes.encoding.server_state ∙ ap (with_fresh k (server_entropy k)) (moment_rendered written_item v.moment v.server);
+        devices = devices_changed UpFits DownFits ServerFits ClientFits cores w v i d d' e e' found found_item device_encodes encodes;
+        as_many = length-append old_wires (new_wire ∷ []) ∙ ap (λ m. m + 1) (length_where d.here left w.wires ∙ sym many_items) ∙ sym (length-append old_item_wires (new_item_wire ∷ []));
+        wires = all_encodings;
+        takes = encodes.encoding.takes;
+      };
+      fits = record {
+        server_state = subst (λ m. ServerFits m server_state_now) (sym (length-append old_item_wires (new_item_wire ∷ []) ∙ ap (λ m. m + 1) many_items))
+            (cores.comes n (at_moment v.moment v.server) (cores.moment n v.moment v.server (subst (λ m. ServerFits m v.server) (sym encodes.encoding.as_many) encodes.fits.server_state)));
+        clients = all_set (λ (x : ItemDevice). ClientFits x.client) v.devices i e' fits.client encodes.fits.clients;
+        wires = append_each (WireFits UpFits DownFits) old_item_wires (new_item_wire ∷ []) (all_where (WireFits UpFits DownFits) pipes.left (left_fits UpFits DownFits) d.here v.wires encodes.fits.wires)
+            (put_up_fits UpFits DownFits t.out.put fits.puts (pipes.fresh_wire i) (fresh_fits UpFits DownFits i), tt);
+      };
       begins = dialed_begins;
-      devices = devices_changed UpFits DownFits ServerFits ClientFits cores w v i d d' e e' found found_item device_encodes encodes;
-      as_many = length-append old_wires (new_wire ∷ []) ∙ ap (λ m. m + 1) (length_where d.here left w.wires ∙ sym many_items) ∙ sym (length-append old_item_wires (new_item_wire ∷ []));
-      wires = all_encodings;
-      takes = encodes.takes;
     }
 
     -- what the client of bytes did
@@ -198,7 +209,7 @@ module _ (UpFits DownFits : ItemOut → Type 0) (ServerFits : ℕ → ServerStat
           devices = slice_set v.devices i e';
           wires = changed_where o pipes.left v.wires ++ new_item_wire ∷ [];
         }) (sym h.here)
-        ∙ ap (λ m. record v { server = with_fresh (m + 1) (server_entropy k) (at_moment v.moment v.server); devices = slice_set v.devices i e'; wires = old_item_wires ++ new_item_wire ∷ [] }) (sym encodes.as_many)
+        ∙ ap (λ m. record v { server = with_fresh (m + 1) (server_entropy k) (at_moment v.moment v.server); devices = slice_set v.devices i e'; wires = old_item_wires ++ new_item_wire ∷ [] }) (sym encodes.encoding.as_many)
 
     pub dial_encodes : WorldEncodes UpFits DownFits ServerFits ClientFits (dialed_by i (Some d) w) (items.dialed_by i (client_entropy k) (server_entropy k) (Some e) v)
     dial_encodes =
@@ -212,13 +223,13 @@ module _ (UpFits DownFits : ItemOut → Type 0) (ServerFits : ℕ → ServerStat
   dial_is i w v encodes = record {
     moves = items.Dial i (client_entropy (number_at (length w.wires))) (server_entropy (number_at (length w.wires))) ∷ [];
     is_run = (number_at (length w.wires), refl);
-    encodes = by (slice_get w.devices i) (slice_get v.devices i) refl refl (encodes.devices i);
+    encodes = by (slice_get w.devices i) (slice_get v.devices i) refl refl (encodes.encoding.devices i);
     notes = λ j. nothing_noted (slice_get w.devices j);
     reads = λ j. refl;
     gives = λ j. refl;
   }
     where
-      by : (od : Option DeviceState) (oe : Option ItemDevice) → slice_get w.devices i ≡ od → slice_get v.devices i ≡ oe → Both (DeviceEncodes ClientFits) od oe → Dialed i w v (slice_get w.devices i) (slice_get v.devices i)
+      by : (od : Option DeviceState) (oe : Option ItemDevice) → slice_get w.devices i ≡ od → slice_get v.devices i ≡ oe → Both DeviceEncodes od oe → Dialed i w v (slice_get w.devices i) (slice_get v.devices i)
       by None None found found_item h = subst (λ o. Dialed i w v o (slice_get v.devices i)) (sym found) (subst (Dialed i w v None) (sym found_item) encodes)
       by None (Some e) found found_item h = absurd h
       by (Some d) None found found_item h = absurd h

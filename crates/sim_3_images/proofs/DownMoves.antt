@@ -32,7 +32,7 @@ use Rattle.sim_3_images.proofs.ReadsTold.{downs_read}
 use Rattle.sim_3_images.proofs.NotesTold.{calls_noted, down_end_noted, nothing_noted, silent_at, written_notes}
 use Rattle.sim_3_images.proofs.PipeSteps.{items_due}
 use Rattle.sim_3_images.proofs.UpMoves.{drop_taken, moved_joined, no_amount}
-use Rattle.sim_3_images.proofs.UserMoves.{After, away, get_set_same, silent_is, user_encodes}
+use Rattle.sim_3_images.proofs.UserMoves.{After, away, client_fits, get_set_same, silent_is, user_encodes}
 use Rattle.sim_3_images.proofs.WireSteps.{IsDownHanded, all_taken, wire_down, wire_down_told, wire_last, wire_left, wire_put_up}
 use Rattle.sim_3_images.specs.EncodingsCores.{CoresFit, HeardFits, IsInClientStep, IsNoFooter, writer_at}
 use Rattle.sim_3_images.specs.ItemRuns.{downs, moved_where}
@@ -56,6 +56,9 @@ use Rattle.cmd_world.specs.Moves.{Down, Link, down_by, down_to, end_heard, heard
 use Rattle.cmd_world.specs.Worlds.{ByteWorld, number_at}
 use Rattle.sim_3_images.proofs.DevicesMoved.{put_again}
 use Rattle.sim_3_images.proofs.MovesKept.{has_here}
+use Rattle.sim_3_images.proofs.ChangedLists.{all_found}
+use Rattle.sim_3_images.proofs.WiresFit.{down_told_fits, left_where_fits, many_down_fits, put_up_fits}
+use Rattle.sim_3_images.specs.Fitting.{WireFits}
 use Rattle.xml_writer.specs.Items.{ItemOut, written_item}
 
 -- ---- the place of a header is not looked at
@@ -79,7 +82,7 @@ items_unplaced : (l : List Item) (t : ClientStep ItemOut ItemOut) → items_run 
 items_unplaced [] t = refl
 items_unplaced (i ∷ l) t = ap (λ u. items_run in_items u l) (item_unplaced t i) ∙ items_unplaced l (item_step in_items t (placed 0 i))
 
-left_device : (a : Bool) (y : Wire) → (left_where a y).device ≡ y.device
+pub left_device : (a : Bool) (y : Wire) → (left_where a y).device ≡ y.device
 left_device true y = refl
 left_device false y = refl
 
@@ -99,7 +102,7 @@ module _ (UpFits DownFits : ItemOut → Type 0) (ServerFits : ℕ → ServerStat
   -- ---- items come
 
   module _ (position n : ℕ) (w : ByteWorld) (v : ItemWorld) (b : Wire) (p : ItemWire) (d : DeviceState) (e : ItemDevice) (found : slice_get w.wires position ≡ Some b) (found_item : slice_get v.wires position ≡ Some p)
-      (device : slice_get w.devices b.device ≡ Some d) (item_device : slice_get v.devices b.device ≡ Some e) (same : b.device ≡ p.device) (h : DeviceEncodes ClientFits d e) (encodes : WorldEncodes UpFits DownFits ServerFits ClientFits w v)
+      (device : slice_get w.devices b.device ≡ Some d) (item_device : slice_get v.devices b.device ≡ Some e) (same : b.device ≡ p.device) (h : DeviceEncodes d e) (encodes : WorldEncodes UpFits DownFits ServerFits ClientFits w v)
       (here : d.here ≡ Some position) (f : State) (framer : d.client.framer ≡ Some f) (x : IsDownHanded UpFits DownFits cores.up_limits cores.down_limits (framer_at (number_at position) w.server.framers) f (writer_at (number_at position) v.server) b p n)
       (fit : AllByRecursion DownFits p.down.items) where
     abbrev piece : List ℕ
@@ -147,26 +150,29 @@ module _ (UpFits DownFits : ItemOut → Type 0) (ServerFits : ℕ → ServerStat
     abbrev e1 : Bool → ItemDevice
     e1 a = record { client = t.client; here = here_after a e.here }
 
-    fits : ClientFits t.client
-    fits = (client_step_fits UpFits DownFits ServerFits ClientFits cores taken e.client h.fits (all_taken DownFits x.count p.down.items fit)).client
+    here_fits : ClientFits e.client
+    here_fits = client_fits UpFits DownFits ServerFits ClientFits cores w v b.device e item_device encodes
 
-    device_encodes : (a : Bool) → is_apart t.client.phase ≡ a → DeviceEncodes ClientFits (device_left a (d1 a)) (e1 a)
-    device_encodes true apart = record { client = refl; here = refl; framed = λ _. refl; fits = fits }
-    device_encodes false apart = record { client = refl; here = h.here; framed = λ y. absurd (true≢false (sym y ∙ apart)); fits = fits }
+    fits : ClientFits t.client
+    fits = (client_step_fits UpFits DownFits ServerFits ClientFits cores taken e.client here_fits (all_taken DownFits x.count p.down.items fit)).client
+
+    device_encodes : (a : Bool) → is_apart t.client.phase ≡ a → DeviceEncodes (device_left a (d1 a)) (e1 a)
+    device_encodes true apart = record { client = refl; here = refl; framed = λ _. refl }
+    device_encodes false apart = record { client = refl; here = h.here; framed = λ y. absurd (true≢false (sym y ∙ apart)) }
 
     many_is : many_down x.count p ≡ many_down (length taken) p
     many_is = ap (λ l. record p { down = record p.down { items = l } }) (drop_taken x.count p.down.items)
 
     abbrev put_fits : HeardFits UpFits ClientFits t
-    put_fits = client_step_fits UpFits DownFits ServerFits ClientFits cores taken e.client h.fits (all_taken DownFits x.count p.down.items fit)
+    put_fits = client_step_fits UpFits DownFits ServerFits ClientFits cores taken e.client here_fits (all_taken DownFits x.count p.down.items fit)
 
     -- the connection with what was handed over
-    handed_now : WireEncodes UpFits DownFits (framer_at (number_at position) w.server.framers) (Some x.now) (writer_at (number_at position) v.server) (handed_down n b) (many_down (length taken) p)
-    handed_now = subst (WireEncodes UpFits DownFits (framer_at (number_at position) w.server.framers) (Some x.now) (writer_at (number_at position) v.server) (handed_down n b)) many_is x.encodes
+    handed_now : WireEncodes (framer_at (number_at position) w.server.framers) (Some x.now) (writer_at (number_at position) v.server) (handed_down n b) (many_down (length taken) p)
+    handed_now = subst (WireEncodes (framer_at (number_at position) w.server.framers) (Some x.now) (writer_at (number_at position) v.server) (handed_down n b)) many_is x.encodes
 
     -- and with what the client put
     put_now : AllByRecursion IsNoFooter t.out.put
-        → WireEncodes UpFits DownFits (framer_at (number_at position) w.server.framers) (Some x.now) (writer_at (number_at position) v.server) (put_up bytes (handed_down n b)) (pipes.put_up t.out.put (many_down (length taken) p))
+        → WireEncodes (framer_at (number_at position) w.server.framers) (Some x.now) (writer_at (number_at position) v.server) (put_up bytes (handed_down n b)) (pipes.put_up t.out.put (many_down (length taken) p))
     put_now none =
         wire_put_up UpFits DownFits cores.up_limits cores.down_limits (framer_at (number_at position) w.server.framers) (Some x.now) (writer_at (number_at position) v.server) (handed_down n b) (many_down (length taken) p) t.out.put put_fits.puts none handed_now
 
@@ -189,7 +195,7 @@ module _ (UpFits DownFits : ItemOut → Type 0) (ServerFits : ℕ → ServerStat
     wire_now : (a : Bool) → is_apart t.client.phase ≡ a → After UpFits DownFits ServerFits ClientFits cores w v b.device (device_left a (d1 a)) position (left_where a (put_up bytes (handed_down n b))) (many_of a t.out.put (length taken) p)
     wire_now true apart = left_now put_fits.in_client_step
     wire_now false stays =
-        subst (λ r. WireEncodes UpFits DownFits (framer_at (number_at position) w.server.framers) r (writer_at (number_at position) v.server) (put_up bytes (handed_down n b)) (pipes.put_up t.out.put (many_down (length taken) p))) (sym here_now) (put_now (stays_now stays put_fits.in_client_step))
+        subst (λ r. WireEncodes (framer_at (number_at position) w.server.framers) r (writer_at (number_at position) v.server) (put_up bytes (handed_down n b)) (pipes.put_up t.out.put (many_down (length taken) p))) (sym here_now) (put_now (stays_now stays put_fits.in_client_step))
 
     abbrev f_now : Bool → Wire → Wire
     f_now a y = left_where a (put_up bytes (handed_down n y))
@@ -213,9 +219,14 @@ module _ (UpFits DownFits : ItemOut → Type 0) (ServerFits : ℕ → ServerStat
     many_begun true y z = closed_begun (pipes.entered t.out.put y.up) (entered_begun t.out.put y.up z)
     many_begun false y z = entered_begun t.out.put y.up z
 
+    many_fits : (a : Bool) (y : ItemWire) → WireFits UpFits DownFits y → WireFits UpFits DownFits (many_of a t.out.put (length taken) y)
+    many_fits a y z =
+        left_where_fits UpFits DownFits a (pipes.put_up t.out.put (many_down (length taken) y))
+        (put_up_fits UpFits DownFits t.out.put put_fits.puts (many_down (length taken) y) (many_down_fits UpFits DownFits (length taken) y z))
+
     heard_encodes : (a : Bool) → is_apart t.client.phase ≡ a → WorldEncodes UpFits DownFits ServerFits ClientFits (with_link position b.device (link_now a) w) (items.all_moved (downs position (length taken)) v)
     heard_encodes a apart =
-        let all = user_encodes UpFits DownFits ServerFits ClientFits cores w v b.device d (device_left a (d1 a)) e (e1 a) (f_now a) (many_of a t.out.put (length taken)) device item_device (device_encodes a apart) h.here (many_begun a) encodes
+        let all = user_encodes UpFits DownFits ServerFits ClientFits cores w v b.device d (device_left a (d1 a)) e (e1 a) (f_now a) (many_of a t.out.put (length taken)) device item_device (device_encodes a apart) h.here fits (many_fits a) (many_begun a) encodes
         (λ q c r is there there_item y. subst (HereAt a) (same_Some position q (sym here ∙ is)) (here_at a apart) c r there there_item) (left_framer a) in
         let bytes_is : record w { devices = slice_set w.devices b.device (device_left a (d1 a)); wires = changed_where d.here (f_now a) w.wires } ≡ with_link position b.device (link_now a) w =
         ap (λ o. record w { devices = slice_set w.devices b.device (device_left a (d1 a)); wires = changed_where o (f_now a) w.wires }) here
@@ -244,7 +255,7 @@ module _ (UpFits DownFits : ItemOut → Type 0) (ServerFits : ℕ → ServerStat
         by : (c : Bool) → (b.device == i) ≡ c → notes_of (cond c (call_of_piece n b.down.bytes) []) (slice_get w.devices i) ≡ written_notes (cond c t.out.notes [])
         by true this =
             ap₂ notes_of (ap (λ (z : Bool). cond z [] (Bytes piece ∷ [])) some) (ap (slice_get w.devices) (sym (eqb-true b.device i this)) ∙ device)
-            ∙ calls_noted ClientFits (Bytes piece ∷ []) d e h ∙ ap written_notes read_notes
+            ∙ calls_noted (Bytes piece ∷ []) d e h ∙ ap written_notes read_notes
         by false other = nothing_noted (slice_get w.devices i)
 
   -- a connection and its device behind the items, and the world
@@ -259,7 +270,7 @@ module _ (UpFits DownFits : ItemOut → Type 0) (ServerFits : ℕ → ServerStat
   same_link position w b d found device = ap₂ (λ x y. record w { wires = x; devices = y }) (put_again w.wires position b found) (put_again w.devices b.device d device)
 
   is_heard : (position n : ℕ) (w : ByteWorld) (v : ItemWorld) (b : Wire) (p : ItemWire) (d : DeviceState) (e : ItemDevice) → slice_get w.wires position ≡ Some b → slice_get v.wires position ≡ Some p → slice_get w.devices b.device ≡ Some d → slice_get v.devices b.device ≡ Some e
-      → WireAt UpFits DownFits w v position b p → DeviceEncodes ClientFits d e → WorldEncodes UpFits DownFits ServerFits ClientFits w v → d.here ≡ Some position → (b.down.bytes ≡ [] → n ≡ 0) → IsHeard position n w v b (heard_first n (link_of b d))
+      → WireAt w v position b p → DeviceEncodes d e → WorldEncodes UpFits DownFits ServerFits ClientFits w v → d.here ≡ Some position → (b.down.bytes ≡ [] → n ≡ 0) → IsHeard position n w v b (heard_first n (link_of b d))
   is_heard position n w v b p d e found found_item device item_device at h encodes here none = by (n == 0) refl
     where
       reader_is : framer_here position (slice_get w.devices b.device) ≡ d.client.framer
@@ -281,17 +292,18 @@ module _ (UpFits DownFits : ItemOut → Type 0) (ServerFits : ℕ → ServerStat
         | standing f reader st ↦
             let framer = sym reader_is ∙ reader in
             let x = wire_down UpFits DownFits cores.up_limits cores.down_limits (framer_at (number_at position) w.server.framers) f (writer_at (number_at position) v.server) b p n st
-            (subst (λ r. WireEncodes UpFits DownFits (framer_at (number_at position) w.server.framers) r (writer_at (number_at position) v.server) b p) reader at) in
+            (subst (λ r. WireEncodes (framer_at (number_at position) w.server.framers) r (writer_at (number_at position) v.server) b p) reader at) in
+            let fit : WireFits UpFits DownFits p = all_found (WireFits UpFits DownFits) v.wires position p found_item encodes.fits.wires in
             let taken = take x.count p.down.items in
             let apart = is_apart (client_step_of_items e.client taken).client.phase in
             let now_is = ap (λ (c : Bool). cond c (link_of b d) (heard n (hears (take n b.down.bytes) d) (link_of b d))) some
-            ∙ link_is position n w v b p d e found found_item device item_device at.device h encodes here f framer x at.down_fits apart refl in
+            ∙ link_is position n w v b p d e found found_item device item_device at.device h encodes here f framer x fit.down apart refl in
             record {
               count = length taken;
-              noted = heard_noted position n w v b p d e found found_item device item_device at.device h encodes here f framer x at.down_fits some;
+              noted = heard_noted position n w v b p d e found found_item device item_device at.device h encodes here f framer x fit.down some;
               same_device = ap (λ (l : Link). l.wire.device) now_is ∙ left_device apart (put_up (flat_map written_item (client_step_of_items e.client taken).out.put) (handed_down n b));
               encodes = subst (λ l. WorldEncodes UpFits DownFits ServerFits ClientFits (with_link position b.device l w) (items.all_moved (downs position (length taken)) v)) (sym now_is)
-                  (heard_encodes position n w v b p d e found found_item device item_device at.device h encodes here f framer x at.down_fits apart refl);
+                  (heard_encodes position n w v b p d e found found_item device item_device at.device h encodes here f framer x fit.down apart refl);
             }
       ]
 
@@ -300,9 +312,9 @@ module _ (UpFits DownFits : ItemOut → Type 0) (ServerFits : ℕ → ServerStat
   end_encodes : (position : ℕ) (w : ByteWorld) (v : ItemWorld) (b : Wire) (d : DeviceState) → slice_get w.wires position ≡ Some b → slice_get w.devices b.device ≡ Some d → has_wire position d.here ≡ true → is_end_due b.down ≡ true → WorldEncodes UpFits DownFits ServerFits ClientFits w v
       → WorldEncodes UpFits DownFits ServerFits ClientFits (with_link position b.device (link_of (down_end_reported b) (loses d)) w) (items.moved (items.DownEnd position) v)
   end_encodes position w v b d found device here due encodes =
-      let other = found_both (WireAt UpFits DownFits w v position) b (slice_get w.wires position) (slice_get v.wires position) found (encodes.wires position) in
+      let other = found_both (WireAt w v position) b (slice_get w.wires position) (slice_get v.wires position) found (encodes.encoding.wires position) in
       let p = other.other in
-      let other_device = found_both (DeviceEncodes ClientFits) d (slice_get w.devices b.device) (slice_get v.devices b.device) device (encodes.devices b.device) in
+      let other_device = found_both DeviceEncodes d (slice_get w.devices b.device) (slice_get v.devices b.device) device (encodes.encoding.devices b.device) in
       let e = other_device.other in
       let h = other_device.holds in
       let has_it : d.here ≡ Some position = has_here position d.here here in
@@ -310,7 +322,7 @@ module _ (UpFits DownFits : ItemOut → Type 0) (ServerFits : ℕ → ServerStat
       let item_due = items_due client_limits (writer_at (number_at position) v.server) (framer_here position (slice_get w.devices b.device)) b.down p.down other.holds.down due in
       let e' : ItemDevice = record e { client = (leaves (fed_of e.client)).turn.client } in
       let all = user_encodes UpFits DownFits ServerFits ClientFits cores w v b.device d (loses d) e e' down_end_reported pipes.down_end_reported device other_device.is
-      (record { client = ap (λ (c : ClientView (List ℕ)). record c { phase = Apart }) h.client; here = h.here; framed = λ a. refl; fits = cores.client.loses e.client h.fits }) h.here (λ y z. z) encodes
+      (record { client = ap (λ (c : ClientView (List ℕ)). record c { phase = Apart }) h.client; here = h.here; framed = λ a. refl }) h.here (cores.client.loses e.client (client_fits UpFits DownFits ServerFits ClientFits cores w v b.device e other_device.is encodes)) (down_told_fits UpFits DownFits) (λ y z. z) encodes
       (λ q c r is there there_item y. told_here q c r is there y) (λ q apart. lost_framer d.here q ∙ sym (away UpFits DownFits ServerFits ClientFits cores d.here d.client.framer q apart)) in
       let bytes_is : record w { devices = slice_set w.devices b.device (loses d); wires = changed_where d.here down_end_reported w.wires } ≡ with_link position b.device (link_of (down_end_reported b) (loses d)) w =
       ap (λ o. record w { devices = slice_set w.devices b.device (loses d); wires = changed_where o down_end_reported w.wires }) has_it
@@ -332,7 +344,7 @@ module _ (UpFits DownFits : ItemOut → Type 0) (ServerFits : ℕ → ServerStat
           by true = refl
           by false = refl
 
-      told_here : (q : ℕ) (c : Wire) (r : ItemWire) → d.here ≡ Some q → slice_get w.wires q ≡ Some c → WireAt UpFits DownFits w v q c r → After UpFits DownFits ServerFits ClientFits cores w v b.device (loses d) q (down_end_reported c) (pipes.down_end_reported r)
+      told_here : (q : ℕ) (c : Wire) (r : ItemWire) → d.here ≡ Some q → slice_get w.wires q ≡ Some c → WireAt w v q c r → After UpFits DownFits ServerFits ClientFits cores w v b.device (loses d) q (down_end_reported c) (pipes.down_end_reported r)
       told_here q c r is there y =
           let same_position = same_Some position q (sym (has_here position d.here here) ∙ is) in
           let due_there : is_end_due c.down ≡ true = ap (λ (z : Wire). is_end_due z.down) (sym (same_Some b c (sym found ∙ ap (slice_get w.wires) same_position ∙ there))) ∙ due in
@@ -405,8 +417,8 @@ module _ (UpFits DownFits : ItemOut → Type 0) (ServerFits : ℕ → ServerStat
       -- the device has this connection
       has_it : (b : Wire) (d : DeviceState) → slice_get w.wires position ≡ Some b → slice_get w.devices b.device ≡ Some d → d.here ≡ Some position → IsDown position count w v (with_link position b.device (end_heard position (heard_first (amount count b.down) (link_of b d))) w)
       has_it b d found device here =
-          let other = found_both (WireAt UpFits DownFits w v position) b (slice_get w.wires position) (slice_get v.wires position) found (encodes.wires position) in
-          let other_device = found_both (DeviceEncodes ClientFits) d (slice_get w.devices b.device) (slice_get v.devices b.device) device (encodes.devices b.device) in
+          let other = found_both (WireAt w v position) b (slice_get w.wires position) (slice_get v.wires position) found (encodes.encoding.wires position) in
+          let other_device = found_both DeviceEncodes d (slice_get w.devices b.device) (slice_get v.devices b.device) device (encodes.encoding.devices b.device) in
           end_is_heard position (amount count b.down) count w v b d (heard_first (amount count b.down) (link_of b d)) found device
           (is_heard position (amount count b.down) w v b other.other d other_device.other found other.is device other_device.is other.holds other_device.holds encodes here (no_amount count b.down))
           (called_on b (Some d) (call_of_piece (amount count b.down) b.down.bytes) found device

@@ -41,7 +41,7 @@ no_position position e = omega (arith, e)
 
 module _ (UpFits DownFits : ItemOut → Type 0) (up_out : (i : ItemOut) → UpFits i → OutFits server_limits i) (down_out : (i : ItemOut) → DownFits i → OutFits client_limits i) (position : ℕ) (devices : List DeviceState) where
   abbrev pub At : Framers → Option Phase → Wire → ItemWire → Type 0
-  At framers now b p = WireEncodes UpFits DownFits (framer_at (number_at position) framers) (framer_here position (slice_get devices b.device)) now b p
+  At framers now b p = WireEncodes (framer_at (number_at position) framers) (framer_here position (slice_get devices b.device)) now b p
 
   abbrev pub Here : Framers → Option Phase → List Wire → List ItemWire → Type 0
   Here framers now bs ps = Both (At framers now) (slice_get bs position) (slice_get ps position)
@@ -98,7 +98,7 @@ module _ (UpFits DownFits : ItemOut → Type 0) (up_out : (i : ItemOut) → UpFi
   both_other framers others now None None e h = tt
   both_other framers others now None (Some p) e h = absurd h
   both_other framers others now (Some b) None e h = absurd h
-  both_other framers others now (Some b) (Some p) e h = subst (λ r. WireEncodes UpFits DownFits r (framer_here position (slice_get devices b.device)) now b p) e h
+  both_other framers others now (Some b) (Some p) e h = subst (λ r. WireEncodes r (framer_here position (slice_get devices b.device)) now b p) e h
 
   shut_one : (framers : Framers) (now : Option Phase) (k : ℕ) (bs : List Wire) (ps : List ItemWire) (rest : List (Out ItemOut)) (later : Option Phase) → AreInOrder DownFits (number_at position) now (Shut k ∷ rest) later → Here framers now bs ps
       → IsStep (remove_entry (is_number k) framers) (changed_under k shut bs) (changed_under k pipes.shut ps) rest later

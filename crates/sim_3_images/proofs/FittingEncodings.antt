@@ -11,13 +11,12 @@ use Rattle.sim_3_images.proofs.Starts.{start_keeps}
 use Rattle.sim_3_images.proofs.UpComes.{drawn}
 use Rattle.sim_3_images.specs.Relayable.{ClientFits, DownFits, ServerFits, UpFits}
 use Rattle.srv_state.specs.State.{ServerState}
-use Rattle.cmd_network.specs.Devices.{DeviceState}
 use Rattle.sim_3_images.proofs.WireSteps.{all_mapped}
 use Rattle.sim_3_images.specs.ItemStarts.{item_device, items_at_start}
 use Rattle.sim_3_images.specs.EncodingsOwed.{CoresKeep, StartKeeps}
 use Rattle.sim_3_images.specs.Stands.{StandingServers}
-use Rattle.sim_3_images.specs.WorldEncodings.{DeviceEncodes, WireAt, WorldEncodes}
-use Rattle.sim_3_images.proofs.ChangedLists.{all_both, all_found}
+use Rattle.sim_3_images.specs.WorldEncodings.{WorldEncodes}
+use Rattle.sim_3_images.proofs.ChangedLists.{all_found}
 use Rattle.sim_3_images.specs.Fitting.{FitsHere, TakesAny, WireFits, WorldFits}
 use Rattle.sim_3_items.specs.ItemPipes.{ItemWire}
 use Rattle.sim_3_items.specs.ItemWorlds.{ItemDevice, ItemWorld, read_of}
@@ -40,11 +39,7 @@ module _ (UpFits DownFits : ItemOut → Type 0) (ServerKeeps : ServerState ItemO
   start_fits schedule keep = record { server_state = keep.server_state; clients = owned_fit (owned_in (common_steps schedule)) keep.clients; wires = tt }
 
   pub encodes_fits : (w : ByteWorld) (v : ItemWorld) → WorldEncodes UpFits DownFits (StandingServers ServerKeeps) ClientFits w v → WorldFits UpFits DownFits ServerKeeps ClientFits v
-  encodes_fits w v encodes = record {
-    server_state = encodes.server_state_fits.1;
-    clients = all_both (λ position. DeviceEncodes ClientFits) (λ (d : ItemDevice). ClientFits d.client) (λ position (a : DeviceState) (d : ItemDevice) h. h.fits) w.devices v.devices encodes.devices;
-    wires = all_both (WireAt UpFits DownFits w v) (WireFits UpFits DownFits) (λ position b p h. record { up = h.up_fits; down = h.down_fits }) w.wires v.wires encodes.wires;
-  }
+  encodes_fits w v encodes = record { server_state = encodes.fits.server_state.1; clients = encodes.fits.clients; wires = encodes.fits.wires }
 
 -- ---- those of this project
 

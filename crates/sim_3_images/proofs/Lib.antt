@@ -14,6 +14,8 @@ pub mod Emissions
 pub mod ReadsTold
 pub mod PutsTold
 pub mod ItemsServed
+-- what is within limits
+pub mod WiresFit
 -- moves
 pub mod NotesTold
 pub mod NetworkMoves

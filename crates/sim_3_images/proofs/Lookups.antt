@@ -1,5 +1,5 @@
 -- What is found in lists and under numbers behind a change.
-use Rattle.std.proofs.Common.{◌≡◌, ◌≢◌, ℕ, zero, suc, Bool, true, false, true≢false, cond, List, [], ◌∷◌, ◌++◌, Some, None, length, refl, sym, ap, subst, ◌∙◌}
+use Rattle.std.proofs.Common.{◌≡◌, ◌≢◌, ℕ, zero, suc, Bool, true, false, cond, List, [], ◌∷◌, ◌++◌, Some, None, length, refl, sym, ap, subst, ◌∙◌}
 use Rattle.std.proofs.lemmas.Cmp.{nat_cmp_total}
 use Rattle.std.proofs.lemmas.Option.{none-some, same_Some}
 use Rattle.std.specs.BTreeMap.{insert_entry}
@@ -52,10 +52,6 @@ get_before [] x zero other = absurd (other refl)
 get_before [] x (suc p) other = refl
 get_before (y ∷ l) x zero other = refl
 get_before (y ∷ l) x (suc p) other = get_before l x p (λ e. other (ap suc e))
-
-pub none_at_end : {T : Type 0} (l : List T) → slice_get l (length l) ≡ None
-none_at_end [] = refl
-none_at_end (y ∷ l) = none_at_end l
 
 -- ---- numbers
 

@@ -5,90 +5,27 @@ use Rattle.cl_core.specs.Steps.{item_step}
 use Rattle.cl_core.specs.UserCalls.{catch_up_answer, catches_up, closes, dials, forgets, leaves, say_answer, says}
 use Rattle.cl_core.specs.declared.faults.CatchUpStart.{CatchUpStart}
 use Rattle.cl_core.specs.declared.faults.SayFault.{SayFault}
-use Rattle.law_limits.proofs.TurnsKept.{All-drop}
 use Rattle.cl_handlers.specs.Clients.{ClientStep, ClientView}
-use Rattle.cl_handlers.specs.Speech.{in_items, uttered}
-use Rattle.cl_handlers.specs.ClientSteps.{drops, is_apart, puts}
-use Rattle.cl_handlers.specs.ClientSteps as turns
+use Rattle.cl_handlers.specs.Speech.{in_items}
+use Rattle.cl_handlers.specs.ClientSteps.{is_apart}
 use Rattle.srv_state.specs.Moments.{at_moment, gone_at}
-use Rattle.srv_state.specs.State.{Out, Put, ServerState, Shut, Took}
+use Rattle.srv_state.specs.State.{ServerState}
 use Rattle.law_xml.proofs.PlainElements.{append_each}
 use Rattle.sim_3_images.proofs.DialMoves.{close_client}
-use Rattle.sim_3_images.proofs.WireSteps.{all_entered, all_taken}
+use Rattle.sim_3_images.proofs.WiresFit.{all_emitted_fits, cut_fits, down_told_fits, footer_fits, fresh_fits, handed_down_fits, handed_up_fits, left_fits, left_where_fits, put_up_fits, up_told_fits}
 use Rattle.sim_3_images.specs.EncodingsOwed.{CoresKeep}
-use Rattle.sim_3_images.specs.Stands.{OutPuts}
 use Rattle.sim_3_images.proofs.ChangedLists.{all_at, all_changed, all_set, all_where}
 use Rattle.sim_3_images.specs.Fitting.{MayItem, TakesAny, WireFits, WorldFits}
 use Rattle.sim_3_items.specs.ItemMoves.{CatchUp, Close, Cut, Dial, Down, DownEnd, Forget, ItemMove, Say, Tick, Up, UpEnd}
-use Rattle.sim_3_items.specs.ItemMoves.{all_emitted, all_moved, at_device, at_wire, caught_up_by, closed_by, dialed_by, emitted, end_heard, fed_of, forgot_by, has_wire, heard_first, left_where, moved, reported_up, said_by, said_in, served_by, served_first, spoke, step_of}
-use Rattle.sim_3_items.specs.ItemPipes.{ItemWire, cut_at, down_end_reported, fresh_wire, handed_down, handed_up, is_end_due, left, put_down, put_up, shut, up_end_reported}
+use Rattle.sim_3_items.specs.ItemMoves.{all_moved, at_device, at_wire, caught_up_by, closed_by, dialed_by, end_heard, fed_of, forgot_by, has_wire, heard_first, left_where, moved, reported_up, said_by, said_in, served_by, served_first, spoke, step_of}
+use Rattle.sim_3_items.specs.ItemPipes.{ItemWire, cut_at, down_end_reported, fresh_wire, handed_down, handed_up, is_end_due, left, put_up, up_end_reported}
 use Rattle.sim_3_items.specs.ItemWorlds.{ItemDevice, ItemWorld, itself, read_of, silent_client_step}
 use Rattle.cmd_report.specs.Addresses.{bare_address}
 use Rattle.cmd_schedule.specs.Grammar.{is_name, is_text}
 use Rattle.srv_core.specs.Table.{after_item}
-use Rattle.cmd_network.specs.Positions.{changed_at, changed_where, position_under}
+use Rattle.cmd_network.specs.Positions.{changed_at, changed_where}
 use Rattle.cmd_world.specs.Worlds.{client_entropy, server_entropy}
-use Rattle.xml_writer.specs.Items.{Closing, ItemOut}
-
--- ---- a client that closes its stream
-
--- a footer at most is put
-close_puts : (P : ItemOut → Type 0) (c : ClientView ItemOut) → P Closing → AllByRecursion P (closes in_items (fed_of c)).turn.out.put
-close_puts P c fits = by (is_apart c.phase)
-  where
-    by : (b : Bool) → AllByRecursion P (drops in_items (turns.left (cond b (silent_client_step c) (puts (silent_client_step c) (uttered in_items Closing))))).out.put
-    by true = tt
-    by false = (fits, tt)
-
--- ---- connections
-
-module _ (UpFits DownFits : ItemOut → Type 0) where
-  abbrev Both : ItemWire → Type 0
-  Both wire = WireFits UpFits DownFits wire
-
-  fresh_fits : (device : ℕ) → Both (fresh_wire device)
-  fresh_fits device = record { up = tt; down = tt }
-
-  cut_fits : (i j : ℕ) (wire : ItemWire) → Both wire → Both (cut_at i j wire)
-  cut_fits i j wire fits = record { up = all_taken UpFits i wire.up.items fits.up; down = all_taken DownFits j wire.down.items fits.down }
-
-  left_fits : (wire : ItemWire) → Both wire → Both (left wire)
-  left_fits wire fits = record { up = fits.up; down = tt }
-
-  shut_fits : (wire : ItemWire) → Both wire → Both (shut wire)
-  shut_fits wire fits = record { up = tt; down = fits.down }
-
-  put_up_fits : (more : List ItemOut) → AllByRecursion UpFits more → (wire : ItemWire) → Both wire → Both (put_up more wire)
-  put_up_fits more rest wire fits = record { up = all_entered UpFits more wire.up fits.up rest; down = fits.down }
-
-  put_down_fits : (more : List ItemOut) → AllByRecursion DownFits more → (wire : ItemWire) → Both wire → Both (put_down more wire)
-  put_down_fits more rest wire fits = record { up = fits.up; down = all_entered DownFits more wire.down fits.down rest }
-
-  handed_up_fits : (wire : ItemWire) → Both wire → Both (handed_up wire)
-  handed_up_fits wire fits = record { up = All-drop UpFits 1 wire.up.items fits.up; down = fits.down }
-
-  handed_down_fits : (wire : ItemWire) → Both wire → Both (handed_down wire)
-  handed_down_fits wire fits = record { up = fits.up; down = All-drop DownFits 1 wire.down.items fits.down }
-
-  up_told_fits : (wire : ItemWire) → Both wire → Both (up_end_reported wire)
-  up_told_fits wire fits = record { up = fits.up; down = fits.down }
-
-  down_told_fits : (wire : ItemWire) → Both wire → Both (down_end_reported wire)
-  down_told_fits wire fits = record { up = fits.up; down = fits.down }
-
-  left_where_fits : (is_left : Bool) (wire : ItemWire) → Both wire → Both (left_where is_left wire)
-  left_where_fits true wire fits = left_fits wire fits
-  left_where_fits false wire fits = fits
-
-  -- what the server puts out
-  emitted_fits : (out : Out ItemOut) (wires : List ItemWire) → OutPuts DownFits out → AllByRecursion Both wires → AllByRecursion Both (emitted out wires)
-  emitted_fits (Put k i) wires fits all = all_where Both (put_down (i ∷ [])) (put_down_fits (i ∷ []) (fits, tt)) (position_under k) wires all
-  emitted_fits (Shut k) wires fits all = all_where Both shut shut_fits (position_under k) wires all
-  emitted_fits (Took from to origin) wires fits all = all
-
-  all_emitted_fits : (outs : List (Out ItemOut)) (wires : List ItemWire) → AllByRecursion (OutPuts DownFits) outs → AllByRecursion Both wires → AllByRecursion Both (all_emitted outs wires)
-  all_emitted_fits [] wires fits all = all
-  all_emitted_fits (out ∷ outs) wires fits all = all_emitted_fits outs (emitted out wires) fits.1 (emitted_fits out wires fits.0 all)
+use Rattle.xml_writer.specs.Items.{ItemOut}
 
 -- ---- moves
 
@@ -136,7 +73,7 @@ module _ (UpFits DownFits : ItemOut → Type 0) (ServerKeeps : ServerState ItemO
         server_state = fits.server_state;
         clients = all_set OfDevice w.devices device (record { client = t.client; here = None }) (subst ClientFits (sym (close_client d.client)) (keep.client.forgets_so d.client here)) fits.clients;
         wires = all_where OfWire left (left_fits UpFits DownFits) d.here (changed_where d.here (put_up t.out.put) w.wires)
-            (all_where OfWire (put_up t.out.put) (put_up_fits UpFits DownFits t.out.put (close_puts UpFits d.client keep.footer)) d.here w.wires fits.wires);
+            (all_where OfWire (put_up t.out.put) (put_up_fits UpFits DownFits t.out.put (footer_fits UpFits d.client keep.footer)) d.here w.wires fits.wires);
       }
 
   spoke_fits : (device : ℕ) (w : ItemWorld) (d : ItemDevice) (t : ClientStep ItemOut ItemOut) → Fits w → ClientFits t.client → AllByRecursion UpFits t.out.put → Fits (spoke device d t w)

@@ -20,6 +20,7 @@ use Rattle.sim_3_images.specs.EncodingsCores.{CoresFit, writer_at}
 use Rattle.sim_3_images.specs.ItemRuns.{MayMove}
 use Rattle.sim_3_images.specs.ItemStarts.{StartFits, item_device, items_at_start}
 use Rattle.sim_3_images.specs.WorldEncodings.{Both, DeviceEncodes, IsMoved, IsReached, MovesEncode, WireAt, WorldEncodes, framer_here}
+use Rattle.sim_3_images.proofs.FittingEncodings.{start_fits}
 use Rattle.sim_3_items.specs.ItemMoves as items
 use Rattle.sim_3_items.specs.ItemPipes.{ItemWire}
 use Rattle.sim_3_items.specs.ItemWorlds.{ItemWorld}
@@ -123,22 +124,24 @@ none_there R zero = tt
 none_there R (suc position) = tt
 
 module _ (UpFits DownFits : ItemOut → Type 0) (ServerFits : ℕ → ServerState ItemOut → Type 0) (ClientFits : ClientView ItemOut → Type 0) where
-  devices_at_start : (l : List Owned) → AllByRecursion (λ o. ClientFits (item_device o).client) l → (position : ℕ) → Both (DeviceEncodes ClientFits) (slice_get (map owned_at_start l) position) (slice_get (map item_device l) position)
-  devices_at_start [] fit zero = tt
-  devices_at_start [] fit (suc position) = tt
-  devices_at_start (o ∷ l) fit zero = record { client = refl; here = refl; framed = λ a. refl; fits = fit.0 }
-  devices_at_start (o ∷ l) fit (suc position) = devices_at_start l fit.1 position
+  devices_at_start : (l : List Owned) (position : ℕ) → Both DeviceEncodes (slice_get (map owned_at_start l) position) (slice_get (map item_device l) position)
+  devices_at_start [] zero = tt
+  devices_at_start [] (suc position) = tt
+  devices_at_start (o ∷ l) zero = record { client = refl; here = refl; framed = λ a. refl }
+  devices_at_start (o ∷ l) (suc position) = devices_at_start l position
 
   pub start_encodes : (schedule : WireView) → StartFits ServerFits ClientFits schedule → WorldEncodes UpFits DownFits ServerFits ClientFits (world_at_start schedule) (items_at_start schedule)
   start_encodes schedule fits = record {
-    moment = refl;
-    server_state = refl;
-    server_state_fits = fits.server_state;
+    encoding = record {
+      moment = refl;
+      server_state = refl;
+      devices = devices_at_start (owned_in (common_steps schedule));
+      as_many = refl;
+      wires = none_there (WireAt (world_at_start schedule) (items_at_start schedule));
+      takes = refl;
+    };
+    fits = start_fits UpFits DownFits (ServerFits 0) ClientFits schedule (record { server_state = fits.server_state; clients = fits.clients });
     begins = λ position p found. absurd (nothing_found position p found);
-    devices = devices_at_start (owned_in (common_steps schedule)) fits.clients;
-    as_many = refl;
-    wires = none_there (WireAt UpFits DownFits (world_at_start schedule) (items_at_start schedule));
-    takes = refl;
   }
 
   -- ---- no bytes
@@ -149,13 +152,13 @@ module _ (UpFits DownFits : ItemOut → Type 0) (ServerFits : ℕ → ServerStat
   pub no_items_up : (w : ByteWorld) (v : ItemWorld) (position : ℕ) (b : Wire) (p : ItemWire) → WorldEncodes UpFits DownFits ServerFits ClientFits w v → slice_get w.wires position ≡ Some b → slice_get v.wires position ≡ Some p → b.up.ended ≡ false → b.up.bytes ≡ []
       → (p.up.ended ≡ false) × (p.up.items ≡ [])
   no_items_up w v position b p encodes there there_item open_still none =
-      let i = both_there (WireAt UpFits DownFits w v position) (slice_get w.wires position) (slice_get v.wires position) b p there there_item (encodes.wires position) in
+      let i = both_there (WireAt w v position) (slice_get w.wires position) (slice_get v.wires position) b p there there_item (encodes.encoding.wires position) in
       (sym i.up.ended ∙ open_still, empty_encodes server_limits (Some phase.Between) (framer_at (number_at position) w.server.framers) b.up p.up i.up open_still none)
 
   pub no_items_down : (w : ByteWorld) (v : ItemWorld) (position : ℕ) (b : Wire) (p : ItemWire) → WorldEncodes UpFits DownFits ServerFits ClientFits w v → slice_get w.wires position ≡ Some b → slice_get v.wires position ≡ Some p → b.down.ended ≡ false → b.down.bytes ≡ []
       → (p.down.ended ≡ false) × (p.down.items ≡ [])
   no_items_down w v position b p encodes there there_item open_still none =
-      let i = both_there (WireAt UpFits DownFits w v position) (slice_get w.wires position) (slice_get v.wires position) b p there there_item (encodes.wires position) in
+      let i = both_there (WireAt w v position) (slice_get w.wires position) (slice_get v.wires position) b p there there_item (encodes.encoding.wires position) in
       (sym i.down.ended ∙ open_still, empty_encodes client_limits (writer_at (number_at position) v.server) (framer_here position (slice_get w.devices b.device)) b.down p.down i.down open_still none)
 
   module _ (cores : CoresFit UpFits DownFits ServerFits ClientFits) where

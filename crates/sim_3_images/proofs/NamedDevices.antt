@@ -1,5 +1,5 @@
 -- A declared device: its addresses are in normal form, its account is that of the server, and its client has it.
-use Rattle.std.proofs.Common.{◌≡◌, ◌≢◌, ℕ, suc, ◌+◌, true, ◌&&◌, ◌||◌, List, [], ◌∷◌, ◌++◌, length, Option, Some, None, Ok, refl, sym, ap, ap₂, subst, append-nil, append_assoc, ◌∙◌, inl, inr, arith}
+use Rattle.std.proofs.Common.{◌≡◌, ◌≢◌, ℕ, suc, ◌+◌, true, ◌&&◌, ◌||◌, List, [], ◌∷◌, length, Option, Some, None, Ok, refl, sym, ap, ap₂, subst, append-nil, ◌∙◌, inl, inr, arith}
 use Rattle.std.proofs.lemmas.Bool.{and_from, and_parts, cases_Bool, false≢true, lt-ltb, or_left}
 use Rattle.std.proofs.lemmas.Bool.Decides.{nat_tests}
 use Rattle.std.proofs.lemmas.Option.{slice_get-map}
@@ -14,6 +14,7 @@ use Rattle.sim_3_images.proofs.OwnedDevices.{IsDeclared}
 use Rattle.sim_3_images.specs.Devices.{account_position, identity_at}
 use Rattle.sim_3_items.specs.Identities.{IsNormal, own_account}
 use Rattle.sim_3_items.specs.Servers.{IsDeviceServed}
+use Rattle.sim_3_items.proofs.FullAddresses.{full_normal}
 use Rattle.cmd_network.proofs.Names.{domain_stays, local_stays, resource_stays}
 use Rattle.cmd_network.specs.Starting.{account_at_start, accounts_at_start, password_of}
 use Rattle.base_io.specs.Names.{is_among, position_of}
@@ -21,7 +22,7 @@ use Rattle.im_jid.proofs.NormalAgain.{are_joined}
 use Rattle.im_jid.specs.Normal.{normal}
 use Rattle.srv_login.specs.Accounts.{account_from}
 use Rattle.srv_login.specs.declared.account.Account.{Account}
-use Rattle.cmd_report.specs.Addresses.{bare_address, domain, full_address}
+use Rattle.cmd_report.specs.Addresses.{bare_address, domain}
 use Rattle.cmd_schedule.specs.Contents.{Owned, accounts_of}
 use Rattle.cmd_schedule.specs.Grammar.{is_digit, is_lower, is_name}
 use Rattle.cmd_schedule.specs.Schedules.{WireView}
@@ -53,17 +54,12 @@ normal_domain =
     let whole = are_joined None domain None (record { local_stays = tt; domain_stays = domain_stays; resource_stays = tt }) in
     subst (λ t. normal t ≡ Ok t) (append-nil domain) whole.normal_form
 
-pub normal_full : (account device : List ℕ) → is_name account ≡ true → is_name device ≡ true → normal (full_address account device) ≡ Ok (full_address account device)
-normal_full account device is named =
-    let whole = are_joined (Some account) domain (Some device) (record { local_stays = local_stays account is; domain_stays = domain_stays; resource_stays = resource_stays device named }) in
-    subst (λ t. normal t ≡ Ok t) (ap (λ t. t ++ 47 ∷ device) (append_assoc account (64 ∷ []) domain)) whole.normal_form
-
 pub is_normal : (schedule : WireView) (position : ℕ) (o : Owned) → IsDeclared (accounts_of (common_steps schedule)) o → IsNormal (identity_at schedule position o)
 is_normal schedule position o is = record {
   domain = normal_domain;
   resource = resource_stays o.device is.device;
   chosen = not_empty o.device is.device;
-  full = normal_full o.account o.device is.account is.device;
+  full = full_normal o.account o.device is.account is.device;
 }
 
 -- ---- the client

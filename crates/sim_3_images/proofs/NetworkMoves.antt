@@ -17,6 +17,9 @@ use Rattle.sim_3_images.proofs.PipeSteps.{due_encodes, is_due, items_due}
 use Rattle.sim_3_images.proofs.WireSteps.{wire_cut, wire_up_told}
 use Rattle.sim_3_images.proofs.NotesTold.{nothing_noted}
 use Rattle.sim_3_images.specs.EncodingsCores.{CoresFit, writer_at, writer_of}
+use Rattle.sim_3_images.proofs.ChangedLists.{all_changed}
+use Rattle.sim_3_images.proofs.WiresFit.{cut_fits, up_told_fits}
+use Rattle.sim_3_images.specs.Fitting.{WireFits}
 use Rattle.sim_3_images.specs.ItemRuns.{moved_where}
 use Rattle.sim_3_images.specs.WireEncodings.{WireEncodes}
 use Rattle.sim_3_images.specs.WorldEncodings.{Begins, Both, IsBegun, IsMoved, WireAt, WorldEncodes, framer_here}
@@ -81,14 +84,16 @@ module _ (UpFits DownFits : ItemOut → Type 0) (ServerFits : ℕ → ServerStat
     moves = items.Tick milliseconds ∷ [];
     is_run = refl;
     encodes = record {
-      moment = ap (λ n. n + milliseconds) i.moment;
-      server_state = ap (at_moment (w.moment + milliseconds)) i.server_state ∙ moment_rendered written_item (w.moment + milliseconds) v.server ∙ ap (λ n. server_state_rendered written_item (at_moment (n + milliseconds) v.server)) i.moment;
-      server_state_fits = cores.moment (length v.wires) (v.moment + milliseconds) v.server i.server_state_fits;
+      encoding = record {
+        moment = ap (λ n. n + milliseconds) i.encoding.moment;
+        server_state = ap (at_moment (w.moment + milliseconds)) i.encoding.server_state ∙ moment_rendered written_item (w.moment + milliseconds) v.server ∙ ap (λ n. server_state_rendered written_item (at_moment (n + milliseconds) v.server)) i.encoding.moment;
+        devices = i.encoding.devices;
+        as_many = i.encoding.as_many;
+        wires = i.encoding.wires;
+        takes = i.encoding.takes;
+      };
+      fits = record { server_state = cores.moment (length v.wires) (v.moment + milliseconds) v.server i.fits.server_state; clients = i.fits.clients; wires = i.fits.wires };
       begins = i.begins;
-      devices = i.devices;
-      as_many = i.as_many;
-      wires = i.wires;
-      takes = i.takes;
     };
     notes = λ j. nothing_noted (slice_get w.devices j);
     reads = λ j. refl;
@@ -97,8 +102,8 @@ module _ (UpFits DownFits : ItemOut → Type 0) (ServerFits : ℕ → ServerStat
 
   -- ---- a cut, whose counts hang on what is there
 
-  has_cut : (position up down : ℕ) (w : ByteWorld) (v : ItemWorld) (ob : Option Wire) (op : Option ItemWire) → Both (WireAt UpFits DownFits w v position) ob op
-      → (i j : ℕ) × Both (WireAt UpFits DownFits w v position) (option_map (cut_at up down) ob) (option_map (pipes.cut_at i j) op)
+  has_cut : (position up down : ℕ) (w : ByteWorld) (v : ItemWorld) (ob : Option Wire) (op : Option ItemWire) → Both (WireAt w v position) ob op
+      → (i j : ℕ) × Both (WireAt w v position) (option_map (cut_at up down) ob) (option_map (pipes.cut_at i j) op)
   has_cut position up down w v None None r = (0, 0, tt)
   has_cut position up down w v None (Some p) r = absurd r
   has_cut position up down w v (Some b) None r = absurd r
@@ -108,19 +113,25 @@ module _ (UpFits DownFits : ItemOut → Type 0) (ServerFits : ℕ → ServerStat
 
   pub cut_is : (position up down : ℕ) (w : ByteWorld) (v : ItemWorld) → WorldEncodes UpFits DownFits ServerFits ClientFits w v → IsMoved UpFits DownFits ServerFits ClientFits (Cut position up down) w v
   cut_is position up down w v i =
-      let h = has_cut position up down w v (slice_get w.wires position) (slice_get v.wires position) (i.wires position) in
+      let h = has_cut position up down w v (slice_get w.wires position) (slice_get v.wires position) (i.encoding.wires position) in
       record {
         moves = items.Cut position h.0 h.1 ∷ [];
         is_run = (h.0, h.1, refl);
         encodes = record {
-          moment = i.moment;
-          server_state = i.server_state;
-          server_state_fits = subst (λ n. ServerFits n v.server) (sym (length_changed (pipes.cut_at h.0 h.1) v.wires position)) i.server_state_fits;
+          encoding = record {
+            moment = i.encoding.moment;
+            server_state = i.encoding.server_state;
+            devices = i.encoding.devices;
+            as_many = length_changed (cut_at up down) w.wires position ∙ i.encoding.as_many ∙ sym (length_changed (pipes.cut_at h.0 h.1) v.wires position);
+            wires = both_changed (WireAt w v) (WireAt w v) (cut_at up down) (pipes.cut_at h.0 h.1) w.wires v.wires position h.2 (λ q other c r x. x) i.encoding.wires;
+            takes = i.encoding.takes;
+          };
+          fits = record {
+            server_state = subst (λ n. ServerFits n v.server) (sym (length_changed (pipes.cut_at h.0 h.1) v.wires position)) i.fits.server_state;
+            clients = i.fits.clients;
+            wires = all_changed (WireFits UpFits DownFits) (pipes.cut_at h.0 h.1) (cut_fits UpFits DownFits h.0 h.1) position v.wires i.fits.wires;
+          };
           begins = begins_at v.wires v.server v.server position (pipes.cut_at h.0 h.1) (λ x b. cut_begun h.0 x.up b) (λ j e. e) i.begins;
-          devices = i.devices;
-          as_many = length_changed (cut_at up down) w.wires position ∙ i.as_many ∙ sym (length_changed (pipes.cut_at h.0 h.1) v.wires position);
-          wires = both_changed (WireAt UpFits DownFits w v) (WireAt UpFits DownFits w v) (cut_at up down) (pipes.cut_at h.0 h.1) w.wires v.wires position h.2 (λ q other c r x. x) i.wires;
-          takes = i.takes;
         };
         notes = λ j. nothing_noted (slice_get w.devices j);
         reads = λ j. refl;
@@ -130,20 +141,20 @@ module _ (UpFits DownFits : ItemOut → Type 0) (ServerFits : ℕ → ServerStat
   -- ---- the end of a connection is told to the server
 
   -- another connection is as it was
-  told_other : (position : ℕ) (w : ByteWorld) (v : ItemWorld) (q : ℕ) → (q ≡ position → ⊥) → (c : Wire) (r : ItemWire) → WireAt UpFits DownFits w v q c r
-      → WireEncodes UpFits DownFits (framer_at (number_at q) (remove_entry (is_number (number_at position)) w.server.framers)) (framer_here q (slice_get w.devices c.device)) (writer_at (number_at q) (gone_at (position + 1) (at_moment v.moment v.server))) c r
+  told_other : (position : ℕ) (w : ByteWorld) (v : ItemWorld) (q : ℕ) → (q ≡ position → ⊥) → (c : Wire) (r : ItemWire) → WireAt w v q c r
+      → WireEncodes (framer_at (number_at q) (remove_entry (is_number (number_at position)) w.server.framers)) (framer_here q (slice_get w.devices c.device)) (writer_at (number_at q) (gone_at (position + 1) (at_moment v.moment v.server))) c r
   told_other position w v q other c r x =
-      subst (λ f. WireEncodes UpFits DownFits f (framer_here q (slice_get w.devices c.device)) (writer_at (number_at q) (gone_at (position + 1) (at_moment v.moment v.server))) c r) (sym (found_after_removal (number_at q) (number_at position) w.server.framers (number_apart q position other)))
-      (subst (λ n. WireEncodes UpFits DownFits (framer_at (number_at q) w.server.framers) (framer_here q (slice_get w.devices c.device)) n c r) (sym (ap (option_map writer_of) (found_after_removal (number_at q) (position + 1) v.server.conns (number_apart q position other)))) x)
+      subst (λ f. WireEncodes f (framer_here q (slice_get w.devices c.device)) (writer_at (number_at q) (gone_at (position + 1) (at_moment v.moment v.server))) c r) (sym (found_after_removal (number_at q) (number_at position) w.server.framers (number_apart q position other)))
+      (subst (λ n. WireEncodes (framer_at (number_at q) w.server.framers) (framer_here q (slice_get w.devices c.device)) n c r) (sym (ap (option_map writer_of) (found_after_removal (number_at q) (position + 1) v.server.conns (number_apart q position other)))) x)
 
-  told_here : (position : ℕ) (w : ByteWorld) (v : ItemWorld) (b : Wire) (p : ItemWire) → is_end_due b.up ≡ true → WireAt UpFits DownFits w v position b p
-      → WireEncodes UpFits DownFits (framer_at (number_at position) (remove_entry (is_number (number_at position)) w.server.framers)) (framer_here position (slice_get w.devices b.device)) (writer_at (number_at position) (gone_at (position + 1) (at_moment v.moment v.server))) (up_end_reported b) (pipes.up_end_reported p)
+  told_here : (position : ℕ) (w : ByteWorld) (v : ItemWorld) (b : Wire) (p : ItemWire) → is_end_due b.up ≡ true → WireAt w v position b p
+      → WireEncodes (framer_at (number_at position) (remove_entry (is_number (number_at position)) w.server.framers)) (framer_here position (slice_get w.devices b.device)) (writer_at (number_at position) (gone_at (position + 1) (at_moment v.moment v.server))) (up_end_reported b) (pipes.up_end_reported p)
   told_here position w v b p due x =
       wire_up_told UpFits DownFits cores.up_limits cores.down_limits (framer_at (number_at position) w.server.framers) (framer_here position (slice_get w.devices b.device))
       (framer_at (number_at position) (remove_entry (is_number (number_at position)) w.server.framers)) (writer_at (number_at position) v.server) (writer_at (number_at position) (gone_at (position + 1) (at_moment v.moment v.server))) b p due x
 
   -- nothing comes of it any more
-  told_begins : (position : ℕ) (w : ByteWorld) (v : ItemWorld) (b : Wire) (p : ItemWire) → slice_get v.wires position ≡ Some p → is_end_due b.up ≡ true → WireAt UpFits DownFits w v position b p → Begins v.wires v.server
+  told_begins : (position : ℕ) (w : ByteWorld) (v : ItemWorld) (b : Wire) (p : ItemWire) → slice_get v.wires position ≡ Some p → is_end_due b.up ≡ true → WireAt w v position b p → Begins v.wires v.server
       → Begins (changed_at position pipes.up_end_reported v.wires) (gone_at (position + 1) (at_moment v.moment v.server))
   told_begins position w v b p found due x begins q r there first = elim (cases_eq q position) [
     | inl same ↦
@@ -155,30 +166,36 @@ module _ (UpFits DownFits : ItemOut → Type 0) (ServerFits : ℕ → ServerStat
         (sym (ap (option_map writer_of) (found_after_removal (number_at q) (position + 1) v.server.conns (number_apart q position other))) ∙ first)
   ]
 
-  told_encodes : (position : ℕ) (w : ByteWorld) (v : ItemWorld) (b : Wire) (p : ItemWire) → slice_get w.wires position ≡ Some b → slice_get v.wires position ≡ Some p → is_end_due b.up ≡ true → WireAt UpFits DownFits w v position b p
+  told_encodes : (position : ℕ) (w : ByteWorld) (v : ItemWorld) (b : Wire) (p : ItemWire) → slice_get w.wires position ≡ Some b → slice_get v.wires position ≡ Some p → is_end_due b.up ≡ true → WireAt w v position b p
       → WorldEncodes UpFits DownFits ServerFits ClientFits w v
       → WorldEncodes UpFits DownFits ServerFits ClientFits (record w { server = after_gone (number_at position) w.moment w.server; wires = slice_set w.wires position (up_end_reported b) })
       (record v { server = gone_at (position + 1) (at_moment v.moment v.server); wires = changed_at position pipes.up_end_reported v.wires })
   told_encodes position w v b p found found_item due x i =
       let set_is : slice_set w.wires position (up_end_reported b) ≡ changed_at position up_end_reported w.wires = set_changes up_end_reported w.wires position b (up_end_reported b) found refl in
       let after : ℕ → Wire → ItemWire → Type 0 =
-      λ q c r. WireEncodes UpFits DownFits (framer_at (number_at q) (remove_entry (is_number (number_at position)) w.server.framers)) (framer_here q (slice_get w.devices c.device)) (writer_at (number_at q) (gone_at (position + 1) (at_moment v.moment v.server))) c r in
+      λ q c r. WireEncodes (framer_at (number_at q) (remove_entry (is_number (number_at position)) w.server.framers)) (framer_here q (slice_get w.devices c.device)) (writer_at (number_at q) (gone_at (position + 1) (at_moment v.moment v.server))) c r in
       let here : Both (after position) (option_map up_end_reported (slice_get w.wires position)) (option_map pipes.up_end_reported (slice_get v.wires position)) =
       subst (λ o. Both (after position) (option_map up_end_reported o) (option_map pipes.up_end_reported (slice_get v.wires position))) (sym found)
       (subst (λ o. Both (after position) (Some (up_end_reported b)) (option_map pipes.up_end_reported o)) (sym found_item) (told_here position w v b p due x)) in
       record {
-        moment = i.moment;
-        server_state =
-            ap (λ x. gone_at (number_at position) (at_moment w.moment x)) i.server_state ∙ ap (gone_at (number_at position)) (moment_rendered written_item w.moment v.server) ∙ gone_rendered written_item (number_at position) (at_moment w.moment v.server)
-            ∙ ap (λ n. server_state_rendered written_item (gone_at (position + 1) (at_moment n v.server))) i.moment;
-        server_state_fits = subst (λ n. ServerFits n (gone_at (position + 1) (at_moment v.moment v.server))) (sym (length_changed pipes.up_end_reported v.wires position))
-            (cores.goes (length v.wires) (position + 1) (at_moment v.moment v.server) (cores.moment (length v.wires) v.moment v.server i.server_state_fits));
+        encoding = record {
+          moment = i.encoding.moment;
+          server_state =
+              ap (λ x. gone_at (number_at position) (at_moment w.moment x)) i.encoding.server_state ∙ ap (gone_at (number_at position)) (moment_rendered written_item w.moment v.server) ∙ gone_rendered written_item (number_at position) (at_moment w.moment v.server)
+              ∙ ap (λ n. server_state_rendered written_item (gone_at (position + 1) (at_moment n v.server))) i.encoding.moment;
+          devices = i.encoding.devices;
+          as_many = ap length set_is ∙ length_changed up_end_reported w.wires position ∙ i.encoding.as_many ∙ sym (length_changed pipes.up_end_reported v.wires position);
+          wires = λ q. subst (λ l. Both (after q) (slice_get l q) (slice_get (changed_at position pipes.up_end_reported v.wires) q)) (sym set_is)
+              (both_changed (WireAt w v) after up_end_reported pipes.up_end_reported w.wires v.wires position here (told_other position w v) i.encoding.wires q);
+          takes = i.encoding.takes;
+        };
+        fits = record {
+          server_state = subst (λ n. ServerFits n (gone_at (position + 1) (at_moment v.moment v.server))) (sym (length_changed pipes.up_end_reported v.wires position))
+              (cores.goes (length v.wires) (position + 1) (at_moment v.moment v.server) (cores.moment (length v.wires) v.moment v.server i.fits.server_state));
+          clients = i.fits.clients;
+          wires = all_changed (WireFits UpFits DownFits) pipes.up_end_reported (up_told_fits UpFits DownFits) position v.wires i.fits.wires;
+        };
         begins = told_begins position w v b p found_item due x i.begins;
-        devices = i.devices;
-        as_many = ap length set_is ∙ length_changed up_end_reported w.wires position ∙ i.as_many ∙ sym (length_changed pipes.up_end_reported v.wires position);
-        wires = λ q. subst (λ l. Both (after q) (slice_get l q) (slice_get (changed_at position pipes.up_end_reported v.wires) q)) (sym set_is)
-            (both_changed (WireAt UpFits DownFits w v) after up_end_reported pipes.up_end_reported w.wires v.wires position here (told_other position w v) i.wires q);
-        takes = i.takes;
       }
 
   pub record IsEnded (position : ℕ) (w : ByteWorld) (v : ItemWorld) : Type 0 where
@@ -190,7 +207,7 @@ module _ (UpFits DownFits : ItemOut → Type 0) (ServerFits : ℕ → ServerStat
     where
       due_or_not : (b : Wire) → slice_get w.wires position ≡ Some b → (e : Bool) → is_end_due b.up ≡ e → IsEnded position w v
       due_or_not b found true due =
-          let other = found_both (WireAt UpFits DownFits w v position) b (slice_get w.wires position) (slice_get v.wires position) found (i.wires position) in
+          let other = found_both (WireAt w v position) b (slice_get w.wires position) (slice_get v.wires position) found (i.encoding.wires position) in
           let due_item = items_due server_limits (Some phase.Between) (framer_at (number_at position) w.server.framers) b.up other.other.up other.holds.up due in
           let bytes_is : end_reported_up position w ≡ record w { server = after_gone (number_at position) w.moment w.server; wires = slice_set w.wires position (up_end_reported b) } =
           ap (λ o. reported_up position o w) found ∙ ap (λ (e : Bool). cond e (record w { server = after_gone (number_at position) w.moment w.server; wires = slice_set w.wires position (up_end_reported b) }) w) due in

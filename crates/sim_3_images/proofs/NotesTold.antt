@@ -40,13 +40,13 @@ noting_rendered = record {
 abbrev pub silent_at : Option State → ClientView ItemOut → Fed ItemOut ItemOut
 silent_at framer c = record { framer = framer; turn = silent_client_step c }
 
-silent_so : (ClientFits : ClientView ItemOut → Type 0) (d : DeviceState) (e : ItemDevice) → DeviceEncodes ClientFits d e → silent d.client ≡ fed_rendered written_item written_item written_notes (silent_at d.client.framer e.client)
-silent_so ClientFits d e h = ap (λ (c : ClientView (List ℕ)). record { framer = d.client.framer; turn = record { client = c; out = record { put = []; events = []; notes = [] } } }) h.client
+silent_so : (d : DeviceState) (e : ItemDevice) → DeviceEncodes d e → silent d.client ≡ fed_rendered written_item written_item written_notes (silent_at d.client.framer e.client)
+silent_so d e h = ap (λ (c : ClientView (List ℕ)). record { framer = d.client.framer; turn = record { client = c; out = record { put = []; events = []; notes = [] } } }) h.client
 
-pub calls_noted : (ClientFits : ClientView ItemOut → Type 0) (called : List Call) (d : DeviceState) (e : ItemDevice) → DeviceEncodes ClientFits d e
+pub calls_noted : (called : List Call) (d : DeviceState) (e : ItemDevice) → DeviceEncodes d e
     → notes_of called (Some d) ≡ written_notes (calls_run in_items called (silent_at d.client.framer e.client)).turn.out.notes
-calls_noted ClientFits called d e h =
-    ap (λ (f : Fed (List ℕ) ℕ). (calls_run noting called f).turn.out.notes) (silent_so ClientFits d e h)
+calls_noted called d e h =
+    ap (λ (f : Fed (List ℕ) ℕ). (calls_run noting called f).turn.out.notes) (silent_so d e h)
     ∙ ap (λ (f : Fed (List ℕ) ℕ). f.turn.out.notes) (calls_rendered noting_rendered called (silent_at d.client.framer e.client))
 
 pub nothing_noted : (o : Option DeviceState) → notes_of [] o ≡ []
@@ -55,42 +55,41 @@ nothing_noted (Some d) = refl
 
 -- ---- what a user does
 
-module _ (ClientFits : ClientView ItemOut → Type 0) where
-  said_same : (to text : List ℕ) (private : Bool) (od : Option DeviceState) (oe : Option ItemDevice) → Both (DeviceEncodes ClientFits) od oe → notes_of (Say to text private ∷ []) od ≡ written_notes (said_at to text private oe)
-  said_same to text private None None h = refl
-  said_same to text private None (Some e) h = absurd h
-  said_same to text private (Some d) None h = absurd h
-  said_same to text private (Some d) (Some e) h = calls_noted ClientFits (Say to text private ∷ []) d e h ∙ ap written_notes (by (say_answer e.client text))
-    where
-      by : (a : Result ℕ SayFault) → (said_by in_items (silent_at d.client.framer e.client) to text private (is_ok a)).turn.out.notes ≡ said_notes a to text private e
-      by (Ok n) = refl
-      by (Err fault) = refl
+said_same : (to text : List ℕ) (private : Bool) (od : Option DeviceState) (oe : Option ItemDevice) → Both DeviceEncodes od oe → notes_of (Say to text private ∷ []) od ≡ written_notes (said_at to text private oe)
+said_same to text private None None h = refl
+said_same to text private None (Some e) h = absurd h
+said_same to text private (Some d) None h = absurd h
+said_same to text private (Some d) (Some e) h = calls_noted (Say to text private ∷ []) d e h ∙ ap written_notes (by (say_answer e.client text))
+  where
+    by : (a : Result ℕ SayFault) → (said_by in_items (silent_at d.client.framer e.client) to text private (is_ok a)).turn.out.notes ≡ said_notes a to text private e
+    by (Ok n) = refl
+    by (Err fault) = refl
 
-  pub say_noted : (device line : ℕ) (to text : List ℕ) (private : Bool) (w : ByteWorld) (v : ItemWorld) → ((position : ℕ) → Both (DeviceEncodes ClientFits) (slice_get w.devices position) (slice_get v.devices position)) → (i : ℕ)
-      → notes_in (bytes.Say device line to text private) w i ≡ written_notes (all_item_notes (items.Say device (bare_address to) text private ∷ []) v i)
-  say_noted device line to text private w v devices i = by (device == i) ∙ ap written_notes (sym (append-nil (cond (device == i) (said_at (bare_address to) text private (slice_get v.devices i)) [])))
-    where
-      by : (b : Bool) → notes_of (cond b (Say (bare_address to) text private ∷ []) []) (slice_get w.devices i) ≡ written_notes (cond b (said_at (bare_address to) text private (slice_get v.devices i)) [])
-      by true = said_same (bare_address to) text private (slice_get w.devices i) (slice_get v.devices i) (devices i)
-      by false = nothing_noted (slice_get w.devices i)
+pub say_noted : (device line : ℕ) (to text : List ℕ) (private : Bool) (w : ByteWorld) (v : ItemWorld) → ((position : ℕ) → Both DeviceEncodes (slice_get w.devices position) (slice_get v.devices position)) → (i : ℕ)
+    → notes_in (bytes.Say device line to text private) w i ≡ written_notes (all_item_notes (items.Say device (bare_address to) text private ∷ []) v i)
+say_noted device line to text private w v devices i = by (device == i) ∙ ap written_notes (sym (append-nil (cond (device == i) (said_at (bare_address to) text private (slice_get v.devices i)) [])))
+  where
+    by : (b : Bool) → notes_of (cond b (Say (bare_address to) text private ∷ []) []) (slice_get w.devices i) ≡ written_notes (cond b (said_at (bare_address to) text private (slice_get v.devices i)) [])
+    by true = said_same (bare_address to) text private (slice_get w.devices i) (slice_get v.devices i) (devices i)
+    by false = nothing_noted (slice_get w.devices i)
 
-  asked_same : (most : ℕ) (od : Option DeviceState) (oe : Option ItemDevice) → Both (DeviceEncodes ClientFits) od oe → notes_of (CatchUp most ∷ []) od ≡ written_notes (asked_at most oe)
-  asked_same most None None h = refl
-  asked_same most None (Some e) h = absurd h
-  asked_same most (Some d) None h = absurd h
-  asked_same most (Some d) (Some e) h = calls_noted ClientFits (CatchUp most ∷ []) d e h ∙ ap written_notes (by (catch_up_answer e.client))
-    where
-      by : (a : Result (Unit {0}) CatchUpStart) → (caught_up_by in_items (silent_at d.client.framer e.client) most (is_ok a)).turn.out.notes ≡ asked_notes a most e
-      by (Ok done) = refl
-      by (Err fault) = refl
+asked_same : (most : ℕ) (od : Option DeviceState) (oe : Option ItemDevice) → Both DeviceEncodes od oe → notes_of (CatchUp most ∷ []) od ≡ written_notes (asked_at most oe)
+asked_same most None None h = refl
+asked_same most None (Some e) h = absurd h
+asked_same most (Some d) None h = absurd h
+asked_same most (Some d) (Some e) h = calls_noted (CatchUp most ∷ []) d e h ∙ ap written_notes (by (catch_up_answer e.client))
+  where
+    by : (a : Result (Unit {0}) CatchUpStart) → (caught_up_by in_items (silent_at d.client.framer e.client) most (is_ok a)).turn.out.notes ≡ asked_notes a most e
+    by (Ok done) = refl
+    by (Err fault) = refl
 
-  pub catch_up_noted : (device line most : ℕ) (w : ByteWorld) (v : ItemWorld) → ((position : ℕ) → Both (DeviceEncodes ClientFits) (slice_get w.devices position) (slice_get v.devices position)) → (i : ℕ)
-      → notes_in (bytes.CatchUp device line most) w i ≡ written_notes (all_item_notes (items.CatchUp device most ∷ []) v i)
-  catch_up_noted device line most w v devices i = by (device == i) ∙ ap written_notes (sym (append-nil (cond (device == i) (asked_at most (slice_get v.devices i)) [])))
-    where
-      by : (b : Bool) → notes_of (cond b (CatchUp most ∷ []) []) (slice_get w.devices i) ≡ written_notes (cond b (asked_at most (slice_get v.devices i)) [])
-      by true = asked_same most (slice_get w.devices i) (slice_get v.devices i) (devices i)
-      by false = nothing_noted (slice_get w.devices i)
+pub catch_up_noted : (device line most : ℕ) (w : ByteWorld) (v : ItemWorld) → ((position : ℕ) → Both DeviceEncodes (slice_get w.devices position) (slice_get v.devices position)) → (i : ℕ)
+    → notes_in (bytes.CatchUp device line most) w i ≡ written_notes (all_item_notes (items.CatchUp device most ∷ []) v i)
+catch_up_noted device line most w v devices i = by (device == i) ∙ ap written_notes (sym (append-nil (cond (device == i) (asked_at most (slice_get v.devices i)) [])))
+  where
+    by : (b : Bool) → notes_of (cond b (CatchUp most ∷ []) []) (slice_get w.devices i) ≡ written_notes (cond b (asked_at most (slice_get v.devices i)) [])
+    by true = asked_same most (slice_get w.devices i) (slice_get v.devices i) (devices i)
+    by false = nothing_noted (slice_get w.devices i)
 
 -- ---- moves one after another
 

@@ -34,6 +34,10 @@ use Rattle.sim_3_images.specs.ItemRuns.{AreServedUps, moved_where, ups}
 use Rattle.sim_3_images.specs.PipeEncodings.{AreRead, over, standing}
 use Rattle.sim_3_images.specs.WireEncodings.{WireEncodes}
 use Rattle.sim_3_images.specs.WorldEncodings.{Begins, Both, DeviceEncodes, IsBegun, IsMoved, WireAt, WorldEncodes, framer_here, line_reported}
+use Rattle.sim_3_images.proofs.ChangedLists.{all_changed, all_found}
+use Rattle.sim_3_images.proofs.WiresFit.{all_emitted_fits, many_up_fits, outs_fit}
+use Rattle.sim_3_images.specs.Fitting.{WireFits}
+use Rattle.sim_3_images.specs.Stands.{OutPuts}
 use Rattle.sim_3_items.specs.ItemMoves as items
 use Rattle.sim_3_items.specs.ItemMoves.{ItemMove, step_of}
 use Rattle.sim_3_items.specs.ItemPipes.{ItemWire}
@@ -54,6 +58,7 @@ use Rattle.cmd_world.specs.Effects.{Effects, all_emitted, effects_of, emitted}
 use Rattle.cmd_world.specs.Moves as bytes
 use Rattle.cmd_world.specs.Moves.{Up, end_reported_up, server_after, served_by, step_of_piece, with_effects}
 use Rattle.cmd_world.specs.Worlds.{ByteWorld, number_at}
+use Rattle.cmd_world.proofs.Numbers.{many_all_emitted}
 use Rattle.xml_writer.specs.Items.{ItemOut, written_item}
 
 -- ---- the place of a header is not looked at
@@ -67,12 +72,6 @@ unplaced say k (i ∷ l) s = ap (after_items say k l) (item_unplaced say k i s) 
 length_under : {T : Type 0} (k : ℕ) (f : T → T) (l : List T) → length (changed_under k f l) ≡ length l
 length_under zero f l = refl
 length_under (suc q) f l = length_changed f l q
-
-length_emitted : (version : Version) (moment : ℕ) (outs : List (Out (List ℕ))) (e : Effects) → length (all_emitted version moment outs e).wires ≡ length e.wires
-length_emitted version moment [] e = refl
-length_emitted version moment (Put k bytes ∷ outs) e = length_emitted version moment outs (emitted version moment (Put k bytes) e) ∙ length_under k _ e.wires
-length_emitted version moment (Shut k ∷ outs) e = length_emitted version moment outs (emitted version moment (Shut k) e) ∙ length_under k _ e.wires
-length_emitted version moment (Took from to origin ∷ outs) e = length_emitted version moment outs (emitted version moment (Took from to origin) e)
 
 -- what was taken has the same lines
 takes_emitted : (version : Version) (moment : ℕ) (outs : List (Out ItemOut)) (e : Effects) → (all_emitted version moment (outs_rendered written_item outs) e).takes ≡ e.takes ++ map (line_reported version) (items.takes_reported moment outs)
@@ -137,7 +136,7 @@ module _ (UpFits DownFits : ItemOut → Type 0) (ServerFits : ℕ → ServerStat
     done = served position taken ticked.server
 
     same_moment : w.moment ≡ v.moment + 0
-    same_moment = (let e = i.moment in omega (arith, e))
+    same_moment = (let e = i.encoding.moment in omega (arith, e))
 
     abbrev many : ℕ
     many = length v.wires
@@ -146,7 +145,7 @@ module _ (UpFits DownFits : ItemOut → Type 0) (ServerFits : ℕ → ServerStat
     few = (let within = slice_get_within v.wires position p found_item in omega (arith, within))
 
     ticked_fits : ServerFits many ticked.server
-    ticked_fits = cores.moment many (v.moment + 0) v.server i.server_state_fits
+    ticked_fits = cores.moment many (v.moment + 0) v.server i.fits.server_state
 
     taken_fit : AllByRecursion UpFits taken
     taken_fit = all_taken UpFits h.count p.up.items fit
@@ -158,14 +157,14 @@ module _ (UpFits DownFits : ItemOut → Type 0) (ServerFits : ℕ → ServerStat
     done_is =
         ap (λ o. at_piece written_item (number_at position) piece o (begun w.moment w.server.server_state [])) reader
         ∙ piece_is (number_at position) piece f h.now h.first taken (begun w.moment w.server.server_state []) (step_of ticked.server) h.run_is h.no_fault h.read
-        (ap (λ x. record { server_state = x; outs = [] }) (ap₂ at_moment same_moment i.server_state ∙ moment_rendered written_item (v.moment + 0) v.server))
+        (ap (λ x. record { server_state = x; outs = [] }) (ap₂ at_moment same_moment i.encoding.server_state ∙ moment_rendered written_item (v.moment + 0) v.server))
 
     abbrev framers_now : List (ℕ × State)
     framers_now = set_value (is_number (number_at position)) w.server.framers h.now
 
     -- the connections before anything is put out
     abbrev Handed : ℕ → Wire → ItemWire → Type 0
-    Handed q c r = WireEncodes UpFits DownFits (framer_at (number_at q) framers_now) (framer_here q (slice_get w.devices c.device)) (writer_at (number_at q) ticked.server) c r
+    Handed q c r = WireEncodes (framer_at (number_at q) framers_now) (framer_here q (slice_get w.devices c.device)) (writer_at (number_at q) ticked.server) c r
 
     many_is : many_up h.count p ≡ many_up (length taken) p
     many_is = ap (λ l. record p { up = record p.up { items = l } }) (drop_taken h.count p.up.items)
@@ -175,16 +174,16 @@ module _ (UpFits DownFits : ItemOut → Type 0) (ServerFits : ℕ → ServerStat
         subst (λ o. Both (Handed position) (option_map (handed_up n) o) (option_map (many_up (length taken)) (slice_get v.wires position))) (sym found)
         (subst (λ o. Both (Handed position) (Some (handed_up n b)) (option_map (many_up (length taken)) o)) (sym found_item)
         (subst (Handed position (handed_up n b)) many_is
-        (subst (λ r. WireEncodes UpFits DownFits r (framer_here position (slice_get w.devices b.device)) (writer_at (number_at position) v.server) (handed_up n b) (many_up h.count p)) (sym (found_after_value (number_at position) w.server.framers f h.now reader)) h.encodes)))
+        (subst (λ r. WireEncodes r (framer_here position (slice_get w.devices b.device)) (writer_at (number_at position) v.server) (handed_up n b) (many_up h.count p)) (sym (found_after_value (number_at position) w.server.framers f h.now reader)) h.encodes)))
 
-    handed_there : (q : ℕ) → (q ≡ position → ⊥) → (c : Wire) (r : ItemWire) → WireAt UpFits DownFits w v q c r → Handed q c r
+    handed_there : (q : ℕ) → (q ≡ position → ⊥) → (c : Wire) (r : ItemWire) → WireAt w v q c r → Handed q c r
     handed_there q other c r x =
-        subst (λ o. WireEncodes UpFits DownFits o (framer_here q (slice_get w.devices c.device)) (writer_at (number_at q) v.server) c r) (sym (found_after_other_value (number_at q) (number_at position) w.server.framers h.now (number_apart q position other))) x
+        subst (λ o. WireEncodes o (framer_here q (slice_get w.devices c.device)) (writer_at (number_at q) v.server) c r) (sym (found_after_other_value (number_at q) (number_at position) w.server.framers h.now (number_apart q position other))) x
 
     handed_all : (q : ℕ) → Both (Handed q) (slice_get (slice_set w.wires position (handed_up n b)) q) (slice_get (changed_at position (many_up (length taken)) v.wires) q)
     handed_all q =
         subst (λ l. Both (Handed q) (slice_get l q) (slice_get (changed_at position (many_up (length taken)) v.wires) q)) (sym (set_changes (handed_up n) w.wires position b (handed_up n b) found refl))
-        (both_changed (WireAt UpFits DownFits w v) Handed (handed_up n) (many_up (length taken)) w.wires v.wires position handed_here handed_there i.wires q)
+        (both_changed (WireAt w v) Handed (handed_up n) (many_up (length taken)) w.wires v.wires position handed_here handed_there i.encoding.wires q)
 
     abbrev before : Effects
     before = effects_of (slice_set w.wires position (handed_up n b)) w.takes
@@ -240,22 +239,33 @@ module _ (UpFits DownFits : ItemOut → Type 0) (ServerFits : ℕ → ServerStat
               | inr gone ↦ absurd (none_is_not (writer_at (number_at q) done.server_state) gone.1 first)
             ]
 
+    outs_fit_here : AllByRecursion (OutPuts DownFits) done.outs
+    outs_fit_here =
+        outs_fit DownFits done.outs (λ j. writer_at j ticked.server) (λ j. writer_at j done.server_state)
+        (λ j. served_in_order UpFits DownFits ServerFits ClientFits cores many position taken ticked.server j few ticked_fits taken_fit comes)
+
     after_encodes : WorldEncodes UpFits DownFits ServerFits ClientFits after_it (at_once position taken ticked)
     after_encodes = record {
-      moment = same_moment;
-      server_state = refl;
-      server_state_fits = subst (λ n. ServerFits n done.server_state) (sym (length_items_emitted done.outs (changed_at position (many_up (length taken)) v.wires) ∙ length_changed (many_up (length taken)) v.wires position))
-          (served_fits UpFits DownFits ServerFits ClientFits cores many position taken ticked.server few ticked_fits taken_fit comes);
+      encoding = record {
+        moment = same_moment;
+        server_state = refl;
+        devices = i.encoding.devices;
+        as_many = many_all_emitted w.version w.moment (outs_rendered written_item done.outs) before ∙ ap length (set_changes (handed_up n) w.wires position b (handed_up n b) found refl) ∙ length_changed (handed_up n) w.wires position
+            ∙ i.encoding.as_many ∙ sym (length_items_emitted done.outs (changed_at position (many_up (length taken)) v.wires) ∙ length_changed (many_up (length taken)) v.wires position);
+        wires = λ q. all_here UpFits DownFits cores.up_limits cores.down_limits q w.devices w.version w.moment done.outs framers_now (writer_at (number_at q) ticked.server) (writer_at (number_at q) done.server_state) before
+            (changed_at position (many_up (length taken)) v.wires) (served_in_order UpFits DownFits ServerFits ClientFits cores many position taken ticked.server (number_at q) few ticked_fits taken_fit comes) (handed_all q);
+        takes =
+            takes_emitted w.version w.moment done.outs before
+            ∙ ap₂ (λ l m. l ++ map (line_reported w.version) (items.takes_reported m done.outs)) i.encoding.takes same_moment
+            ∙ sym (map-append (line_reported w.version) v.takes (items.takes_reported (v.moment + 0) done.outs));
+      };
+      fits = record {
+        server_state = subst (λ n. ServerFits n done.server_state) (sym (length_items_emitted done.outs (changed_at position (many_up (length taken)) v.wires) ∙ length_changed (many_up (length taken)) v.wires position))
+            (served_fits UpFits DownFits ServerFits ClientFits cores many position taken ticked.server few ticked_fits taken_fit comes);
+        clients = i.fits.clients;
+        wires = all_emitted_fits UpFits DownFits done.outs handed_items outs_fit_here (all_changed (WireFits UpFits DownFits) (many_up (length taken)) (many_up_fits UpFits DownFits (length taken)) position v.wires i.fits.wires);
+      };
       begins = now_begins;
-      devices = i.devices;
-      as_many = length_emitted w.version w.moment (outs_rendered written_item done.outs) before ∙ ap length (set_changes (handed_up n) w.wires position b (handed_up n b) found refl) ∙ length_changed (handed_up n) w.wires position
-          ∙ i.as_many ∙ sym (length_items_emitted done.outs (changed_at position (many_up (length taken)) v.wires) ∙ length_changed (many_up (length taken)) v.wires position);
-      wires = λ q. all_here UpFits DownFits cores.up_limits cores.down_limits q w.devices w.version w.moment done.outs framers_now (writer_at (number_at q) ticked.server) (writer_at (number_at q) done.server_state) before
-          (changed_at position (many_up (length taken)) v.wires) (served_in_order UpFits DownFits ServerFits ClientFits cores many position taken ticked.server (number_at q) few ticked_fits taken_fit comes) (handed_all q);
-      takes =
-          takes_emitted w.version w.moment done.outs before
-          ∙ ap₂ (λ l m. l ++ map (line_reported w.version) (items.takes_reported m done.outs)) i.takes same_moment
-          ∙ sym (map-append (line_reported w.version) v.takes (items.takes_reported (v.moment + 0) done.outs));
     }
 
     -- ---- what the server reads
@@ -265,7 +275,7 @@ module _ (UpFits DownFits : ItemOut → Type 0) (ServerFits : ℕ → ServerStat
         ap (λ o. read_of_piece (number_at position) piece o (begun w.moment w.server.server_state [])) reader
         ∙ ap (λ (u : Turn). read_along written_item (number_at position) u.items (begun w.moment w.server.server_state [])) h.run_is
         ∙ read_unplaced written_item (number_at position) h.first (begun w.moment w.server.server_state []) ∙ ap (λ l. read_along written_item (number_at position) l (begun w.moment w.server.server_state [])) h.read
-        ∙ ap (λ x. read_along written_item (number_at position) (map read_of taken) (record { server_state = x; outs = [] })) (ap₂ at_moment same_moment i.server_state ∙ moment_rendered written_item (v.moment + 0) v.server)
+        ∙ ap (λ x. read_along written_item (number_at position) (map read_of taken) (record { server_state = x; outs = [] })) (ap₂ at_moment same_moment i.encoding.server_state ∙ moment_rendered written_item (v.moment + 0) v.server)
         ∙ read_rendered (number_at position) (map read_of taken) (step_of ticked.server)
 
     served_read : (count : Count) → amount count b.up ≡ n → (n == 0) ≡ false → b.device ≡ p.device → (j : ℕ) → read_in (Up position count) w j ≡ all_item_reads (items.Tick 0 ∷ ups position (length taken)) v j
@@ -284,13 +294,13 @@ module _ (UpFits DownFits : ItemOut → Type 0) (ServerFits : ℕ → ServerStat
         ap (λ o. given_of_piece who (number_at position) piece o (begun w.moment w.server.server_state [])) reader
         ∙ ap (λ (u : Turn). given_along written_item begins_stanza who (number_at position) u.items (begun w.moment w.server.server_state [])) h.run_is
         ∙ given_unplaced written_item begins_stanza who (number_at position) h.first (begun w.moment w.server.server_state []) ∙ ap (λ l. given_along written_item begins_stanza who (number_at position) l (begun w.moment w.server.server_state [])) h.read
-        ∙ ap (λ x. given_along written_item begins_stanza who (number_at position) (map read_of taken) (record { server_state = x; outs = [] })) (ap₂ at_moment same_moment i.server_state ∙ moment_rendered written_item (v.moment + 0) v.server)
+        ∙ ap (λ x. given_along written_item begins_stanza who (number_at position) (map read_of taken) (record { server_state = x; outs = [] })) (ap₂ at_moment same_moment i.encoding.server_state ∙ moment_rendered written_item (v.moment + 0) v.server)
         ∙ given_rendered who (number_at position) (map read_of taken) (step_of ticked.server)
 
     served_given : (count : Count) → amount count b.up ≡ n → (n == 0) ≡ false → (j : ℕ) → given_in (Up position count) w j ≡ map written_item (all_item_gives (items.Tick 0 ∷ ups position (length taken)) v j)
-    served_given count is some j = by (slice_get w.devices j) (slice_get v.devices j) refl refl (i.devices j)
+    served_given count is some j = by (slice_get w.devices j) (slice_get v.devices j) refl refl (i.encoding.devices j)
       where
-        by : (od : Option DeviceState) (oe : Option ItemDevice) → slice_get w.devices j ≡ od → slice_get v.devices j ≡ oe → Both (DeviceEncodes ClientFits) od oe → given_in (Up position count) w j ≡ map written_item (all_item_gives (items.Tick 0 ∷ ups position (length taken)) v j)
+        by : (od : Option DeviceState) (oe : Option ItemDevice) → slice_get w.devices j ≡ od → slice_get v.devices j ≡ oe → Both DeviceEncodes od oe → given_in (Up position count) w j ≡ map written_item (all_item_gives (items.Tick 0 ∷ ups position (length taken)) v j)
         by None None at at_item x = ap (λ o. given_on position count w o (slice_get w.wires position)) at ∙ sym (ap (map written_item) (nobody_given position (length taken) j ticked at_item))
         by None (Some e) at at_item x = absurd x
         by (Some d) None at at_item x = absurd x
@@ -347,22 +357,23 @@ module _ (UpFits DownFits : ItemOut → Type 0) (ServerFits : ℕ → ServerStat
         encodes = nothing (served_by position count (slice_get w.wires position) w) (ap (λ o. served_by position count o w) found ∙ ap (λ (e : Bool). cond e w (bytes.served position (amount count b.up) b w)) none);
       }
       some b found false few =
-          let other = found_both (WireAt UpFits DownFits w v position) b (slice_get w.wires position) (slice_get v.wires position) found (i.wires position) in
+          let other = found_both (WireAt w v position) b (slice_get w.wires position) (slice_get v.wires position) found (i.encoding.wires position) in
           let p = other.other in
           let x = other.holds in
           let n = amount count b.up in
+          let fit : WireFits UpFits DownFits p = all_found (WireFits UpFits DownFits) v.wires position p other.is i.fits.wires in
           let is : served_by position count (slice_get w.wires position) w ≡ bytes.served position n b w = ap (λ o. served_by position count o w) found ∙ ap (λ (e : Bool). cond e w (bytes.served position n b w)) few in
           elim x.up.carried [
             | over o ↦ absurd (true≢false (sym (ap (λ m. m == 0) (no_amount count b.up o.no_bytes)) ∙ few))
             | standing f reader st ↦
                 let h = wire_up UpFits DownFits cores.up_limits cores.down_limits f (framer_here position (slice_get w.devices b.device)) (writer_at (number_at position) v.server) b p n st
-                (subst (λ r. WireEncodes UpFits DownFits r (framer_here position (slice_get w.devices b.device)) (writer_at (number_at position) v.server) b p) reader x) in
+                (subst (λ r. WireEncodes r (framer_here position (slice_get w.devices b.device)) (writer_at (number_at position) v.server) b p) reader x) in
                 record {
                   moves = items.Tick 0 ∷ ups position (length (take h.count p.up.items));
                   is_served = inr (length (take h.count p.up.items), refl);
-                  read = served_read position n w v b p found other.is i f reader h x.up_fits count refl few x.device;
-                  given = served_given position n w v b p found other.is i f reader h x.up_fits count refl few;
-                  encodes = subst (λ y. WorldEncodes UpFits DownFits ServerFits ClientFits y (items.all_moved (items.Tick 0 ∷ ups position (length (take h.count p.up.items))) v)) (sym is) (served_encodes position n w v b p found other.is i f reader h x.up_fits);
+                  read = served_read position n w v b p found other.is i f reader h fit.up count refl few x.device;
+                  given = served_given position n w v b p found other.is i f reader h fit.up count refl few;
+                  encodes = subst (λ y. WorldEncodes UpFits DownFits ServerFits ClientFits y (items.all_moved (items.Tick 0 ∷ ups position (length (take h.count p.up.items))) v)) (sym is) (served_encodes position n w v b p found other.is i f reader h fit.up);
                 }
           ]
 

@@ -1,7 +1,6 @@
 -- What each operation on a connection makes of the image that it is of a connection of items.
 use Rattle.std.proofs.Common.{◌≡◌, ℕ, zero, suc, Bool, true, false, List, [], ◌∷◌, ◌++◌, Option, Some, None, take, refl, sym, ◌∙◌, flat_map, cond, arith}
 use Rattle.std.specs.List.{AllByRecursion}
-use Rattle.law_limits.proofs.TurnsKept.{All-drop}
 use Rattle.xml_framer.specs.Limits.{client_limits, server_limits}
 use Rattle.xml_framer.specs.Machine.{run}
 use Rattle.xml_framer.specs.States.{State, from_start, turn}
@@ -46,9 +45,9 @@ module _ (UpFits DownFits : ItemOut → Type 0) (up_out : (i : ItemOut) → UpFi
   pub record IsWireCut (r d : Option State) (next : Option Phase) (b : Wire) (p : ItemWire) (n m : ℕ) : Type 0 where
     pub up_count : ℕ
     pub down_count : ℕ
-    pub encodes : WireEncodes UpFits DownFits r d next (cut_at n m b) (items.cut_at up_count down_count p)
+    pub encodes : WireEncodes r d next (cut_at n m b) (items.cut_at up_count down_count p)
 
-  pub wire_cut : (r d : Option State) (writer next : Option Phase) (b : Wire) (p : ItemWire) (n m : ℕ) → WireEncodes UpFits DownFits r d writer b p → IsWireCut r d next b p n m
+  pub wire_cut : (r d : Option State) (writer next : Option Phase) (b : Wire) (p : ItemWire) (n m : ℕ) → WireEncodes r d writer b p → IsWireCut r d next b p n m
   wire_cut r d writer next b p n m i =
       let up = cut_encodes server_limits (Some phase.Between) (Some phase.Between) r b.up p.up n i.up in
       let down = cut_encodes client_limits writer next d b.down p.down m i.down in
@@ -60,104 +59,86 @@ module _ (UpFits DownFits : ItemOut → Type 0) (up_out : (i : ItemOut) → UpFi
           end_together = refl;
           up = up.encodes;
           down = down.encodes;
-          up_fits = all_taken UpFits up.count p.up.items i.up_fits;
-          down_fits = all_taken DownFits down.count p.down.items i.down_fits;
         };
       }
 
   -- ---- who leaves, and who shuts
 
-  pub wire_left : (r d e : Option State) (writer next : Option Phase) (b : Wire) (p : ItemWire) → WireEncodes UpFits DownFits r d writer b p → WireEncodes UpFits DownFits r e next (left b) (items.left p)
+  pub wire_left : (r d e : Option State) (writer next : Option Phase) (b : Wire) (p : ItemWire) → WireEncodes r d writer b p → WireEncodes r e next (left b) (items.left p)
   wire_left r d e writer next b p i = record {
     device = i.device;
     end_together = refl;
     up = closed_encodes server_limits (Some phase.Between) (Some phase.Between) r b.up p.up i.up;
     down = over_encodes client_limits next e b.down p.down i.down.told;
-    up_fits = i.up_fits;
-    down_fits = tt;
   }
 
-  pub wire_shut : (r d e : Option State) (writer next : Option Phase) (b : Wire) (p : ItemWire) → WireEncodes UpFits DownFits r d writer b p → WireEncodes UpFits DownFits e d next (shut b) (items.shut p)
+  pub wire_shut : (r d e : Option State) (writer next : Option Phase) (b : Wire) (p : ItemWire) → WireEncodes r d writer b p → WireEncodes e d next (shut b) (items.shut p)
   wire_shut r d e writer next b p i = record {
     device = i.device;
     end_together = refl;
     up = over_encodes server_limits (Some phase.Between) e b.up p.up i.up.told;
     down = closed_encodes client_limits writer next d b.down p.down i.down;
-    up_fits = tt;
-    down_fits = i.down_fits;
   }
 
   -- ---- what is put
 
   pub wire_put_up : (r d : Option State) (writer : Option Phase) (b : Wire) (p : ItemWire) (more : List ItemOut) → AllByRecursion UpFits more → AllByRecursion (λ i. phase_behind i ≡ phase.Between) more
-      → WireEncodes UpFits DownFits r d writer b p → WireEncodes UpFits DownFits r d writer (put_up (flat_map written_item more) b) (items.put_up more p)
+      → WireEncodes r d writer b p → WireEncodes r d writer (put_up (flat_map written_item more) b) (items.put_up more p)
   wire_put_up r d writer b p more fit between i = record {
     device = i.device;
     end_together = ended_entered (flat_map written_item more) b.up ∙ i.end_together;
     up = puts_encodes server_limits (omega arith) (omega arith) r b.up p.up more between (all_mapped UpFits (OutFits server_limits) up_out more fit) i.up;
     down = i.down;
-    up_fits = all_entered UpFits more p.up i.up_fits fit;
-    down_fits = i.down_fits;
   }
 
   -- a footer behind what is put, and the device leaves
   pub wire_last : (r d e : Option State) (writer next : Option Phase) (b : Wire) (p : ItemWire) (more : List ItemOut) → AllByRecursion UpFits (more ++ Closing ∷ []) → AllByRecursion (λ i. phase_behind i ≡ phase.Between) more
-      → WireEncodes UpFits DownFits r d writer b p → WireEncodes UpFits DownFits r e next (left (put_up (flat_map written_item (more ++ Closing ∷ [])) b)) (items.left (items.put_up (more ++ Closing ∷ []) p))
+      → WireEncodes r d writer b p → WireEncodes r e next (left (put_up (flat_map written_item (more ++ Closing ∷ [])) b)) (items.left (items.put_up (more ++ Closing ∷ []) p))
   wire_last r d e writer next b p more fit between i = record {
     device = i.device;
     end_together = refl;
     up = closed_encodes server_limits (Some phase.Ended) (Some phase.Between) r (entered (flat_map written_item (more ++ Closing ∷ [])) b.up) (items.entered (more ++ Closing ∷ []) p.up)
         (puts_last server_limits (omega arith) (omega arith) r b.up p.up more between (all_mapped UpFits (OutFits server_limits) up_out (more ++ Closing ∷ []) fit) i.up);
     down = over_encodes client_limits next e b.down p.down i.down.told;
-    up_fits = all_entered UpFits (more ++ Closing ∷ []) p.up i.up_fits fit;
-    down_fits = tt;
   }
 
-  pub wire_put_down : (r d : Option State) (now : Phase) (b : Wire) (p : ItemWire) (out : ItemOut) → DownFits out → MayPut now out → WireEncodes UpFits DownFits r d (Some now) b p
-      → WireEncodes UpFits DownFits r d (Some (phase_behind out)) (put_down (written_item out) b) (items.put_down (out ∷ []) p)
+  pub wire_put_down : (r d : Option State) (now : Phase) (b : Wire) (p : ItemWire) (out : ItemOut) → DownFits out → MayPut now out → WireEncodes r d (Some now) b p
+      → WireEncodes r d (Some (phase_behind out)) (put_down (written_item out) b) (items.put_down (out ∷ []) p)
   wire_put_down r d now b p out fits may i = record {
     device = i.device;
     end_together = i.end_together ∙ sym (ended_entered (written_item out) b.down);
     up = i.up;
     down = put_encodes client_limits (omega arith) (omega arith) now d b.down p.down out may (down_out out fits) i.down;
-    up_fits = i.up_fits;
-    down_fits = all_entered DownFits (out ∷ []) p.down i.down_fits (fits, tt);
   }
 
   -- a connection that is dialed: its device puts the header
   pub wire_fresh : (device : ℕ) (h : Header) → UpFits (Opening h)
-      → WireEncodes UpFits DownFits (Some (from_start server_limits)) (Some (from_start client_limits)) (Some phase.First) (put_up (written_item (Opening h)) (fresh_wire device)) (items.put_up (Opening h ∷ []) (items.fresh_wire device))
+      → WireEncodes (Some (from_start server_limits)) (Some (from_start client_limits)) (Some phase.First) (put_up (written_item (Opening h)) (fresh_wire device)) (items.put_up (Opening h ∷ []) (items.fresh_wire device))
   wire_fresh device h fits = record {
     device = refl;
     end_together = refl;
     up = put_encodes server_limits (omega arith) (omega arith) phase.First (Some (from_start server_limits)) (fresh_wire device).up (items.fresh_wire device).up (Opening h) tt (up_out (Opening h) fits) (fresh_encodes server_limits);
     down = fresh_encodes client_limits;
-    up_fits = (fits, tt);
-    down_fits = tt;
   }
 
   -- ---- ends
 
-  pub wire_up_told : (r d e : Option State) (writer next : Option Phase) (b : Wire) (p : ItemWire) → is_end_due b.up ≡ true → WireEncodes UpFits DownFits r d writer b p
-      → WireEncodes UpFits DownFits e d next (up_end_reported b) (items.up_end_reported p)
+  pub wire_up_told : (r d e : Option State) (writer next : Option Phase) (b : Wire) (p : ItemWire) → is_end_due b.up ≡ true → WireEncodes r d writer b p
+      → WireEncodes e d next (up_end_reported b) (items.up_end_reported p)
   wire_up_told r d e writer next b p due i = record {
     device = i.device;
     end_together = i.end_together;
     up = due_told_encodes server_limits (Some phase.Between) (Some phase.Between) r e b.up p.up i.up due;
     down = ended_encodes client_limits writer next d b.down p.down (sym i.end_together ∙ (is_due b.up due).has_ended) i.down;
-    up_fits = i.up_fits;
-    down_fits = i.down_fits;
   }
 
-  pub wire_down_told : (r d e : Option State) (writer : Option Phase) (b : Wire) (p : ItemWire) → is_end_due b.down ≡ true → WireEncodes UpFits DownFits r d writer b p
-      → WireEncodes UpFits DownFits r e writer (down_end_reported b) (items.down_end_reported p)
+  pub wire_down_told : (r d e : Option State) (writer : Option Phase) (b : Wire) (p : ItemWire) → is_end_due b.down ≡ true → WireEncodes r d writer b p
+      → WireEncodes r e writer (down_end_reported b) (items.down_end_reported p)
   wire_down_told r d e writer b p due i = record {
     device = i.device;
     end_together = i.end_together;
     up = i.up;
     down = due_told_encodes client_limits writer writer d e b.down p.down i.down due;
-    up_fits = i.up_fits;
-    down_fits = i.down_fits;
   }
 
   -- ---- bytes that are handed over
@@ -170,10 +151,10 @@ module _ (UpFits DownFits : ItemOut → Type 0) (up_out : (i : ItemOut) → UpFi
     pub run_is : run (turn f []) (take n b.up.bytes) ≡ turn now first
     pub no_fault : now.fault ≡ None
     pub read : AreRead first (take count p.up.items)
-    pub encodes : WireEncodes UpFits DownFits (Some now) d writer (handed_up n b) (record p { up = dropped count p.up })
+    pub encodes : WireEncodes (Some now) d writer (handed_up n b) (record p { up = dropped count p.up })
 
   pub wire_up : (f : State) (d : Option State) (writer : Option Phase) (b : Wire) (p : ItemWire) (n : ℕ) → Standing server_limits (Some phase.Between) f b.up p.up
-      → WireEncodes UpFits DownFits (Some f) d writer b p → IsUpHanded f d writer b p n
+      → WireEncodes (Some f) d writer b p → IsUpHanded f d writer b p n
   wire_up f d writer b p n st i =
       let h = handed_encodes server_limits (Some phase.Between) f b.up p.up n i.up.ended i.up.told st in
       record {
@@ -188,8 +169,6 @@ module _ (UpFits DownFits : ItemOut → Type 0) (up_out : (i : ItemOut) → UpFi
           end_together = i.end_together;
           up = h.encodes;
           down = i.down;
-          up_fits = All-drop UpFits h.count p.up.items i.up_fits;
-          down_fits = i.down_fits;
         };
       }
 
@@ -200,10 +179,10 @@ module _ (UpFits DownFits : ItemOut → Type 0) (up_out : (i : ItemOut) → UpFi
     pub run_is : run (turn f []) (take n b.down.bytes) ≡ turn now first
     pub no_fault : now.fault ≡ None
     pub read : AreRead first (take count p.down.items)
-    pub encodes : WireEncodes UpFits DownFits r (Some now) writer (handed_down n b) (record p { down = dropped count p.down })
+    pub encodes : WireEncodes r (Some now) writer (handed_down n b) (record p { down = dropped count p.down })
 
   pub wire_down : (r : Option State) (f : State) (writer : Option Phase) (b : Wire) (p : ItemWire) (n : ℕ) → Standing client_limits writer f b.down p.down
-      → WireEncodes UpFits DownFits r (Some f) writer b p → IsDownHanded r f writer b p n
+      → WireEncodes r (Some f) writer b p → IsDownHanded r f writer b p n
   wire_down r f writer b p n st i =
       let h = handed_encodes client_limits writer f b.down p.down n i.down.ended i.down.told st in
       record {
@@ -218,7 +197,5 @@ module _ (UpFits DownFits : ItemOut → Type 0) (up_out : (i : ItemOut) → UpFi
           end_together = i.end_together;
           up = i.up;
           down = h.encodes;
-          up_fits = i.up_fits;
-          down_fits = All-drop DownFits h.count p.down.items i.down_fits;
         };
       }

@@ -49,20 +49,22 @@ either : (w : ItemWorld) (b : Bool) (u v : ItemWorld) → Goes w u → Goes w v 
 either w true u v here there = here
 either w false u v here there = there
 
+-- a dial makes one connection
+pub dialed_many : (position : ℕ) (mine : List ℕ) (d : ItemDevice) (w : ItemWorld) →
+    length (changed_where d.here left w.wires ++ put_up (dials in_items mine (fed_of d.client)).turn.out.put (fresh_wire position) ∷ []) ≡ length w.wires + 1
+dialed_many position mine d w =
+    let old = length_where d.here left w.wires in
+    let all = length-append (changed_where d.here left w.wires) (put_up (dials in_items mine (fed_of d.client)).turn.out.put (fresh_wire position) ∷ []) in
+    omega (arith, old, all)
+
 dials_go : (position : ℕ) (mine yours : List ℕ) (o : Option ItemDevice) (w : ItemWorld) → Goes w (dialed_by position mine yours o w)
 dials_go position mine yours None w = nothing w
 dials_go position mine yours (Some d) w = record {
-  more = omega (arith, long);
+  more = (let long = dialed_many position mine d w in omega (arith, long));
   within = λ is fits.
-      subst (λ n. IsWithin n (with_fresh (length w.wires + 1) yours (at_moment w.moment w.server))) (sym long)
+      subst (λ n. IsWithin n (with_fresh (length w.wires + 1) yours (at_moment w.moment w.server))) (sym (dialed_many position mine d w))
       (fresh_within (length w.wires + 1) yours (length w.wires) (at_moment w.moment w.server) (moment_within w.moment (length w.wires) w.server is));
 }
-  where
-    long : length (changed_where d.here left w.wires ++ put_up (dials in_items mine (fed_of d.client)).turn.out.put (fresh_wire position) ∷ []) ≡ length w.wires + 1
-    long =
-        let old = length_where d.here left w.wires in
-        let all = length-append (changed_where d.here left w.wires) (put_up (dials in_items mine (fed_of d.client)).turn.out.put (fresh_wire position) ∷ []) in
-        omega (arith, old, all)
 
 forgets_go : (position : ℕ) (o : Option ItemDevice) (w : ItemWorld) → Goes w (forgot_by position o w)
 forgets_go position None w = nothing w

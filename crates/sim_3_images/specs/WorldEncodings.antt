@@ -8,6 +8,7 @@ use Rattle.cmd_network.specs.Devices.{DeviceState, has_wire}
 use Rattle.xml_framer.specs.States.{State}
 use Rattle.xml_framer.specs.declared.states.Phase.TheVariants as phase
 use Rattle.sim_3_images.specs.EncodingsCores.{writer_at}
+use Rattle.sim_3_images.specs.Fitting.{WorldFits}
 use Rattle.sim_3_images.specs.ItemRuns.{IsRunOf}
 use Rattle.sim_3_images.specs.Notes.{all_item_notes, notes_in}
 use Rattle.sim_3_images.specs.Puts.{all_item_gives, given_in}
@@ -38,11 +39,10 @@ Both R (Some a) None = ⊥
 
 -- The client of bytes is that of items, with each thing that waits written, and it has the same connection. A client that
 -- stands apart has no framer.
-pub record DeviceEncodes (ClientFits : ClientView ItemOut → Type 0) (d : DeviceState) (e : ItemDevice) : Type 0 where
+pub record DeviceEncodes (d : DeviceState) (e : ItemDevice) : Type 0 where
   pub client : d.client.client ≡ client_rendered written_item e.client
   pub here : d.here ≡ e.here
   pub framed : is_apart e.client.phase ≡ true → d.client.framer ≡ None
-  pub fits : ClientFits e.client
 
 -- the framer that a device has for the connection at a place
 abbrev pub framer_here : ℕ → Option DeviceState → Option State
@@ -65,21 +65,25 @@ Begins wires h = (position : ℕ) (p : ItemWire) → slice_get wires position �
 abbrev pub line_reported : Version → Take → TakeLine
 line_reported version t = take_reported version t.moment t.from t.to t.origin
 
-abbrev pub WireAt : (UpFits DownFits : ItemOut → Type 0) → ByteWorld → ItemWorld → ℕ → Wire → ItemWire → Type 0
-WireAt UpFits DownFits w v position b p =
-    WireEncodes UpFits DownFits (framer_at (number_at position) w.server.framers) (framer_here position (slice_get w.devices b.device)) (writer_at (number_at position) v.server) b p
+abbrev pub WireAt : ByteWorld → ItemWorld → ℕ → Wire → ItemWire → Type 0
+WireAt w v position b p =
+    WireEncodes (framer_at (number_at position) w.server.framers) (framer_here position (slice_get w.devices b.device)) (writer_at (number_at position) v.server) b p
 
 -- The same moment; the server of bytes is that of items, with each thing that waits written; and so are the devices and the
 -- connections, each at its place; and the same messages were taken.
-pub record WorldEncodes (UpFits DownFits : ItemOut → Type 0) (ServerFits : ℕ → ServerState ItemOut → Type 0) (ClientFits : ClientView ItemOut → Type 0) (w : ByteWorld) (v : ItemWorld) : Type 0 where
+pub record Encoding (w : ByteWorld) (v : ItemWorld) : Type 0 where
   pub moment : w.moment ≡ v.moment
   pub server_state : w.server.server_state ≡ server_state_rendered written_item v.server
-  pub server_state_fits : ServerFits (length v.wires) v.server
-  pub begins : Begins v.wires v.server
-  pub devices : (position : ℕ) → Both (DeviceEncodes ClientFits) (slice_get w.devices position) (slice_get v.devices position)
+  pub devices : (position : ℕ) → Both DeviceEncodes (slice_get w.devices position) (slice_get v.devices position)
   pub as_many : length w.wires ≡ length v.wires
-  pub wires : (position : ℕ) → Both (WireAt UpFits DownFits w v position) (slice_get w.wires position) (slice_get v.wires position)
+  pub wires : (position : ℕ) → Both (WireAt w v position) (slice_get w.wires position) (slice_get v.wires position)
   pub takes : w.takes ≡ map (line_reported w.version) v.takes
+
+-- A world of bytes encodes one of items; in that all is within limits, and first headers come where they are awaited.
+pub record WorldEncodes (UpFits DownFits : ItemOut → Type 0) (ServerFits : ℕ → ServerState ItemOut → Type 0) (ClientFits : ClientView ItemOut → Type 0) (w : ByteWorld) (v : ItemWorld) : Type 0 where
+  pub encoding : Encoding w v
+  pub fits : WorldFits UpFits DownFits (ServerFits (length v.wires)) ClientFits v
+  pub begins : Begins v.wires v.server
 
 -- ---- moves
 

@@ -7,7 +7,7 @@
 //! record says.
 //!
 //! `Tick 0` stands before items that go up: the server looks at the clock once for each piece, in a world of items at
-//! a tick. A world that runs has looked at the clock (`now` of `WorldSimulates`): else the moment of a take and the
+//! a tick. A world that runs has looked at the clock (`now` of `Simulation`): else the moment of a take and the
 //! stamp of its entry could differ.
 //!
 //! Items behind a shut: the server runs on over the rest of a piece and does nothing; in the world of items the pipe

@@ -262,6 +262,7 @@ module _ (who : Identity) (logins : ℕ → Login) (d : ItemDevice) (v : View It
               client_works who logins (record d { client = t.client }) c.next c.client next k after u.client at refl (at_same k after c.next.conns) q.account (q.epoch ∙ c.client.epoch)
               (subst (IsOwnRepresented next.own) (sym q.is) (queued_own t u s z o.0 o.2 position good q)) (q.phase ∙ c.client.phase k conn at is);
           pipes =
+              let w = wire_of who (logins k) k (c.next.conns k) (table t.out.put k) conn is (c.pipes.each k) in
               subst (λ items. PipesRepresent who logins (table items) next) (sym put)
               (shown_at who logins (table t.out.put) (table (t.out.put ++ z ∷ [])) c.next next k after (put_up (z ∷ []) w.0) c.pipes (λ j. refl) (way.here t.out.put (z ∷ []) w.0 w.1) (way.apart t.out.put (z ∷ []))
               (wire_said who (logins k) k conn w.0 w.2 (Up (St z) ∷ []) (All-cons IsForServer z [] good (All-nil IsForServer))));
@@ -279,9 +280,6 @@ module _ (who : Identity) (logins : ℕ → Login) (d : ItemDevice) (v : View It
 
         way : Enters k table
         way = enters_at t.client c.next c.client k at
-
-        w : (w : ItemWire) × (table t.out.put k ≡ Some w) × IsWire who (logins k) k conn w
-        w = wire_of who (logins k) k (c.next.conns k) (table t.out.put k) conn is (c.pipes.each k)
 
         after : Conn ItemOut
         after = record conn { wires = send_up (Up (St z) ∷ []) conn.wires }
@@ -309,6 +307,7 @@ module _ (who : Identity) (logins : ℕ → Login) (d : ItemDevice) (v : View It
               subst (λ a. ClientRepresents who logins (record d { client = a }) next) (sym same)
               (client_works who logins (record d { client = t.client }) c.next c.client next k after t.client c.here refl (at_same k after c.next.conns) refl c.client.epoch c.client.own (c.client.phase k c.conn c.here c.is));
           pipes =
+              let w = wire_of who (logins k) k (c.next.conns k) (table t.out.put k) c.conn c.is (c.pipes.each k) in
               subst (λ items. PipesRepresent who logins (table items) next) (sym put)
               (shown_at who logins (table t.out.put) (table (t.out.put ++ request_item ∷ [])) c.next next k after (put_up (request_item ∷ []) w.0) c.pipes (λ j. refl) ((enters_at t.client c.next c.client k c.here).here t.out.put (request_item ∷ []) w.0 w.1)
               ((enters_at t.client c.next c.client k c.here).apart t.out.put (request_item ∷ []))
@@ -318,9 +317,6 @@ module _ (who : Identity) (logins : ℕ → Login) (d : ItemDevice) (v : View It
       where
         o : Owns c.next.own s
         o = own_shown c.next.own t.client.session s stands c.client.own
-
-        w : (w : ItemWire) × (table t.out.put k ≡ Some w) × IsWire who (logins k) k c.conn w
-        w = wire_of who (logins k) k (c.next.conns k) (table t.out.put k) c.conn c.is (c.pipes.each k)
 
         after : Conn ItemOut
         after = record c.conn { wires = send_up (Up Req ∷ []) c.conn.wires }
@@ -407,6 +403,7 @@ module _ (who : Identity) (logins : ℕ → Login) (d : ItemDevice) (v : View It
           client =
               client_leaves who logins (record d { client = t.client }) c.next c.client next u.client refl g.account (g.epoch ∙ c.client.epoch) (subst (IsOwnRepresented c.next.own) (sym g.session) c.client.own) (ap is_apart g.phase);
           pipes =
+              let w = wire_of who (logins k) k (c.next.conns k) (table t.out.put k) conn is (c.pipes.each k) in
               shown_at who logins (table t.out.put) after c.next next k ended (left w.0) c.pipes (λ j. refl) (here w.0 w.1) others
               (wire_left who (logins k) k conn w.0 w.2);
           server =
@@ -422,9 +419,6 @@ module _ (who : Identity) (logins : ℕ → Login) (d : ItemDevice) (v : View It
 
         is : c.next.conns k ≡ Some conn
         is = there.1
-
-        w : (w : ItemWire) × (table t.out.put k ≡ Some w) × IsWire who (logins k) k conn w
-        w = wire_of who (logins k) k (c.next.conns k) (table t.out.put k) conn is (c.pipes.each k)
 
         ended : Conn ItemOut
         ended = cut_conn (length (up_words conn.wires)) 0 conn

@@ -38,10 +38,10 @@ use Rattle.sim_4_links_follow.proofs.Turning.{header_at, on_element}
 use Rattle.sim_4_links_follow.proofs.Working.{SameItems, heard, kept_here, phase_here, same_items, wire_here, works_on}
 use Rattle.sim_4_links_follow.proofs.Rests.{after_success}
 
-abbrev login_features : Features
+abbrev pub login_features : Features
 login_features = record { scram_sha_256 = true; bind = false; stream_management = false }
 
-abbrev session_features : Features
+abbrev pub session_features : Features
 session_features = record { scram_sha_256 = false; bind = true; stream_management = true }
 
 module _ (who : Identity) (logins : ℕ → Login) (d : ItemDevice) (wires : Table ItemWire) (v : View ItemOut) (k : ℕ) where

@@ -1,12 +1,13 @@
 -- Connections by their numbers, and devices by their places, where one of a list is changed, or one more comes.
-use Rattle.std.proofs.Common.{◌≡◌, ◌≢◌, ℕ, zero, suc, ◌+◌, Bool, true, false, List, [], ◌∷◌, ◌++◌, Option, Some, None, length, nat_eq, slice_get, refl, sym, ap, subst, ◌∙◌, inl, inr, add-one}
+use Rattle.std.proofs.Common.{◌≡◌, ◌≢◌, ℕ, zero, suc, ◌+◌, Bool, true, false, List, [], ◌∷◌, ◌++◌, Option, Some, None, length, nat_eq, slice_get, refl, sym, ap, subst, ◌∙◌, inl, inr, add-one, le_refl}
 use Rattle.std.proofs.lemmas.Bool.{cases_eq}
 use Rattle.std.specs.List.{slice_set}
 use Rattle.std.specs.Option.{option_map}
+use Rattle.std.proofs.lemmas.Option.{slice_get_past}
 use Rattle.sim_3_items.specs.Pipes.{by_number, under}
 use Rattle.sim_3_items.specs.Reading.{where_here}
 use Rattle.sim_3_items.specs.Sent.{where_it}
-use Rattle.sim_3_images.proofs.Lookups.{get_before, get_last, none_at_end}
+use Rattle.sim_3_images.proofs.Lookups.{get_before, get_last}
 use Rattle.sim_3_items.specs.ItemPipes.{ItemWire}
 use Rattle.sim_2_links.proofs.Entries.{at_other, at_same, other_number, same_number}
 use Rattle.sim_2_links.specs.Views.{Table, with_at}
@@ -54,7 +55,7 @@ position_is position f w wires there j = here_changed (Some position) f wires j 
 -- ---- one more
 
 pub under_none : {T : Type 0} (l : List T) → under (length l + 1) l ≡ None
-under_none l = under_position (length l) l ∙ none_at_end l
+under_none l = under_position (length l) l ∙ slice_get_past l (length l) (le_refl (length l))
 
 under_before : {T : Type 0} (l : List T) (x : T) (k : ℕ) → length l + 1 ≢ k → under k (l ++ x ∷ []) ≡ under k l
 under_before l x zero apart = refl

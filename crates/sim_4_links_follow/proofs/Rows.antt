@@ -9,7 +9,6 @@ use Rattle.cl_core.specs.UserCalls.{catch_up_answer, catch_up_in, catches_up, ca
 use Rattle.cl_core.specs.declared.faults.CatchUpStart.TheVariants as start
 use Rattle.cl_core.specs.declared.faults.SayFault.TheVariants as say
 use Rattle.law_limits.specs.Within.{IsEntryWithin, IsLogWithin, IsPageWithin}
-use Rattle.cl_handlers.specs.Clients.{ClientView}
 use Rattle.cl_handlers.specs.MessageRows.{bounce_of, error_within, held_by, held_row, is_own_or_absent, live_in, logged, message_row, message_with, other_message, own_id, refuses, result_row, result_to, tells_where}
 use Rattle.cl_handlers.specs.Speech.{Put, in_items}
 use Rattle.cl_handlers.specs.ClientSteps.{ends, has_to_put, is_online, put_in, tells, with_log}
@@ -21,6 +20,7 @@ use Rattle.sim_4_links_follow.proofs.Fair.{answer_for_server, answer_other, page
 use Rattle.sim_4_links_follow.proofs.Outcomes.{IsQuiet, IsSaid, Outcome, T, leaves, outcome_either, quiet_either, quiet_same, said_put, says, stays}
 use Rattle.sim_3_items.specs.Counted.{IsForServer}
 use Rattle.sim_3_items.specs.Labels.{awaits}
+use Rattle.sim_3_items.proofs.SaidTexts.{may_say}
 use Rattle.im_extensions.specs.declared.forwarding.Forwarded.{Forwarded}
 use Rattle.mam_log.specs.LogPages.{last_id}
 use Rattle.mam_log.specs.Views.{OpenPage, after_fin, end_of, page_for}
@@ -256,10 +256,6 @@ submits_said t (Some s) z said n is answer good = record {
     few : (b : Bool) → (if b then Err say.OutboxFull else Ok (next_number t.client.n)) ≡ Ok n → b ≡ false
     few true e = absurd (let no_way : ⊥ = cc in no_way)
     few false e = refl
-
-may_say : (c : ClientView ItemOut) (bad : Bool) (n : ℕ) → (if bad then Err say.BadText else say_in c c.session) ≡ Ok n → say_in c c.session ≡ Ok n
-may_say c true n e = absurd (let no_way : ⊥ = cc in no_way)
-may_say c false n e = e
 
 pub says_said : (t : T) (to text : List ℕ) (private : Bool) (n : ℕ) → say_answer t.client text ≡ Ok n → IsForServer (submission_of t.client to text private) → IsSaid t (says_client_step in_items t to text private)
 says_said t to text private n answer good =

@@ -1,9 +1,9 @@
 -- Moves of a world keep its server standing with the connections that were dialled.
-use Rattle.std.proofs.Common.{◌≡◌, ℕ, ◌+◌, ◌≤◌, Bool, true, false, cond, List, [], ◌∷◌, ◌++◌, Option, Some, None, Result, Ok, Err, length, slice_get, refl, sym, subst, ◌∙◌, arith, length-append}
+use Rattle.std.proofs.Common.{◌≡◌, ℕ, ◌+◌, ◌≤◌, Bool, true, false, cond, List, [], ◌∷◌, Option, Some, None, Result, Ok, Err, length, slice_get, refl, sym, subst, ◌∙◌}
 use Rattle.std.specs.List.{AllByRecursion, find}
 use Rattle.std.specs.Map.{lookup}
 use Rattle.std.specs.Option.{option_map}
-use Rattle.cl_core.specs.UserCalls.{catch_up_answer, catches_up, closes, dials, say_answer, says}
+use Rattle.cl_core.specs.UserCalls.{catch_up_answer, catches_up, closes, say_answer, says}
 use Rattle.cl_handlers.specs.Clients.{ClientStep}
 use Rattle.cl_handlers.specs.Speech.{in_items}
 use Rattle.sim_4_links_follow.specs.Following.{AreDialled}
@@ -19,12 +19,13 @@ use Rattle.sim_3_images.specs.EncodingsCores.{MayCome, writer_at, writer_of}
 use Rattle.sim_3_images.specs.ItemStarts.{items_at_start}
 use Rattle.sim_3_images.specs.Stands.{Conns, IsAfter, ServerStateStands, SessionStands}
 use Rattle.sim_3_items.specs.ItemMoves.{Close, CatchUp, Cut, Dial, Down, DownEnd, Forget, ItemMove, Say, Tick, Up, UpEnd, at_device, at_wire, caught_up_by, closed_by, dialed_by, end_heard, fed_of, forgot_by, has_wire, heard_first, moved, said_by, said_in, served_by, served_first, spoke, step_of, reported_up}
-use Rattle.sim_3_items.specs.ItemPipes.{ItemWire, cut_at, down_end_reported, fresh_wire, handed_up, is_end_due, left, put_up, up_end_reported}
+use Rattle.sim_3_items.specs.ItemPipes.{ItemWire, cut_at, down_end_reported, handed_up, is_end_due, left, put_up, up_end_reported}
 use Rattle.sim_3_items.specs.ItemWorlds.{ItemDevice, ItemWorld, itself, read_of, silent_client_step}
 use Rattle.sm_live.specs.Sessions.{Session, is_at, session_at}
 use Rattle.cmd_schedule.specs.Schedules.{WireView}
 use Rattle.srv_core.specs.Table.{after_item}
 use Rattle.sim_3_images.proofs.RuleKept.{found_is, seat_is}
+use Rattle.sim_3_images.proofs.WorldsWithin.{dialed_many}
 use Rattle.cmd_network.specs.Positions.{changed_at, changed_where}
 use Rattle.sim_4_links_follow.specs.Standing.{MayGoUp, ServerStands}
 use Rattle.xml_writer.specs.Items.{ItemOut}
@@ -50,14 +51,8 @@ either w false u v here there = there
 dials_go : (position : ℕ) (mine yours : List ℕ) (o : Option ItemDevice) (w : ItemWorld) → Goes w (dialed_by position mine yours o w)
 dials_go position mine yours None w stands = stands
 dials_go position mine yours (Some d) w stands =
-    subst (λ n. ServerStateStands n (with_fresh (length w.wires + 1) yours (at_moment w.moment w.server))) (sym long)
+    subst (λ n. ServerStateStands n (with_fresh (length w.wires + 1) yours (at_moment w.moment w.server))) (sym (dialed_many position mine d w))
     (fresh_stands (length w.wires) yours (at_moment w.moment w.server) (moment_stands (length w.wires) w.moment w.server stands))
-  where
-    long : length (changed_where d.here left w.wires ++ put_up (dials in_items mine (fed_of d.client)).turn.out.put (fresh_wire position) ∷ []) ≡ length w.wires + 1
-    long =
-        let old = length_where d.here left w.wires in
-        let all = length-append (changed_where d.here left w.wires) (put_up (dials in_items mine (fed_of d.client)).turn.out.put (fresh_wire position) ∷ []) in
-        omega (arith, old, all)
 
 forgets_go : (position : ℕ) (o : Option ItemDevice) (w : ItemWorld) → Goes w (forgot_by position o w)
 forgets_go position None w stands = stands

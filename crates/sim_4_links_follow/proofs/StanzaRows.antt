@@ -78,7 +78,7 @@ module _ (who : Identity) (logins : ℕ → Login) (h : ServerState ItemOut) (v 
   all_fair : (acts : List (Act ItemOut)) → AreHeard h.sessions acts → AllByRecursion (IsFair v.row) acts
   all_fair acts heard = AllByRecursion-weaker (IsHeard h.sessions) (IsFair v.row) heard_fair acts heard
 
-stanza_word : (e : Elem) → is_stanza e ≡ true → is_long e ≡ false → word_of e ≡ word.Stanza false (stanza_of e)
+pub stanza_word : (e : Elem) → is_stanza e ≡ true → is_long e ≡ false → word_of e ≡ word.Stanza false (stanza_of e)
 unfolding word_of
 stanza_word e stanza short = rw (stanza, short) refl
 

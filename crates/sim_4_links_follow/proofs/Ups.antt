@@ -34,7 +34,7 @@ use Rattle.xml_writer.specs.Items.{ItemOut}
 -- ---- a step of the server on the first item of a connection, in the world
 
 module _ (w : ItemWorld) (position : ℕ) (x : ItemWire) (j : ItemOut) (items : List ItemOut) (there : slice_get w.wires position ≡ Some x) (first : x.up.items ≡ j ∷ items) where
-  moved_so : moved (Up position) w ≡ served_item position j w
+  pub moved_so : moved (Up position) w ≡ served_item position j w
   moved_so = ap (λ o. served_by position o w) there ∙ ap (λ l. served_first position l w) first
 
   served_represents : (whom : Identity) (others : ℕ → Login) (u : View ItemOut) (done : List (Label ItemOut)) → Represents whom others w u → (step : StepFollows whom others (by_number w.wires) u (position + 1) x (on_item (position + 1) j w.server) done)

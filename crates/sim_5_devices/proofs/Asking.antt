@@ -33,10 +33,11 @@ use Rattle.sim_1_applications.specs.Events.{CatchUp, May, ask}
 use Rattle.sim_1_applications.specs.Events as events
 use Rattle.sim_1_applications.specs.Stanzas.{Query}
 use Rattle.sim_5_devices.proofs.Puts.{request_told}
-use Rattle.sim_5_devices.proofs.Shown.{has_none, stands}
+use Rattle.sim_5_devices.proofs.Shown.{stands}
 use Rattle.sim_5_devices.specs.Told.{IsCatchingUp, SameSaid, next_request}
 use Rattle.xml_writer.specs.Items.{ItemOut}
 use Rattle.sim_5_devices.proofs.Saying.{next_is}
+use Rattle.xml_framer.proofs.PlainTexts.{none_is}
 
 -- the last number of all runs is that of the last one
 same_last : (broken : List (List ℕ)) (run : List ℕ) → (run ≡ [] → broken ≡ []) → last_in (flat_map (λ r. r) broken ++ run) ≡ last_in run
@@ -125,7 +126,7 @@ module _ (keep : ℕ) (history : List EntryView) (c : ClientView ItemOut) (x : D
           (begun_represents keep history c.log b p.log most began p.given.logged))
 
       no_open : b.page ≡ None
-      no_open = no_page (page_shown history) b.page (sym p.log.page ∙ has_none c.log.page free)
+      no_open = no_page (page_shown history) b.page (sym p.log.page ∙ none_is c.log.page free)
 
   by : (session : Option (SessionView ItemOut)) → c.session ≡ session → catch_up_in c session ≡ Ok tt → IsAsking (catches_up_in in_items (silent_client_step c) session most)
   by None is e = absurd (let no_way : ⊥ = cc in no_way)

@@ -2,8 +2,9 @@
 use Rattle.std.proofs.Common.{◌≡◌, ℕ, ◌+◌, filter, Bool, true, false, List, [], ◌∷◌, ◌++◌, Option, Some, None, map, refl, subst, sym, ap, ◌∙◌, if◌then◌else◌}
 use Rattle.std.specs.Option.{option_map}
 use Rattle.std.specs.Prelude.{find}
-use Rattle.mam_archive.specs.Entries.{EntryView, numbered}
+use Rattle.mam_archive.specs.Entries.{EntryView}
 use Rattle.cmd_direct.specs.Direct.{as_logged}
+use Rattle.cmd_direct.proofs.PageRuns.{numbered_more}
 use Rattle.mam_log.specs.Views.{LogView}
 use Rattle.sim_5_devices.proofs.Entries.{at_first}
 use Rattle.sim_5_devices.specs.Shown.{AreGiven, ArePageGiven, IsGiven, IsReadingGiven, LogRepresents, page_shown}
@@ -52,12 +53,6 @@ module _ (history more : List EntryView) where
   }
 
 -- ---- a history of takes
-
-numbered_more : (n : ℕ) (xs ys : List EntryView) → (more : List EntryView) × (numbered_from n (xs ++ ys) ≡ numbered_from n xs ++ more)
-numbered_more n [] ys = (numbered_from n ys, refl)
-numbered_more n (x ∷ xs) ys =
-    let rest = numbered_more (n + 1) xs ys in
-    (rest.0, ap (λ entries. numbered n x ∷ entries) rest.1)
 
 pub history_more : (owned : List Owned) (takes new : List sessions.Take) (account : List ℕ) → (more : List EntryView) × (history_at owned (takes ++ new) account ≡ history_at owned takes account ++ more)
 history_more owned takes new account =

@@ -27,13 +27,14 @@ use Rattle.cmd_report.specs.Addresses.{bare_address, full_address}
 use Rattle.im_requests.specs.Messages.{submission_nodes}
 use Rattle.cmd_schedule.specs.Contents.{Owned}
 use Rattle.sim_3_items.specs.Built.{IsCopied, IsLive, IsPassed}
+use Rattle.sim_3_items.proofs.FullAddresses.{full_normal}
 use Rattle.sim_1_applications.specs.Devices.{Reading}
 use Rattle.sim_1_applications.specs.Events.{hold, holds, quiet}
 use Rattle.im_stamp.specs.Dates.{stamp_at}
 use Rattle.im_stanza.specs.Views.{MessageView}
 use Rattle.im_stanza.specs.Written.{IsNormal, message_elem}
 use Rattle.sim_5_devices.proofs.Forwards.{carbon_again}
-use Rattle.sim_5_devices.proofs.Names.{bare_normal, full_normal}
+use Rattle.sim_5_devices.proofs.Names.{bare_normal}
 use Rattle.sim_5_devices.proofs.Quiet.{live_itself, told_client, told_notes}
 use Rattle.sim_5_devices.proofs.ClientSteps.{counted_client_step, message_client_step, quiet_read}
 use Rattle.sim_5_devices.specs.Logged.{IsOnline, IsReadAs}

@@ -8,8 +8,9 @@ use Rattle.cmd_schedule.specs.Contents.{Owned}
 use Rattle.sim_1_applications.specs.Devices.{Take}
 use Rattle.sim_1_applications.specs.Reported.{history_at, name_at, take_of}
 use Rattle.im_stanza.specs.Written.{IsNormal, unless_empty}
-use Rattle.sim_5_devices.proofs.Names.{bare_normal, full_normal}
+use Rattle.sim_5_devices.proofs.Names.{bare_normal}
 use Rattle.sim_5_devices.specs.Plain.{IsNamedTake, IsPlain}
+use Rattle.sim_3_items.proofs.FullAddresses.{full_normal}
 
 normal_there : (t : List ℕ) → normal t ≡ Ok t → IsNormal (unless_empty t)
 normal_there [] is = tt

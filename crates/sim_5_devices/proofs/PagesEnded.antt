@@ -1,5 +1,5 @@
 -- What the end of a page is judged by: the last entry, ids that repeat, and that the page goes on.
-use Rattle.std.proofs.Common.{◌≡◌, ℕ, zero, suc, ◌+◌, ◌<◌, ◌≤◌, ◌^◌, ◌&&◌, nat_lt, not, Bool, true, false, List, [], ◌∷◌, ◌++◌, Option, Some, None, Ok, length, map, refl, ap, ◌∙◌, arith, inl, inr, ne_eqb}
+use Rattle.std.proofs.Common.{◌≡◌, ℕ, zero, suc, ◌+◌, ◌<◌, ◌≤◌, ◌^◌, ◌&&◌, nat_lt, not, Bool, true, false, List, [], ◌∷◌, ◌++◌, Some, None, Ok, length, map, refl, ap, ◌∙◌, arith, inl, inr, ne_eqb}
 use Rattle.std.proofs.lemmas.Bool.{cases_Bool}
 use Rattle.std.proofs.lemmas.Bool.Decides.{nat_tests}
 use Rattle.std.proofs.lemmas.List.{map-append}
@@ -15,7 +15,7 @@ use Rattle.mam_pages.specs.declared.fin.Fin.{Fin}
 use Rattle.sim_1_applications.specs.Answers.{last_in}
 use Rattle.sim_5_devices.proofs.Entries.{same_ids}
 pub use Rattle.law_client.proofs.KeptLogs.{fin_is as after_is}
-use Rattle.base_lemmas.proofs.Bytes.{bytes_eq-self}
+use Rattle.cmd_direct.proofs.NextPages.{same_id-self}
 
 -- ---- ids of numbers behind another
 
@@ -63,14 +63,10 @@ last_of_both (e ∷ f ∷ es) rs id is = last_of_both (f ∷ es) rs id is
 
 -- ---- how it is judged
 
-same_id_again : (o : Option (List ℕ)) → same_id o o ≡ true
-same_id_again None = refl
-same_id_again (Some id) = bytes_eq-self id
-
 pub end_is_well : (log : LogView) (page : OpenPage) (fin : Fin) (complete : Bool) → fin.complete ≡ complete → fin.last ≡ last_id page.results → first_repeat (ids_of log.entries) (ids_of page.results) ≡ None
     → (nat_lt (length page.results) 1 && not complete) ≡ false → end_of log page fin ≡ Ok (outcome_of complete)
 end_is_well log page fin complete whole last none goes =
-    let same : same_id fin.last (last_id page.results) ≡ true = ap (λ o. same_id o (last_id page.results)) last ∙ same_id_again (last_id page.results) in
+    let same : same_id fin.last (last_id page.results) ≡ true = ap (λ o. same_id o (last_id page.results)) last ∙ same_id-self (last_id page.results) in
     rw (same, none) (ap (λ c. advance_of c page) whole ∙ rw goes refl)
 
 some_or_whole : (n : ℕ) (complete : Bool) → (complete ≡ false → 1 ≤ n) → (nat_lt n 1 && not complete) ≡ false

@@ -30,12 +30,13 @@ use Rattle.cmd_report.specs.Addresses.{bare_address, full_address}
 use Rattle.im_requests.specs.Messages.{queryid_text}
 use Rattle.cmd_schedule.specs.Contents.{Owned}
 use Rattle.sim_3_items.specs.Built.{IsResult, asker_for}
+use Rattle.sim_3_items.proofs.FullAddresses.{full_normal}
 use Rattle.sim_1_applications.specs.Devices.{OpenPage, Reading}
 use Rattle.sim_1_applications.specs.Events.{passed, quiet, result, with_page}
 use Rattle.sim_5_devices.proofs.Faults.{page_well, taken_well}
 use Rattle.sim_5_devices.proofs.Forwards.{forward_again}
 use Rattle.sim_5_devices.proofs.Found.{both_given, found_entry, results_given}
-use Rattle.sim_5_devices.proofs.Names.{bare_normal, full_normal}
+use Rattle.sim_5_devices.proofs.Names.{bare_normal}
 use Rattle.sim_5_devices.proofs.Stanzas.{archived, archived_read}
 use Rattle.sim_5_devices.proofs.ClientSteps.{IsDone, counted_client_step, quiet_read, quietly, read_online}
 use Rattle.sim_5_devices.specs.Logged.{IsOnline, IsReadAs}

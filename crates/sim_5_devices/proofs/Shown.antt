@@ -1,5 +1,5 @@
 -- The lines of a report part by part: those before the session's acknowledged stanzas and of these, and those that wait.
-use Rattle.std.proofs.Common.{◌≡◌, true, false, List, [], ◌++◌, Option, Some, None, map, take, is_some, refl, sym, ap, ap₂, subst, ◌∙◌, append_assoc}
+use Rattle.std.proofs.Common.{◌≡◌, true, List, [], ◌++◌, Some, None, map, take, is_some, sym, ap, ap₂, subst, ◌∙◌, append_assoc}
 use Rattle.std.proofs.lemmas.List.{append_cancel_right, map-append}
 use Rattle.std.specs.List.{flat_map}
 use Rattle.cl_handlers.specs.Clients.{ClientView}
@@ -72,7 +72,3 @@ module _ (c : ClientView ItemOut) (d : Sessions) (s : SessionView ItemOut) (is :
 
 pub nothing_waiting : (c : ClientView ItemOut) (d : Sessions) → c.session ≡ None → SubmissionsRepresent c d → c.said.waiting ≡ []
 nothing_waiting c d is represents = subst (λ o. IsWaiting o c.said d) is represents.waiting
-
-pub has_none : {A : Type 0} (o : Option A) → is_some o ≡ false → o ≡ None
-has_none None e = refl
-has_none (Some s) e = absurd (let no_way : ⊥ = cc in no_way)

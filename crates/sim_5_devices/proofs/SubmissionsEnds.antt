@@ -33,9 +33,10 @@ use Rattle.sim_1_applications.specs.Events.{goes_offline, put_up, reads_bound}
 use Rattle.sim_1_applications.specs.Stanzas.{Carbons, Presence, messages}
 use Rattle.sim_1_applications.specs.Reported.{mark_of, said_among, said_in}
 use Rattle.sim_5_devices.proofs.Lines.{lines, lines_as, lines_in, marked, marked_lines}
-use Rattle.sim_5_devices.proofs.Shown.{has_none, nothing_waiting, past_lines, report_parts, stands}
+use Rattle.sim_5_devices.proofs.Shown.{nothing_waiting, past_lines, report_parts, stands}
 use Rattle.sim_5_devices.specs.Told.{IsBinding, IsEntering}
 use Rattle.xml_writer.specs.Items.{Closing, ItemOut}
+use Rattle.xml_framer.proofs.PlainTexts.{none_is}
 
 -- ---- at the beginning
 
@@ -147,7 +148,7 @@ bound_told t d live p = record {
     fits = let few = p.epoch_fits in omega (arith, few)
 
     none : t.client.session ≡ None
-    none = has_none t.client.session (sym p.represents.online ∙ p.offline)
+    none = none_is t.client.session (sym p.represents.online ∙ p.offline)
 
 -- ---- a session is enabled
 
@@ -168,7 +169,7 @@ module _ (t : ClientStep ItemOut ItemOut) (d : Sessions) (previd : List ℕ) (p 
   two_wait = ap₂ drop none_acked two_put
 
   none : t.client.session ≡ None
-  none = has_none t.client.session (sym p.represents.online ∙ p.offline)
+  none = none_is t.client.session (sym p.represents.online ∙ p.offline)
 
   empty : t.client.said.waiting ≡ []
   empty = nothing_waiting t.client d none p.represents

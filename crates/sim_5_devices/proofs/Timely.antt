@@ -5,7 +5,6 @@ use Rattle.std.proofs.lemmas.List.{length-drop}
 use Rattle.std.specs.Prelude.{nat_le}
 use Rattle.cl_core.specs.UserCalls.{is_bad_text, outbox_bound, say_answer, say_in}
 use Rattle.cl_core.specs.declared.faults.SayFault.TheVariants as say
-use Rattle.cl_handlers.specs.Clients.{ClientView}
 use Rattle.sim_5_devices.proofs.Kept.{begins_empty, plain_read}
 use Rattle.sim_5_devices.specs.Pages.{EndsFor, IsPaged}
 use Rattle.sim_3_items.specs.Clients.{ClientRepresents, IsOwnRepresented}
@@ -15,6 +14,7 @@ use Rattle.sim_3_items.specs.Downs.{down_stanza}
 use Rattle.sim_3_items.specs.Items.{stanzas_read}
 use Rattle.sim_3_items.specs.Ups.{up_stanza}
 use Rattle.sim_3_items.specs.ItemWorlds.{ItemDevice}
+use Rattle.sim_3_items.proofs.SaidTexts.{may_say}
 use Rattle.sim_2_links.proofs.Many.{many_append}
 use Rattle.sim_2_links.proofs.Reached.{link_kept}
 use Rattle.sim_2_links.specs.Events.{seen}
@@ -118,10 +118,6 @@ reads_in_time a d z zs paged is = by (is_end (down_stanza z)) refl (events.reads
     by false other (Some r) asks = let none = plain_read a (down_stanza z) d.reading other in absurd (let both : Some r ≡ None = sym asks ∙ none.request in let no_way : ⊥ = cc in no_way)
 
 -- ---- the user submits
-
-may_say : (c : ClientView ItemOut) (bad : Bool) (n : ℕ) → (if bad then Err say.BadText else say_in c c.session) ≡ Ok n → say_in c c.session ≡ Ok n
-may_say c true n e = absurd (let no_way : ⊥ = cc in no_way)
-may_say c false n e = e
 
 pub room_to_say : (who : Identity) (logins : ℕ → Login) (c : ItemDevice) (v : View ItemOut) (d : Sessions) (text : List ℕ) (n : ℕ) → LinkReached v → ClientRepresents who logins c v → IsDevice stanzas_read (seen v) d → say_answer c.client text ≡ Ok n
     → length (drop d.now.acked (up_put d.now)) + 1 ≤ 1000

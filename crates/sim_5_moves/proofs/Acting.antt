@@ -49,7 +49,7 @@ module _ (schedule : WireView) (b : Bounds) (says : ℕ) (w : ItemWorld) (x : Ap
   -- another device
   module _ (j : ℕ) (p : Owned) (is : IsOwned schedule j p) (other : j ≢ i) where
     abbrev was : DeviceSimulates schedule w x j p
-    was = runs.devices j p is
+    was = runs.simulation.devices j p is
 
     abbrev shown : Represents (identity_at schedule j p) was.logins next was.view
     shown = a.others j p is other
@@ -77,7 +77,7 @@ module _ (schedule : WireView) (b : Bounds) (says : ℕ) (w : ItemWorld) (x : Ap
 
   module _ (Does : ℕ → List (Label ItemOut) → Type 0) (here : Does i a.done) (beside : (j : ℕ) → j ≢ i → Does j []) where
     abbrev Comes : (j : ℕ) (p : Owned) → IsOwned schedule j p → Type 0
-    Comes j p is = (e : DeviceSimulates schedule next following j p) × Leads (Does j) (runs.devices j p is).view e.view
+    Comes j p is = (e : DeviceSimulates schedule next following j p) × Leads (Does j) (runs.simulation.devices j p is).view e.view
 
     each_comes : (j : ℕ) (p : Owned) (is : IsOwned schedule j p) → Comes j p is
     each_comes =
@@ -87,28 +87,32 @@ module _ (schedule : WireView) (b : Bounds) (says : ℕ) (w : ItemWorld) (x : Ap
 
     abbrev goes_on : WorldSimulates schedule b (says + length (spoken_in a.events)) next following
     goes_on = record {
-      led = record {
-        events = runs.led.events ++ a.events;
-        reaches = reaches_both runs.led.events a.events _ x following runs.led.reaches a.reaches;
-        spoken = ap length (spoken_both runs.led.events a.events) ∙ length-append (spoken_in runs.led.events) (spoken_in a.events) ∙ ap (λ n. n + length (spoken_in a.events)) runs.led.spoken;
+      simulation = record {
+        devices = λ j p is. (each_comes j p is).0;
+        many = alone.devices ∙ runs.simulation.many;
+        many_there = set_long x.devices i d ∙ runs.simulation.many_there;
+        wires = λ position wire at. let was = alone.wires position wire at in let of = runs.simulation.wires position was.0 was.1 in (of.0, subst (λ n. IsOwned schedule n of.0) (sym was.2) of.1);
+        server = subst (ServerSimulates (keep_in schedule) (owned_of schedule) (names_of schedule) x.takes) (sym alone.server) runs.simulation.server;
+        takes = alone.takes ∙ runs.simulation.takes;
+        clock = runs.simulation.clock ∙ sym alone.moment;
+        now = (λ k. (alone.server k).moment) ∙ runs.simulation.now ∙ sym alone.moment;
       };
-      said = a.said;
-      asked =
-          either (λ j. (e : Device) → slice_get following.devices j ≡ Some e → e.reading.asked ≤ b.pages + 1) i
-          (λ e at. subst (λ (y : Device). y.reading.asked ≤ b.pages + 1) (same_Some d e (sym (set_here x.devices i a.old d a.there) ∙ at)) a.asked)
-          (λ j other e at. runs.asked j e (sym (set_elsewhere x.devices i j d other) ∙ at));
-      dialled = subst (λ n. n ≤ b.dials) (sym alone.many) runs.dialled;
-      devices = λ j p is. (each_comes j p is).0;
-      many = alone.devices ∙ runs.many;
-      many_there = set_long x.devices i d ∙ runs.many_there;
-      wires = λ position wire at. let was = alone.wires position wire at in let of = runs.wires position was.0 was.1 in (of.0, subst (λ n. IsOwned schedule n of.0) (sym was.2) of.1);
-      server = subst (ServerSimulates (keep_in schedule) (owned_of schedule) (names_of schedule) x.takes) (sym alone.server) runs.server;
-      takes = alone.takes ∙ runs.takes;
-      clock = runs.clock ∙ sym alone.moment;
-      now = (λ k. (alone.server k).moment) ∙ runs.now ∙ sym alone.moment;
-      fits = a.fits;
-      stands = subst (λ n. ServerStateStands n next.server) (sym alone.many) (subst (ServerStateStands (length w.wires)) (sym alone.server) runs.stands);
-      within = subst (λ n. IsWithin n next.server) (sym alone.many) (subst (IsWithin (length w.wires)) (sym alone.server) runs.within);
+      in_bounds = record {
+        led = record {
+          events = runs.in_bounds.led.events ++ a.events;
+          reaches = reaches_both runs.in_bounds.led.events a.events _ x following runs.in_bounds.led.reaches a.reaches;
+          spoken = ap length (spoken_both runs.in_bounds.led.events a.events) ∙ length-append (spoken_in runs.in_bounds.led.events) (spoken_in a.events) ∙ ap (λ n. n + length (spoken_in a.events)) runs.in_bounds.led.spoken;
+        };
+        said = a.said;
+        asked =
+            either (λ j. (e : Device) → slice_get following.devices j ≡ Some e → e.reading.asked ≤ b.pages + 1) i
+            (λ e at. subst (λ (y : Device). y.reading.asked ≤ b.pages + 1) (same_Some d e (sym (set_here x.devices i a.old d a.there) ∙ at)) a.asked)
+            (λ j other e at. runs.in_bounds.asked j e (sym (set_elsewhere x.devices i j d other) ∙ at));
+        dialled = subst (λ n. n ≤ b.dials) (sym alone.many) runs.in_bounds.dialled;
+        fits = a.fits;
+        stands = subst (λ n. ServerStateStands n next.server) (sym alone.many) (subst (ServerStateStands (length w.wires)) (sym alone.server) runs.in_bounds.stands);
+        within = subst (λ n. IsWithin n next.server) (sym alone.many) (subst (IsWithin (length w.wires)) (sym alone.server) runs.in_bounds.within);
+      };
     }
 
     pub acted_on : RunsOn schedule b says w x runs Does (says + length (spoken_in a.events)) next following

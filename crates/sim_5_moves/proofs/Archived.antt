@@ -25,14 +25,10 @@ use Rattle.law_server.proofs.ArchiveEntries.{gets_nothing}
 use Rattle.law_server.specs.Taken as server
 use Rattle.law_server.specs.Taken.{Taken, all_appended, entries_for}
 use Rattle.xml_trees.specs.Trees.{Elem}
-use Rattle.cmd_world.specs.Declaring.{AreAccounts, AreNames}
+use Rattle.cmd_world.proofs.Declares.{names_from}
 use Rattle.sim_3_images.proofs.AccountNames.{named, same_account}
 use Rattle.sim_3_images.proofs.AppendedEntries.{newest_after}
 use Rattle.xml_writer.specs.Items.{ItemOut}
-
-pub are_named : (before names : List (List ℕ)) → AreAccounts before names → AreNames names
-are_named before [] are = tt
-are_named before (name ∷ names) are = (are.1, are_named (before ++ name ∷ []) names are.3)
 
 -- an account's archive with this history
 abbrev pub kept_as : ℕ → List ℕ → List EntryView → Kept
@@ -51,7 +47,7 @@ one_more keep name history t false = refl
 
 module _ {keep : ℕ} {owned : List Owned} {names : List (List ℕ)} {takes : List Take} {h : ServerState ItemOut} {i : ℕ} {o : Owned} {s : Session ItemOut} {m : Submission} {e : Elem} (x : Submits keep owned names takes h i o s m e) where
   pub is_named : (position : ℕ) (name : List ℕ) → slice_get names position ≡ Some name → is_name name ≡ true
-  is_named position name at = named names position name (are_named [] names x.declared.accounts) at
+  is_named position name at = named names position name (names_from [] names x.declared.accounts) at
 
   -- accounts are the same by their places and by their names
   pub same_name : (position other : ℕ) (name others : List ℕ) → slice_get names position ≡ Some name → slice_get names other ≡ Some others → (other == position) ≡ bytes_eq name others

@@ -55,9 +55,9 @@ more_or_none n true = omega arith
 more_or_none n false = omega arith
 
 module _ (schedule : WireView) (right : IsLineList schedule) (b : Bounds) (small : AreSmall b) (says : ℕ) (w : ItemWorld) (x : AppWorld) (runs : WorldSimulates schedule b says w x) (i : ℕ) (o : Owned) (owned : IsOwned schedule i o) (most : ℕ)
-    (some : 1 ≤ most) (low : most ≤ 100) (more : (d : Device) → slice_get x.devices i ≡ Some d → d.reading.asked ≤ b.pages) (taken : catch_up_answer (runs.devices i o owned).represents.device.client ≡ Ok tt) where
+    (some : 1 ≤ most) (low : most ≤ 100) (more : (d : Device) → slice_get x.devices i ≡ Some d → d.reading.asked ≤ b.pages) (taken : catch_up_answer (runs.simulation.devices i o owned).represents.device.client ≡ Ok tt) where
   abbrev r : DeviceSimulates schedule w x i o
-  r = runs.devices i o owned
+  r = runs.simulation.devices i o owned
 
   abbrev who : Identity
   who = identity_at schedule i o
@@ -165,7 +165,7 @@ module _ (schedule : WireView) (right : IsLineList schedule) (b : Bounds) (small
   pages_are = ap (λ (d : ItemDevice). d.client.pages) client_is ∙ asks_pages (keep_in schedule) (history_for schedule x.takes o) c.client there most following
 
   still_said : says + 0 ≤ b.says
-  still_said = let old = runs.said in omega (arith, old)
+  still_said = let old = runs.in_bounds.said in omega (arith, old)
 
   bounded : r.device.reading.asked + 1 ≤ b.pages + 1
   bounded = let few = more r.device r.there in omega (arith, few)
@@ -174,9 +174,9 @@ module _ (schedule : WireView) (right : IsLineList schedule) (b : Bounds) (small
   request_runs =
       move_runs schedule b says m w x runs i o owned
       (spoken.one_device schedule b says w x runs i o owned m t z (Query asked) moved_is read built timely follows)
-      (move_fits UpFits DownFits ServerFits ClientFits keep_here takes_any m w runs.fits (some, low))
+      (move_fits UpFits DownFits ServerFits ClientFits keep_here takes_any m w runs.in_bounds.fits (some, low))
       (λ j p is other.
-      ask_leaves (identity_at schedule j p) (runs.devices j p is).logins w (runs.devices j p is).view (runs.devices j p is).represents i other c r.represents.there (of_its_own who r.logins w r.view r.represents j other) most)
+      ask_leaves (identity_at schedule j p) (runs.simulation.devices j p is).logins w (runs.simulation.devices j p is).view (runs.simulation.devices j p is).represents i other c r.represents.there (of_its_own who r.logins w r.view r.represents j other) most)
       (Says z ∷ []) g
       (spoken.session_stepped schedule b says w x runs i o owned m t z (Query asked) moved_is read built timely follows).0 at
       (spoken.session_stepped schedule b says w x runs i o owned m t z (Query asked) moved_is read built timely follows).2
@@ -202,6 +202,6 @@ module _ (schedule : WireView) (right : IsLineList schedule) (b : Bounds) (small
 pub requests_run : (schedule : WireView) (b : Bounds) (says : ℕ) (w : ItemWorld) (x : AppWorld) → IsLineList schedule → AreSmall b → (runs : WorldSimulates schedule b says w x) → (i : ℕ) (o : Owned) → IsOwned schedule i o → (d : ItemDevice) → slice_get w.devices i ≡ Some d
     → (most : ℕ) → MayItem (CatchUp i most) → IsInBounds b says (CatchUp i most) w x → catch_up_answer d.client ≡ Ok tt → MoveSimulates schedule b says (CatchUp i most) w x runs
 requests_run schedule b says w x right small runs i o owned d there most may more taken =
-    let r = runs.devices i o owned in
+    let r = runs.simulation.devices i o owned in
     let same = same_Some d r.represents.device (sym there ∙ r.represents.there) in
     request_runs schedule right b small says w x runs i o owned most may.0 may.1 more (subst (λ (e : ItemDevice). catch_up_answer e.client ≡ Ok tt) same taken)

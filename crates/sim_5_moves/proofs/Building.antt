@@ -7,10 +7,10 @@ use Rattle.std.specs.Option.{IfSome}
 use Rattle.mam_archive.specs.Entries.{EntryView, entry_numbered, newest}
 use Rattle.srv_state.specs.State.{Kept, ServerState}
 use Rattle.srv_state.specs.Steps.{Act, Send}
-use Rattle.cmd_direct.proofs.NextPages.{entry_is}
+use Rattle.cmd_direct.proofs.NextPages.{entry_is, get_in_drop}
 use Rattle.im_forwarding.specs.Queries.{no_such_place}
 use Rattle.im_forwarding.specs.Results.{AskerView, entry_item, fin_item}
-use Rattle.sim_5_moves.proofs.Pages.{IsCut, IsThere, get_in_drop, numbers_fit}
+use Rattle.sim_5_moves.proofs.Pages.{IsCut, IsThere, numbers_fit}
 use Rattle.sim_5_moves.proofs.AnswersReplies.{carbons_does, iq_in, iq_of_switch, page, page_is_there, presence_does, request_does}
 use Rattle.sim_5_moves.proofs.Sends.{sends_here}
 use Rattle.sim_5_moves.specs.Sent.{as_it_is, does_on, sends_to}

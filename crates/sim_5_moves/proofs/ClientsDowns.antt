@@ -90,14 +90,14 @@ all_between j i (Ends ∷ xs) = (tt, all_between j i xs)
 -- ---- the move
 
 module _ (schedule : WireView) (b : Bounds) (small : AreSmall b) (says : ℕ) (w : ItemWorld) (x : AppWorld) (runs : WorldSimulates schedule b says w x) (ground : IsGround schedule x) (position : ℕ) (wire : ItemWire) (o : Owned)
-    (owned : IsOwned schedule wire.device o) (z : ItemOut) (n : IsNextItem position wire.device w (runs.devices wire.device o owned).represents.device wire z)
-    (p : IsNextDown (identity_at schedule wire.device o) (runs.devices wire.device o owned).logins (runs.devices wire.device o owned).represents.device (by_number w.wires) (runs.devices wire.device o owned).view (position + 1) (DownTraffic (St z)))
+    (owned : IsOwned schedule wire.device o) (z : ItemOut) (n : IsNextItem position wire.device w (runs.simulation.devices wire.device o owned).represents.device wire z)
+    (p : IsNextDown (identity_at schedule wire.device o) (runs.simulation.devices wire.device o owned).logins (runs.simulation.devices wire.device o owned).represents.device (by_number w.wires) (runs.simulation.devices wire.device o owned).view (position + 1) (DownTraffic (St z)))
     (bounds : IsInBounds b says (Down position) w x) where
   abbrev i : ℕ
   i = wire.device
 
   abbrev old : DeviceSimulates schedule w x i o
-  old = runs.devices i o owned
+  old = runs.simulation.devices i o owned
 
   abbrev who : Identity
   who = identity_at schedule i o
@@ -115,13 +115,13 @@ module _ (schedule : WireView) (b : Bounds) (small : AreSmall b) (says : ℕ) (w
   names = named_at (owned_of schedule) i o ground.named.devices owned
 
   asked_few : old.device.reading.asked ≤ b.pages + 1
-  asked_few = runs.asked i old.device old.there
+  asked_few = runs.in_bounds.asked i old.device old.there
 
   nx : IsNextStanza old.view d z
   nx = next_stanza who old.logins d (by_number w.wires) old.view (position + 1) z p
 
   early : x.clock ≤ last_moment
-  early = subst (λ n. n ≤ last_moment) (sym runs.clock) bounds.1
+  early = subst (λ n. n ≤ last_moment) (sym runs.simulation.clock) bounds.1
 
   known : IsReadable schedule w x i o old z
   known = record {
@@ -150,7 +150,7 @@ module _ (schedule : WireView) (b : Bounds) (small : AreSmall b) (says : ℕ) (w
       subst (λ v. WorldFollows who old.logins v old.view (noted t.out.notes)) (moved_so w position d wire z n)
       (hear_lifts who old.logins w old.view old.represents position d wire z n
       (subst (λ u. HearingFollows who old.logins d (by_number w.wires) old.view (position + 1) u (client_step_on z d)) same_wire
-      (stanza_read who old.logins d (by_number w.wires) old.view (position + 1) z p (client_within w i d runs.fits old.represents.there) (next_answered w position wire z n.items runs.fits n.there n.first))))
+      (stanza_read who old.logins d (by_number w.wires) old.view (position + 1) z p (client_within w i d runs.in_bounds.fits old.represents.there) (next_answered w position wire z n.items runs.in_bounds.fits n.there n.first))))
 
   abbrev r : Option Request
   r = (reaction schedule w x i o old z known).request
@@ -163,7 +163,7 @@ module _ (schedule : WireView) (b : Bounds) (small : AreSmall b) (says : ℕ) (w
 
   paged : IsPaged old.device
   paged =
-      from_beginning Paged paged_kept paged_begins (keep_of schedule.version) (accounts_of (steps_in schedule)) (map (λ (o : Owned). o.account) (owned_of schedule)) runs.led.events x runs.led.reaches i old.device old.there
+      from_beginning Paged paged_kept paged_begins (keep_of schedule.version) (accounts_of (steps_in schedule)) (map (λ (o : Owned). o.account) (owned_of schedule)) runs.in_bounds.led.events x runs.in_bounds.led.reaches i old.device old.there
 
   timely : AreInTime (noted t.out.notes) old.device.sessions.now
   timely = subst (λ ds. AreInTime ds old.device.sessions.now) (sym done_so) (reads_in_time (around x old.device) old.device z (puts_of r) paged (ups_are r asked_so))
@@ -251,17 +251,17 @@ module _ (schedule : WireView) (b : Bounds) (small : AreSmall b) (says : ℕ) (w
     old = old.device;
     there = old.there;
     alone = hears_alone w position d wire z n;
-    fits = subst FitsHere (moved_so w position d wire z n) (move_fits UpFits DownFits ServerFits ClientFits keep_here takes_any (Down position) w runs.fits tt);
+    fits = subst FitsHere (moved_so w position d wire z n) (move_fits UpFits DownFits ServerFits ClientFits keep_here takes_any (Down position) w runs.in_bounds.fits tt);
     events = events;
     reaches = reaches;
-    said = subst (λ l. says + length l ≤ b.says) (sym silent) (let said = runs.said in omega (arith, said));
+    said = subst (λ l. says + length l ≤ b.says) (sym silent) (let said = runs.in_bounds.said in omega (arith, said));
     asked = asked_still;
     device = device_runs;
     done = noted t.out.notes;
     leads = goes_so.leads;
     others = λ j q is other.
-        subst (λ v. Represents (identity_at schedule j q) (runs.devices j q is).logins v (runs.devices j q is).view) (moved_so w position d wire z n)
-        (down_leaves (identity_at schedule j q) (runs.devices j q is).logins w (runs.devices j q is).view (runs.devices j q is).represents position wire n.there (λ same. other (sym same)));
+        subst (λ v. Represents (identity_at schedule j q) (runs.simulation.devices j q is).logins v (runs.simulation.devices j q is).view) (moved_so w position d wire z n)
+        (down_leaves (identity_at schedule j q) (runs.simulation.devices j q is).logins w (runs.simulation.devices j q is).view (runs.simulation.devices j q is).represents position wire n.there (λ same. other (sym same)));
   }
 
   world_runs : RunsOn schedule b says w x runs (DoesBy (Down position) w) (says + 0) (moved (Down position) w) next_world

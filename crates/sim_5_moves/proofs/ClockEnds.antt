@@ -52,7 +52,7 @@ module _ (schedule : WireView) (b : Bounds) (says : ℕ) (w : ItemWorld) (x : Ap
     is_after = ap (λ e. reported_up position e w) there ∙ ap (λ c. if c then after else w) due
 
     later_within : IsWithin (length w.wires) later
-    later_within = moment_within w.moment (length w.wires) w.server runs.within
+    later_within = moment_within w.moment (length w.wires) w.server runs.in_bounds.within
 
     many_wires : length after.wires ≡ length w.wires
     many_wires = length_where (Some position) up_end_reported w.wires
@@ -64,8 +64,8 @@ module _ (schedule : WireView) (b : Bounds) (says : ℕ) (w : ItemWorld) (x : Ap
 
     beside : (i : ℕ) (o : Owned) → IsOwned schedule i o → (old : DeviceSimulates schedule w x i o) → (wire.device ≡ i → ⊥) → WorldFollows (identity_at schedule i o) old.logins (moved (UpEnd position) w) old.view []
     beside i o is old apart =
-        let owner = runs.wires position wire there in
-        let own = runs.devices wire.device owner.0 owner.1 in
+        let owner = runs.simulation.wires position wire there in
+        let own = runs.simulation.devices wire.device owner.0 owner.1 in
         end_beside (identity_at schedule wire.device owner.0) own.logins w own.view own.represents (reached wire.device owner.0 own) position wire there refl (identity_at schedule i o) old.logins old.view
         (record { apart = apart_of schedule right wire.device i owner.0 o owner.1 is apart; reached = reached i o old; represents = old.represents })
 
@@ -78,14 +78,14 @@ module _ (schedule : WireView) (b : Bounds) (says : ℕ) (w : ItemWorld) (x : Ap
     flags : (account : ℕ) (resource : List ℕ) → AreFlagsKept account resource w.server gone
     flags account resource =
         kept_flags account resource w.server gone
-        (λ d represents. gone_flags later account resource d later_within.ordered.sessions (moment_flags w.server account resource d runs.within.ordered.sessions represents w.moment) (position + 1))
+        (λ d represents. gone_flags later account resource d later_within.ordered.sessions (moment_flags w.server account resource d runs.in_bounds.within.ordered.sessions represents w.moment) (position + 1))
 
     -- ---- the world
 
     wires_are : (q : ℕ) (other : ItemWire) → slice_get after.wires q ≡ Some other → (p : Owned) × IsOwned schedule other.device p
     wires_are q other at =
         let was = at_same up_end_reported (λ v. refl) position w.wires q other at in
-        let owner = runs.wires q was.0 was.1 in
+        let owner = runs.simulation.wires q was.0 was.1 in
         (owner.0, subst (λ d. IsOwned schedule d owner.0) (sym was.2) owner.1)
 
     quiet : SilentWorld schedule b w x after 0
@@ -94,14 +94,14 @@ module _ (schedule : WireView) (b : Bounds) (says : ℕ) (w : ItemWorld) (x : Ap
           quiet_device schedule w x after i o old refl (subst (λ (a : ItemWorld). WorldFollows (identity_at schedule i o) old.logins a old.view []) is_after (follows i o is old))
           (inl (flags (identity_at schedule i o).account o.device));
       many = refl;
-      dialled = subst (λ n. n ≤ b.dials) (sym many_wires) runs.dialled;
+      dialled = subst (λ n. n ≤ b.dials) (sym many_wires) runs.in_bounds.dialled;
       wires = wires_are;
-      server = gone_runs (keep_in schedule) (owned_of schedule) (names_of schedule) x.takes later (moment_runs (keep_in schedule) (owned_of schedule) (names_of schedule) x.takes w.server runs.server w.moment) (position + 1);
+      server = gone_runs (keep_in schedule) (owned_of schedule) (names_of schedule) x.takes later (moment_runs (keep_in schedule) (owned_of schedule) (names_of schedule) x.takes w.server runs.simulation.server w.moment) (position + 1);
       takes = refl;
       moment = let same : w.moment ≡ w.moment + 0 = omega arith in same;
-      now = let shown = runs.now in let same : max w.server.moment w.moment ≡ w.moment = omega (arith, shown) in same;
-      fits = subst FitsHere is_after (move_fits UpFits DownFits ServerFits ClientFits keep_here takes_any (UpEnd position) w runs.fits tt);
-      stands = subst (λ (a : ItemWorld). ServerStateStands (length a.wires) a.server) is_after (move_stands (UpEnd position) w tt runs.stands);
+      now = let shown = runs.simulation.now in let same : max w.server.moment w.moment ≡ w.moment = omega (arith, shown) in same;
+      fits = subst FitsHere is_after (move_fits UpFits DownFits ServerFits ClientFits keep_here takes_any (UpEnd position) w runs.in_bounds.fits tt);
+      stands = subst (λ (a : ItemWorld). ServerStateStands (length a.wires) a.server) is_after (move_stands (UpEnd position) w tt runs.in_bounds.stands);
       within = subst (λ n. IsWithin n gone) (sym many_wires) (gone_within (position + 1) (length w.wires) later later_within);
     }
 

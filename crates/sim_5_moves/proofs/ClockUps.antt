@@ -61,7 +61,7 @@ module _ (schedule : WireView) (b : Bounds) (says : ℕ) (w : ItemWorld) (x : Ap
   wires = by_number w.wires
 
   abbrev own : DeviceSimulates schedule w x wire.device o
-  own = runs.devices wire.device o owned
+  own = runs.simulation.devices wire.device o owned
 
   abbrev after : ItemWorld
   after = served_item position z w
@@ -136,13 +136,13 @@ module _ (schedule : WireView) (b : Bounds) (says : ℕ) (w : ItemWorld) (x : Ap
   wires_are : (q : ℕ) (other : ItemWire) → slice_get after.wires q ≡ Some other → (p : Owned) × IsOwned schedule other.device p
   wires_are q other at =
       let was = same_twice w.wires (changed_at position handed_up w.wires) after.wires (at_same handed_up (λ u. refl) position w.wires) (emitted_same step.outs (changed_at position handed_up w.wires)) q other at in
-      let owner = runs.wires q was.0 was.1 in
+      let owner = runs.simulation.wires q was.0 was.1 in
       (owner.0, subst (λ d. IsOwned schedule d owner.0) (sym was.2) owner.1)
 
   server_runs : ServerSimulates (keep_in schedule) (owned_of schedule) (names_of schedule) x.takes step.server_state
   server_runs =
       subst (λ y. ServerSimulates (keep_in schedule) (owned_of schedule) (names_of schedule) x.takes (on_item (position + 1) y w.server).server_state) has.is
-      (word_runs who logins w.server wires v (position + 1) (owned_of schedule) (names_of schedule) o of (keep_in schedule) x.takes runs.server has.word silent has.first)
+      (word_runs who logins w.server wires v (position + 1) (owned_of schedule) (names_of schedule) o of (keep_in schedule) x.takes runs.simulation.server has.word silent has.first)
 
   nothing_told : takes_reported w.moment step.outs ≡ []
   nothing_told =
@@ -153,25 +153,25 @@ module _ (schedule : WireView) (b : Bounds) (says : ℕ) (w : ItemWorld) (x : Ap
   stands =
       subst (λ (a : ItemWorld). ServerStateStands (length a.wires) a.server) is_after
       (move_stands (Up position) w
-      (item_may_go_up who own.logins w own.view position own.represents (reached schedule b small says w x runs wire.device o own) (λ other at. ap (λ (u : ItemWire). u.device) (same_Some other wire (sym at ∙ there)))) runs.stands)
+      (item_may_go_up who own.logins w own.view position own.represents (reached schedule b small says w x runs wire.device o own) (λ other at. ap (λ (u : ItemWire). u.device) (same_Some other wire (sym at ∙ there)))) runs.in_bounds.stands)
 
   step_within : IsWithin (length w.wires) step.server_state
   step_within =
-      let dialled = runs.dialled in
+      let dialled = runs.in_bounds.dialled in
       let most = small.dials in
-      item_within itself (position + 1) (read_of z) (length w.wires) (step_of w.server) (omega (arith, dialled, most)) runs.within
+      item_within itself (position + 1) (read_of z) (length w.wires) (step_of w.server) (omega (arith, dialled, most)) runs.in_bounds.within
 
   quiet : SilentWorld schedule b w x after 0
   quiet = record {
     devices = λ i p is old. quiet_device schedule w x after i p old refl (subst (λ (a : ItemWorld). WorldFollows (identity_at schedule i p) old.logins a old.view []) is_after (follows i p is old)) (flags i p is);
     many = refl;
-    dialled = subst (λ n. n ≤ b.dials) (sym many_wires) runs.dialled;
+    dialled = subst (λ n. n ≤ b.dials) (sym many_wires) runs.in_bounds.dialled;
     wires = wires_are;
     server = server_runs;
     takes = ap (λ l. w.takes ++ l) nothing_told ∙ append-nil w.takes;
     moment = let same : w.moment ≡ w.moment + 0 = omega arith in same;
-    now = (item_takes itself (position + 1) (read_of z) (step_of w.server)).1.moment ∙ runs.now;
-    fits = subst FitsHere is_after (move_fits UpFits DownFits ServerFits ClientFits keep_here takes_any (Up position) w runs.fits tt);
+    now = (item_takes itself (position + 1) (read_of z) (step_of w.server)).1.moment ∙ runs.simulation.now;
+    fits = subst FitsHere is_after (move_fits UpFits DownFits ServerFits ClientFits keep_here takes_any (Up position) w runs.in_bounds.fits tt);
     stands = stands;
     within = subst (λ n. IsWithin n step.server_state) (sym many_wires) step_within;
   }

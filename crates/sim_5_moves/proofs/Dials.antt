@@ -75,7 +75,7 @@ module _ (schedule : WireView) (right : IsLineList schedule) (b : Bounds) (small
     who = identity_at schedule i o
 
     abbrev own : DeviceSimulates schedule w x i o
-    own = runs.devices i o owned
+    own = runs.simulation.devices i o owned
 
     abbrev d : ItemDevice
     d = own.represents.device
@@ -107,13 +107,13 @@ module _ (schedule : WireView) (right : IsLineList schedule) (b : Bounds) (small
     drawn = record { login = draws.is; mine = draws.at_client ∙ sym may.1; yours = draws.at_server ∙ sym may.2 }
 
     below : AreDialled n w.server
-    below = stands_dialled w runs.stands
+    below = stands_dialled w runs.in_bounds.stands
 
     moment_of : (j : ℕ) (p : Owned) (old : DeviceSimulates schedule w x j p) → ServerFollows (identity_at schedule j p) old.logins (at_moment w.moment w.server) (by_number w.wires) old.view []
     moment_of j p old = moment_follows (identity_at schedule j p) old.logins w.server (by_number w.wires) old.view w.moment old.represents.server old.represents.pipes
 
     rule : IsRule w.server.sessions w.server.next
-    rule = runs.within.ordered.sessions
+    rule = runs.in_bounds.within.ordered.sessions
 
     kept_flags : (account : ℕ) (resource : List ℕ) → AreFlagsKept account resource w.server server
     kept_flags account resource = record {
@@ -166,7 +166,7 @@ module _ (schedule : WireView) (right : IsLineList schedule) (b : Bounds) (small
     wires_are position wire at = elim (one_more_at (changed_where d.here left w.wires) fresh wire position at) [
       | inl before ↦
           let was = where_same left (λ v. refl) d.here w.wires position wire before in
-          let of = runs.wires position was.0 was.1 in
+          let of = runs.simulation.wires position was.0 was.1 in
           (of.0, subst (λ k. IsOwned schedule k of.0) (sym was.2) of.1)
       | inr same ↦ (o, subst (λ (u : ItemWire). IsOwned schedule u.device o) same owned)
     ]
@@ -174,7 +174,7 @@ module _ (schedule : WireView) (right : IsLineList schedule) (b : Bounds) (small
     runs_on : ServerSimulates (keep_in schedule) (owned_of schedule) (names_of schedule) x.takes server
     runs_on =
         fresh_runs (keep_in schedule) (owned_of schedule) (names_of schedule) x.takes (at_moment w.moment w.server)
-        (moment_runs (keep_in schedule) (owned_of schedule) (names_of schedule) x.takes w.server runs.server w.moment) (n + 1) yours
+        (moment_runs (keep_in schedule) (owned_of schedule) (names_of schedule) x.takes w.server runs.simulation.server w.moment) (n + 1) yours
 
     within_dials : n + 1 ≤ b.dials
     within_dials = bounds
@@ -191,14 +191,14 @@ module _ (schedule : WireView) (right : IsLineList schedule) (b : Bounds) (small
       server = runs_on;
       takes = refl;
       moment = (let same : w.moment ≡ w.moment + 0 = omega arith in same);
-      now = max-eq_left (let looked = runs.now in omega (arith, looked)) ∙ runs.now;
-      fits = subst FitsHere moved_so (move_fits UpFits DownFits ServerFits ClientFits keep_here takes_any (Dial i mine yours) w runs.fits may);
-      stands = subst ServerStands moved_so (move_stands (Dial i mine yours) w tt runs.stands);
-      within = subst IsWorldWithin moved_so (move_within (Dial i mine yours) w runs.within few);
+      now = max-eq_left (let looked = runs.simulation.now in omega (arith, looked)) ∙ runs.simulation.now;
+      fits = subst FitsHere moved_so (move_fits UpFits DownFits ServerFits ClientFits keep_here takes_any (Dial i mine yours) w runs.in_bounds.fits may);
+      stands = subst ServerStands moved_so (move_stands (Dial i mine yours) w tt runs.in_bounds.stands);
+      within = subst IsWorldWithin moved_so (move_within (Dial i mine yours) w runs.in_bounds.within few);
     }
 
     taken : Taken x
-    taken = taken_along runs.led.events (begins schedule) x runs.led.reaches (taken_beginning (keep_of schedule.version) (accounts_of (steps_in schedule)) (map (λ (p : Owned). p.account) (owned_of schedule)))
+    taken = taken_along runs.in_bounds.led.events (begins schedule) x runs.in_bounds.led.reaches (taken_beginning (keep_of schedule.version) (accounts_of (steps_in schedule)) (map (λ (p : Owned). p.account) (owned_of schedule)))
 
     dial_runs : MoveSimulates schedule b says (Dial i mine yours) w x runs
     dial_runs =
@@ -225,6 +225,6 @@ module _ (schedule : WireView) (right : IsLineList schedule) (b : Bounds) (small
       go None none = nobody_runs schedule b says w x runs (Dial i mine yours) none
       go (Some e) there =
           let within = slice_get_within w.devices i e there in
-          let many = runs.many in
+          let many = runs.simulation.many in
           let owner = at_position i (owned_of schedule) (omega (arith, within, many)) in
           dial_runs owner.0 owner.1

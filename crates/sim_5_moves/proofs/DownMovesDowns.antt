@@ -38,7 +38,7 @@ module _ (schedule : WireView) (b : Bounds) (small : AreSmall b) (says : ℕ) (w
     i = wire.device
 
     abbrev old : DeviceSimulates schedule w x i o
-    old = runs.devices i o owned
+    old = runs.simulation.devices i o owned
 
     abbrev who : Identity
     who = identity_at schedule i o
@@ -99,4 +99,4 @@ module _ (schedule : WireView) (b : Bounds) (small : AreSmall b) (says : ℕ) (w
     where
       go : (n : Option ItemWire) → slice_get w.wires position ≡ n → Runs
       go None none = nobody_runs schedule b says w x runs (DownMove position) none
-      go (Some wire) there = let of = runs.wires position wire there in on_it_runs wire there of.0 of.1
+      go (Some wire) there = let of = runs.simulation.wires position wire there in on_it_runs wire there of.0 of.1

@@ -39,7 +39,7 @@ module _ (schedule : WireView) (b : Bounds) (says : ℕ) (w : ItemWorld) (x : Ap
     i = wire.device
 
     abbrev old : DeviceSimulates schedule w x i o
-    old = runs.devices i o owned
+    old = runs.simulation.devices i o owned
 
     abbrev who : Identity
     who = identity_at schedule i o
@@ -68,11 +68,11 @@ module _ (schedule : WireView) (b : Bounds) (says : ℕ) (w : ItemWorld) (x : Ap
         (record {
           is = refl;
           alone = cut_one up down;
-          fits = move_fits UpFits DownFits ServerFits ClientFits keep_here takes_any (Cut position up down) w runs.fits tt;
+          fits = move_fits UpFits DownFits ServerFits ClientFits keep_here takes_any (Cut position up down) w runs.in_bounds.fits tt;
           follows = cut_lifts who old.logins w old.view old.represents position wire there refl up down;
           user = unchanged;
           others = λ j p q other.
-              cut_leaves (identity_at schedule j p) (runs.devices j p q).logins w (runs.devices j p q).view (runs.devices j p q).represents position wire there (λ same. other (sym same)) up down;
+              cut_leaves (identity_at schedule j p) (runs.simulation.devices j p q).logins w (runs.simulation.devices j p q).view (runs.simulation.devices j p q).represents position wire there (λ same. other (sym same)) up down;
           silent = refl;
           asked = λ j e f same. same.0;
           nothing = λ j. refl;
@@ -92,12 +92,12 @@ module _ (schedule : WireView) (b : Bounds) (says : ℕ) (w : ItemWorld) (x : Ap
         (record {
           is = is;
           alone = one_called i w away (changed_at position down_end_reported w.wires) (length_where (Some position) down_end_reported w.wires) (where_same down_end_reported (λ v. refl) (Some position) w.wires);
-          fits = subst FitsHere is (move_fits UpFits DownFits ServerFits ClientFits keep_here takes_any (DownEnd position) w runs.fits tt);
+          fits = subst FitsHere is (move_fits UpFits DownFits ServerFits ClientFits keep_here takes_any (DownEnd position) w runs.in_bounds.fits tt);
           follows = subst (λ v. WorldFollows who old.logins v old.view []) is (end_lifts who old.logins w old.view old.represents position wire there refl (prompt_runs awaits old.view old.prompt));
           user = λ e at. subst (λ (y : ItemDevice). SameUser d.client y.client) (same_Some away e (sym (get_set_same w.devices i d away old.represents.there) ∙ at)) (same_user d.client phase.Apart);
           others = λ j p q other.
-              subst (λ v. Represents (identity_at schedule j p) (runs.devices j p q).logins v (runs.devices j p q).view) is
-              (end_leaves (identity_at schedule j p) (runs.devices j p q).logins w (runs.devices j p q).view (runs.devices j p q).represents position wire there (λ same. other (sym same)));
+              subst (λ v. Represents (identity_at schedule j p) (runs.simulation.devices j p q).logins v (runs.simulation.devices j p q).view) is
+              (end_leaves (identity_at schedule j p) (runs.simulation.devices j p q).logins w (runs.simulation.devices j p q).view (runs.simulation.devices j p q).represents position wire there (λ same. other (sym same)));
           silent = refl;
           asked = λ j e f same. same.0;
           nothing = λ j. refl;
@@ -131,11 +131,11 @@ module _ (schedule : WireView) (b : Bounds) (says : ℕ) (w : ItemWorld) (x : Ap
     where
       go : (n : Option ItemWire) → slice_get w.wires position ≡ n → MoveSimulates schedule b says (Cut position up down) w x runs
       go None none = nobody_runs schedule b says w x runs (Cut position up down) none
-      go (Some wire) there = let of = runs.wires position wire there in cut_runs position wire there of.0 of.1 up down
+      go (Some wire) there = let of = runs.simulation.wires position wire there in cut_runs position wire there of.0 of.1 up down
 
   pub each_end : (position : ℕ) → MoveSimulates schedule b says (DownEnd position) w x runs
   each_end position = go (slice_get w.wires position) refl
     where
       go : (n : Option ItemWire) → slice_get w.wires position ≡ n → MoveSimulates schedule b says (DownEnd position) w x runs
       go None none = nobody_runs schedule b says w x runs (DownEnd position) none
-      go (Some wire) there = let of = runs.wires position wire there in end_runs position wire there of.0 of.1
+      go (Some wire) there = let of = runs.simulation.wires position wire there in end_runs position wire there of.0 of.1

@@ -59,11 +59,11 @@ IsSo schedule after x views i d last = (o : Owned) × (is : IsOwned schedule i o
 module _ (schedule : WireView) (b : Bounds) (says : ℕ) (w : ItemWorld) (x : AppWorld) (runs : WorldSimulates schedule b says w x) (taken : Taken x) (after : ItemWorld) (passed : ℕ) (quiet : SilentWorld schedule b w x after passed) where
   -- its links before the move
   abbrev views : (i : ℕ) (o : Owned) → IsOwned schedule i o → View ItemOut
-  views i o is = (runs.devices i o is).view
+  views i o is = (runs.simulation.devices i o is).view
 
   module _ (i : ℕ) (o : Owned) (owned : IsOwned schedule i o) where
     abbrev old : DeviceSimulates schedule w x i o
-    old = runs.devices i o owned
+    old = runs.simulation.devices i o owned
 
     abbrev move : SilentDevice schedule w x i o old after
     move = quiet.devices i o owned old
@@ -104,10 +104,10 @@ module _ (schedule : WireView) (b : Bounds) (says : ℕ) (w : ItemWorld) (x : Ap
   device_stands : (i : ℕ) (d : Device) → slice_get x.devices i ≡ Some d → (y : HasSessionSteps d) × IsSo schedule after x views i d y.last
   device_stands i d there =
       let within = slice_get_within x.devices i d there in
-      let many = runs.many_there in
+      let many = runs.simulation.many_there in
       let owner = at_position i (owned_of schedule) (omega (arith, within, many)) in
-      let device = (runs.devices i owner.0 owner.1).device in
-      let same : device ≡ d = same_Some device d (sym (runs.devices i owner.0 owner.1).there ∙ there) in
+      let device = (runs.simulation.devices i owner.0 owner.1).device in
+      let same : device ≡ d = same_Some device d (sym (runs.simulation.devices i owner.0 owner.1).there ∙ there) in
       subst (λ e. (y : HasSessionSteps e) × IsSo schedule after x views i e y.last) same (old_stands i owner.0 owner.1)
 
   all : AllStep (IsSo schedule after x views) (record x { clock = x.clock + passed })
@@ -121,7 +121,7 @@ module _ (schedule : WireView) (b : Bounds) (says : ℕ) (w : ItemWorld) (x : Ap
 
   device_comes : (i : ℕ) (o : Owned) (is : IsOwned schedule i o) → Comes i o is
   device_comes i o owned =
-      let before = runs.devices i o owned in
+      let before = runs.simulation.devices i o owned in
       let e = all.each i before.device before.there in
       let st = e.1.2 in
       of_owner schedule i (Comes i) e.1.0 e.1.1 (
@@ -153,30 +153,34 @@ module _ (schedule : WireView) (b : Bounds) (says : ℕ) (w : ItemWorld) (x : Ap
       let many = all.many in
       let d = at_position i x.devices (omega (arith, within, many)) in
       let same = asked_same i d.0 e d.1 following in
-      let few = runs.asked i d.0 d.1 in
+      let few = runs.in_bounds.asked i d.0 d.1 in
       omega (arith, same, few)
 
   abbrev goes_on : WorldSimulates schedule b says after next
   goes_on = record {
-    led = record {
-      events = runs.led.events ++ (Tick passed ∷ all.events);
-      reaches = reaches_both runs.led.events (Tick passed ∷ all.events) (begins schedule) x next runs.led.reaches (record x { clock = x.clock + passed }, refl, all.reaches);
-      spoken = ap length (spoken_both runs.led.events (Tick passed ∷ all.events) ∙ ap (λ more. spoken_in runs.led.events ++ more) all.silent ∙ append-nil (spoken_in runs.led.events)) ∙ runs.led.spoken;
+    simulation = record {
+      devices = λ i o is. (device_comes i o is).0;
+      many = quiet.many ∙ runs.simulation.many;
+      many_there = all.many ∙ runs.simulation.many_there;
+      wires = quiet.wires;
+      server = quiet.server;
+      takes = quiet.takes ∙ runs.simulation.takes;
+      clock = ap (λ c. c + passed) runs.simulation.clock ∙ sym quiet.moment;
+      now = quiet.now;
     };
-    said = runs.said;
-    asked = asked_still;
-    dialled = quiet.dialled;
-    devices = λ i o is. (device_comes i o is).0;
-    many = quiet.many ∙ runs.many;
-    many_there = all.many ∙ runs.many_there;
-    wires = quiet.wires;
-    server = quiet.server;
-    takes = quiet.takes ∙ runs.takes;
-    clock = ap (λ c. c + passed) runs.clock ∙ sym quiet.moment;
-    now = quiet.now;
-    fits = quiet.fits;
-    stands = quiet.stands;
-    within = quiet.within;
+    in_bounds = record {
+      led = record {
+        events = runs.in_bounds.led.events ++ (Tick passed ∷ all.events);
+        reaches = reaches_both runs.in_bounds.led.events (Tick passed ∷ all.events) (begins schedule) x next runs.in_bounds.led.reaches (record x { clock = x.clock + passed }, refl, all.reaches);
+        spoken = ap length (spoken_both runs.in_bounds.led.events (Tick passed ∷ all.events) ∙ ap (λ more. spoken_in runs.in_bounds.led.events ++ more) all.silent ∙ append-nil (spoken_in runs.in_bounds.led.events)) ∙ runs.in_bounds.led.spoken;
+      };
+      said = runs.in_bounds.said;
+      asked = asked_still;
+      dialled = quiet.dialled;
+      fits = quiet.fits;
+      stands = quiet.stands;
+      within = quiet.within;
+    };
   }
 
   pub quiet_runs : SilentSimulates schedule b says w x runs after

@@ -54,7 +54,7 @@ use Rattle.xml_writer.specs.Items.{ItemOut}
 
 module _ (schedule : WireView) (b : Bounds) (says : ℕ) (w : ItemWorld) (x : AppWorld) (runs : WorldSimulates schedule b says w x) (i : ℕ) (o : Owned) (owned : IsOwned schedule i o) where
   abbrev r : DeviceSimulates schedule w x i o
-  r = runs.devices i o owned
+  r = runs.simulation.devices i o owned
 
   abbrev who : Identity
   who = identity_at schedule i o
@@ -66,7 +66,7 @@ module _ (schedule : WireView) (b : Bounds) (says : ℕ) (w : ItemWorld) (x : Ap
   gone = record { client = (forgets in_items (fed_of c.client)).turn.client; here = None }
 
   still_said : says + 0 ≤ b.says
-  still_said = let old = runs.said in omega (arith, old)
+  still_said = let old = runs.in_bounds.said in omega (arith, old)
 
   -- what is common to both
   module _ (m : ItemMove) (one : IsOneDevice i w (moved m w)) (fits : FitsHere (moved m w)) (there : slice_get (moved m w).devices i ≡ Some gone) (follows : WorldFollows who r.logins (moved m w) r.view (Drops ∷ [])) where
@@ -146,7 +146,7 @@ module _ (schedule : WireView) (b : Bounds) (says : ℕ) (w : ItemWorld) (x : Ap
   forgets_there = ap (λ (n : ItemWorld). slice_get n.devices i) forgot_is ∙ get_set_same w.devices i c gone r.represents.there
 
   forgets_fits : FitsHere (moved (Forget i) w)
-  forgets_fits = move_fits UpFits DownFits ServerFits ClientFits keep_here takes_any (Forget i) w runs.fits tt
+  forgets_fits = move_fits UpFits DownFits ServerFits ClientFits keep_here takes_any (Forget i) w runs.in_bounds.fits tt
 
   forgets_follows : WorldFollows who r.logins (moved (Forget i) w) r.view (Drops ∷ [])
   forgets_follows = forget_lifts who r.logins w r.view r.represents (prompt_runs awaits r.view r.prompt)
@@ -154,7 +154,7 @@ module _ (schedule : WireView) (b : Bounds) (says : ℕ) (w : ItemWorld) (x : Ap
   pub forget_runs : MoveSimulates schedule b says (Forget i) w x runs
   forget_runs =
       move_runs schedule b says (Forget i) w x runs i o owned forgets_one forgets_fits
-      (λ j p is other. forget_leaves (identity_at schedule j p) (runs.devices j p is).logins w (runs.devices j p is).view (runs.devices j p is).represents i other c r.represents.there (of_its_own who r.logins w r.view r.represents j other))
+      (λ j p is other. forget_leaves (identity_at schedule j p) (runs.simulation.devices j p is).logins w (runs.simulation.devices j p is).view (runs.simulation.devices j p is).represents i other c r.represents.there (of_its_own who r.logins w r.view r.represents j other))
       (Drops ∷ []) (g (Forget i) forgets_one forgets_fits forgets_there forgets_follows)
       (session_stepped (Forget i) forgets_one forgets_fits forgets_there forgets_follows).0
       (at (Forget i) forgets_one forgets_fits forgets_there forgets_follows)
@@ -170,7 +170,7 @@ module _ (schedule : WireView) (b : Bounds) (says : ℕ) (w : ItemWorld) (x : Ap
         flags = flags_are (Forget i) forgets_one forgets_fits forgets_there forgets_follows;
         spoken = refl;
         said = still_said;
-        within = runs.asked i r.device r.there;
+        within = runs.in_bounds.asked i r.device r.there;
         asked = refl;
         others_asked = λ j d other. refl;
         does = inr refl;
@@ -199,7 +199,7 @@ module _ (schedule : WireView) (b : Bounds) (says : ℕ) (w : ItemWorld) (x : Ap
       ∙ ap (λ client. Some (record { client = client; here = None })) (close_client c.client)
 
   closes_fits : FitsHere (moved (Close i) w)
-  closes_fits = move_fits UpFits DownFits ServerFits ClientFits keep_here takes_any (Close i) w runs.fits tt
+  closes_fits = move_fits UpFits DownFits ServerFits ClientFits keep_here takes_any (Close i) w runs.in_bounds.fits tt
 
   closes_follows : WorldFollows who r.logins (moved (Close i) w) r.view (Drops ∷ [])
   closes_follows = close_lifts who r.logins w r.view r.represents (prompt_runs awaits r.view r.prompt)
@@ -207,7 +207,7 @@ module _ (schedule : WireView) (b : Bounds) (says : ℕ) (w : ItemWorld) (x : Ap
   pub close_runs : MoveSimulates schedule b says (Close i) w x runs
   close_runs =
       move_runs schedule b says (Close i) w x runs i o owned closes_one closes_fits
-      (λ j p is other. close_leaves (identity_at schedule j p) (runs.devices j p is).logins w (runs.devices j p is).view (runs.devices j p is).represents i other c r.represents.there (of_its_own who r.logins w r.view r.represents j other))
+      (λ j p is other. close_leaves (identity_at schedule j p) (runs.simulation.devices j p is).logins w (runs.simulation.devices j p is).view (runs.simulation.devices j p is).represents i other c r.represents.there (of_its_own who r.logins w r.view r.represents j other))
       (Drops ∷ []) (g (Close i) closes_one closes_fits closes_there closes_follows)
       (session_stepped (Close i) closes_one closes_fits closes_there closes_follows).0
       (at (Close i) closes_one closes_fits closes_there closes_follows)
@@ -223,7 +223,7 @@ module _ (schedule : WireView) (b : Bounds) (says : ℕ) (w : ItemWorld) (x : Ap
         flags = flags_are (Close i) closes_one closes_fits closes_there closes_follows;
         spoken = refl;
         said = still_said;
-        within = runs.asked i r.device r.there;
+        within = runs.in_bounds.asked i r.device r.there;
         asked = refl;
         others_asked = λ j d other. refl;
         does = inr refl;

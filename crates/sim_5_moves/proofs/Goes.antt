@@ -51,8 +51,8 @@ module _ (schedule : WireView) (right : IsLineList schedule) where
 module _ (schedule : WireView) (b : Bounds) (small : AreSmall b) (says : ℕ) (w : ItemWorld) (x : AppWorld) (runs : WorldSimulates schedule b says w x) where
   pub has_number : HasNumber w.server
   has_number =
-      let next = next_within (length w.wires) w.server runs.within in
-      let dialled = runs.dialled in
+      let next = next_within (length w.wires) w.server runs.in_bounds.within in
+      let dialled = runs.in_bounds.dialled in
       let most = small.dials in
       omega (arith, next, dialled, most)
 
@@ -62,8 +62,8 @@ module _ (schedule : WireView) (b : Bounds) (small : AreSmall b) (says : ℕ) (w
   pub countable : (i : ℕ) (o : Owned) (old : DeviceSimulates schedule w x i o) → AreCountable old.view
   countable i o old = record {
     few = λ q s is.
-        (run_few stanzas_read (keep_of schedule.version) (accounts_of (steps_in schedule)) (map (λ (p : Owned). p.account) (owned_of schedule)) runs.led.events x runs.led.reaches i old.device old.there b.says b.pages
-        (subst (λ n. n ≤ b.says) (sym runs.led.spoken) runs.said) (runs.asked i old.device old.there) small.stanzas old.view old.sessions q s is).1;
+        (run_few stanzas_read (keep_of schedule.version) (accounts_of (steps_in schedule)) (map (λ (p : Owned). p.account) (owned_of schedule)) runs.in_bounds.led.events x runs.in_bounds.led.reaches i old.device old.there b.says b.pages
+        (subst (λ n. n ≤ b.says) (sym runs.in_bounds.led.spoken) runs.in_bounds.said) (runs.in_bounds.asked i old.device old.there) small.stanzas old.view old.sessions q s is).1;
   }
 
   -- the item that goes up on a connection of the device

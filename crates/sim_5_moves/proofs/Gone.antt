@@ -13,4 +13,4 @@ use Rattle.sim_5_moves.specs.Running.{Bounds, WorldSimulates}
 
 pub device_paged : (schedule : WireView) (b : Bounds) (says : ℕ) (w : ItemWorld) (x : AppWorld) → WorldSimulates schedule b says w x → (i : ℕ) (d : Device) → slice_get x.devices i ≡ Some d → IsPaged d
 device_paged schedule b says w x runs i d there =
-    from_beginning Paged paged_kept paged_begins (keep_of schedule.version) (accounts_of (steps_in schedule)) (map (λ (o : Owned). o.account) (owned_of schedule)) runs.led.events x runs.led.reaches i d there
+    from_beginning Paged paged_kept paged_begins (keep_of schedule.version) (accounts_of (steps_in schedule)) (map (λ (o : Owned). o.account) (owned_of schedule)) runs.in_bounds.led.events x runs.in_bounds.led.reaches i d there

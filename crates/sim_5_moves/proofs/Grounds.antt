@@ -35,15 +35,15 @@ module _ (schedule : WireView) (right : IsLineList schedule) (b : Bounds) (small
   home : (i : ℕ) (d : Device) → slice_get x.devices i ≡ Some d → (o : Owned) × (slice_get (owned_of schedule) i ≡ Some o) × (d.account ≡ o.account)
   home i d at =
       let within = slice_get_within x.devices i d at in
-      let many = runs.many_there in
+      let many = runs.simulation.many_there in
       let o = get_or (owned_of schedule) i (record { device = []; account = [] }) in
       let owned : slice_get (owned_of schedule) i ≡ Some o = slice_get-get_or (owned_of schedule) i (record { device = []; account = [] }) (omega (arith, within, many)) in
-      let one = runs.devices i o owned in
+      let one = runs.simulation.devices i o owned in
       (o, owned, ap (λ (e : Device). e.account) (same_Some d one.device (sym at ∙ one.there)) ∙ one.account)
 
   named : AreNamed (owned_of schedule) x
   named = record {
-    accounts = subst (AllByRecursion (λ name. is_name name ≡ true)) (sym (later_along runs.led.events (begins schedule) x runs.led.reaches).accounts)
+    accounts = subst (AllByRecursion (λ name. is_name name ≡ true)) (sym (later_along runs.in_bounds.led.events (begins schedule) x runs.in_bounds.led.reaches).accounts)
         (all_names (names_of schedule) (are_names (names_of schedule) (are_accounts schedule (may_run_all schedule right))));
     devices = all_positions IsNamed (owned_of schedule) (λ i o at. let known = declared schedule i o right at in record { account = known.account; device = known.device });
     homes = home;
@@ -51,18 +51,18 @@ module _ (schedule : WireView) (right : IsLineList schedule) (b : Bounds) (small
 
   few : length x.takes < 2 ^ 64
   few =
-      let takes = takes_few (keep_in schedule) (names_of schedule) _ runs.led.events x runs.led.reaches in
-      let spoken = runs.led.spoken in
-      let said = runs.said in
+      let takes = takes_few (keep_in schedule) (names_of schedule) _ runs.in_bounds.led.events x runs.in_bounds.led.reaches in
+      let spoken = runs.in_bounds.led.spoken in
+      let said = runs.in_bounds.said in
       let bounded = small.stanzas in
       omega (arith, takes, spoken, said, bounded)
 
   pub ground : IsGround schedule x
   ground = record {
-    taken = taken_along runs.led.events (begins schedule) x runs.led.reaches (taken_beginning (keep_in schedule) (names_of schedule) _);
-    read = read_along runs.led.events (begins schedule) x runs.led.reaches (taken_beginning (keep_in schedule) (names_of schedule) _)
+    taken = taken_along runs.in_bounds.led.events (begins schedule) x runs.in_bounds.led.reaches (taken_beginning (keep_in schedule) (names_of schedule) _);
+    read = read_along runs.in_bounds.led.events (begins schedule) x runs.in_bounds.led.reaches (taken_beginning (keep_in schedule) (names_of schedule) _)
         (read_beginning (keep_in schedule) (some_kept schedule.version right.keeps) (names_of schedule) _);
-    keeps = (later_along runs.led.events (begins schedule) x runs.led.reaches).keep;
+    keeps = (later_along runs.in_bounds.led.events (begins schedule) x runs.in_bounds.led.reaches).keep;
     named = named;
     few = few;
   }

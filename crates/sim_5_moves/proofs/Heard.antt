@@ -11,7 +11,6 @@ use Rattle.base_lemmas.proofs.Bytes.{bytes_eq-self}
 use Rattle.srv_state.specs.State.{ServerState, archive_at, session_address}
 use Rattle.im_forwarding.specs.Copies.{copy_item}
 use Rattle.im_forwarding.specs.Passed.{passed_item}
-use Rattle.sim_3_images.proofs.NamedDevices.{normal_full}
 use Rattle.sim_4_links_follow.proofs.Own.{twice_left}
 use Rattle.sim_5_moves.proofs.Carried.{copied, copied_to, delivered, delivered_to}
 use Rattle.sim_5_moves.proofs.HearingSums.{where_so}
@@ -37,6 +36,7 @@ use Rattle.srv_route.specs.Messages.{is_copied}
 use Rattle.srv_route.specs.Plans.{is_ready, ready_of}
 use Rattle.cmd_schedule.specs.Contents.{Owned}
 use Rattle.sim_3_items.specs.Built.{IsDown, IsDownAs}
+use Rattle.sim_3_items.proofs.FullAddresses.{full_normal}
 use Rattle.sim_1_applications.proofs.Archives.{last_grows}
 use Rattle.sim_1_applications.specs.Devices.{Take, concerns, last_of}
 use Rattle.sim_1_applications.specs.Stanzas.{Down, Submission}
@@ -143,7 +143,7 @@ module _ {keep : ℕ} {owned : List Owned} {names : List (List ℕ)} {takes : Li
     from_normal : normal (session_address s.shown.number h) ≡ Ok (session_address s.shown.number h)
     from_normal =
         subst (λ a. normal a ≡ Ok a) (sym (full_is names h x.runs.configured owned i o s x.session))
-        (normal_full o.account o.device (is_named x s.shown.account o.account x.session.account) x.said.origin.device)
+        (full_normal o.account o.device (is_named x s.shown.account o.account x.session.account) x.said.origin.device)
 
     to_normal : normal (m.to ++ 64 ∷ h.domain) ≡ Ok (m.to ++ 64 ∷ h.domain)
     to_normal = normal_to x

@@ -28,34 +28,34 @@ use Rattle.sim_5_moves.specs.Running.{AreSmall, Bounds, DeviceSimulates, IsOwned
 
 -- a device that the world has is one of the schedule's
 pub owned_there : (schedule : WireView) (b : Bounds) (says : ℕ) (w : ItemWorld) (x : AppWorld) → WorldSimulates schedule b says w x → (i : ℕ) (d : ItemDevice) → slice_get w.devices i ≡ Some d → (o : Owned) × IsOwned schedule i o
-owned_there schedule b says w x runs i d there = there_too w.devices (owned_of schedule) i d runs.many there
+owned_there schedule b says w x runs i d there = there_too w.devices (owned_of schedule) i d runs.simulation.many there
 
 module _ (schedule : WireView) (right : IsLineList schedule) (b : Bounds) (small : AreSmall b) (says : ℕ) (w : ItemWorld) (x : AppWorld) (runs : WorldSimulates schedule b says w x) where
   taken : Taken x
-  taken = taken_along runs.led.events (begins schedule) x runs.led.reaches (taken_beginning (keep_in schedule) (names_of schedule) _)
+  taken = taken_along runs.in_bounds.led.events (begins schedule) x runs.in_bounds.led.reaches (taken_beginning (keep_in schedule) (names_of schedule) _)
 
   read : Read x
   read =
-      read_along runs.led.events (begins schedule) x runs.led.reaches (taken_beginning (keep_in schedule) (names_of schedule) _)
+      read_along runs.in_bounds.led.events (begins schedule) x runs.in_bounds.led.reaches (taken_beginning (keep_in schedule) (names_of schedule) _)
       (read_beginning (keep_in schedule) (some_kept schedule.version right.keeps) (names_of schedule) _)
 
   few : length x.takes < 2 ^ 64
   few =
-      let takes = takes_few (keep_in schedule) (names_of schedule) _ runs.led.events x runs.led.reaches in
-      let spoken = runs.led.spoken in
-      let said = runs.said in
+      let takes = takes_few (keep_in schedule) (names_of schedule) _ runs.in_bounds.led.events x runs.in_bounds.led.reaches in
+      let spoken = runs.in_bounds.led.spoken in
+      let said = runs.in_bounds.said in
       let bounded = small.stanzas in
       omega (arith, takes, spoken, said, bounded)
 
   module _ (i : ℕ) (o : Owned) (owned : IsOwned schedule i o) where
     abbrev r : DeviceSimulates schedule w x i o
-    r = runs.devices i o owned
+    r = runs.simulation.devices i o owned
 
     pub device_named : is_name o.device ≡ true
     device_named = (declared schedule i o right owned).device
 
     pub within : IsClientWithin r.represents.device.client
-    within = client_within w i r.represents.device runs.fits r.represents.there
+    within = client_within w i r.represents.device runs.in_bounds.fits r.represents.there
 
     pub acked : IsAcked r.device.sessions
     acked = (taken.devices i r.device r.there).sessions.now.is_session.acked
@@ -64,20 +64,20 @@ module _ (schedule : WireView) (right : IsLineList schedule) (b : Bounds) (small
     pub numbers_fit : r.represents.device.client.n + 1 < 2 ^ 64
     numbers_fit =
         let same = r.submissions.n in
-        let few = n_few (keep_in schedule) (names_of schedule) _ runs.led.events x runs.led.reaches i r.device r.there in
-        let fewer = said_few i runs.led.events in
-        let spoken = runs.led.spoken in
-        let said = runs.said in
+        let few = n_few (keep_in schedule) (names_of schedule) _ runs.in_bounds.led.events x runs.in_bounds.led.reaches i r.device r.there in
+        let fewer = said_few i runs.in_bounds.led.events in
+        let spoken = runs.in_bounds.led.spoken in
+        let said = runs.in_bounds.said in
         let bounded = small.stanzas in
         omega (arith, same, few, fewer, spoken, said, bounded)
 
     pub paged : IsPaged r.device
-    paged = from_beginning Paged paged_kept paged_begins (keep_in schedule) (names_of schedule) _ runs.led.events x runs.led.reaches i r.device r.there
+    paged = from_beginning Paged paged_kept paged_begins (keep_in schedule) (names_of schedule) _ runs.in_bounds.led.events x runs.in_bounds.led.reaches i r.device r.there
 
     pub pages_fit : r.represents.device.client.pages + 1 < 2 ^ 64
     pages_fit =
         let same = r.pages in
-        let few = runs.asked i r.device r.there in
+        let few = runs.in_bounds.asked i r.device r.there in
         let bounded = small.stanzas in
         omega (arith, same, few, bounded)
 

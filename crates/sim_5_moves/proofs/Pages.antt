@@ -1,14 +1,14 @@
 -- What is sent of a page is read as its stanzas.
-use Rattle.std.proofs.Common.{◌≡◌, ℕ, zero, suc, ◌+◌, ◌-◌, ◌≤◌, List, [], ◌∷◌, ◌++◌, Option, Some, None, length, take, drop, map, refl, sym, ap, subst, ◌∙◌, arith, inl, inr}
+use Rattle.std.proofs.Common.{◌≡◌, ℕ, zero, suc, ◌+◌, ◌-◌, ◌≤◌, List, [], ◌∷◌, ◌++◌, Option, Some, None, length, take, map, refl, sym, ap, subst, ◌∙◌, arith, inl, inr}
 use Rattle.std.proofs.lemmas.Bool.{cases_lt}
-use Rattle.std.proofs.lemmas.Option.{none-some, slice_get_within}
+use Rattle.std.proofs.lemmas.Option.{slice_get_within}
 use Rattle.std.specs.List.{AllByRecursion, slice_get}
 use Rattle.std.specs.Option.{IfSome, option_map}
 use Rattle.mam_archive.specs.Entries.{AreKept, EntryView, entry_numbered}
 use Rattle.mam_archive.specs.Ids.{id_of}
 use Rattle.srv_state.specs.State.{Kept, ServerState}
 use Rattle.srv_state.specs.Steps.{Act, Send}
-use Rattle.cmd_direct.proofs.NextPages.{entry_is, kept_follow, page_after_kept, page_after_purged, page_of_first}
+use Rattle.cmd_direct.proofs.NextPages.{entry_is, get_in_drop, get_in_take, kept_follow, page_after_kept, page_after_purged, page_of_first}
 use Rattle.cmd_direct.specs.Direct.{query_after}
 use Rattle.cmd_direct.specs.NextPages.{cut_at, kept_after, purged}
 use Rattle.im_forwarding.specs.Queries.{no_such_place}
@@ -51,17 +51,6 @@ pub record IsCut (entries : List EntryView) (cut : CutView) : Type 0 where
 numbers_there : (all xs : List EntryView) → ((i : ℕ) (e : EntryView) → slice_get xs i ≡ Some e → IsThere all e.number) → AllByRecursion (IsThere all) (map number_of xs)
 numbers_there all [] each = tt
 numbers_there all (x ∷ xs) each = (each zero x refl, numbers_there all xs (λ i e at. each (suc i) e at))
-
-get_in_take : (m : ℕ) (xs : List EntryView) (i : ℕ) (x : EntryView) → slice_get (take m xs) i ≡ Some x → slice_get xs i ≡ Some x
-get_in_take zero xs i x at = absurd (none-some x at)
-get_in_take (suc m) [] i x at = absurd (none-some x at)
-get_in_take (suc m) (y ∷ ys) zero x at = at
-get_in_take (suc m) (y ∷ ys) (suc i) x at = get_in_take m ys i x at
-
-pub get_in_drop : (k : ℕ) (xs : List EntryView) (i : ℕ) (x : EntryView) → slice_get (drop k xs) i ≡ Some x → slice_get xs (k + i) ≡ Some x
-get_in_drop zero xs i x at = let same : zero + i ≡ i = omega arith in rw same at
-get_in_drop (suc k) [] i x at = absurd (none-some x at)
-get_in_drop (suc k) (y ∷ ys) i x at = let same : suc k + i ≡ suc (k + i) = omega arith in rw same (get_in_drop k ys i x at)
 
 module _ (keep last : ℕ) (kept : List EntryView) (known : AreKept keep last kept) where
   there : (i : ℕ) (e : EntryView) → slice_get kept i ≡ Some e → IsThere kept e.number

@@ -31,7 +31,7 @@ quiet_device schedule w x after i o old same follows flags = record {
 module _ (schedule : WireView) (b : Bounds) (says : ℕ) (w : ItemWorld) (x : AppWorld) (runs : WorldSimulates schedule b says w x) where
   pub taken : Taken x
   taken =
-      taken_along runs.led.events (begins schedule) x runs.led.reaches
+      taken_along runs.in_bounds.led.events (begins schedule) x runs.in_bounds.led.reaches
       (taken_beginning (keep_of schedule.version) (accounts_of (steps_in schedule)) (map (λ (o : Owned). o.account) (owned_of schedule)))
 
   -- by the move nobody says anything, and nobody asks for a page

@@ -111,10 +111,10 @@ pub record Coming : Type 0 where
   pub pipe : wire.up.items ≡ z ∷ items
   pub o : Owned
   pub owned : IsOwned schedule wire.device o
-  pub first : IsFirst (identity_at schedule wire.device o) (runs.devices wire.device o owned).logins w.server (by_number w.wires) (runs.devices wire.device o owned).view (position + 1) (UpTraffic (St z))
+  pub first : IsFirst (identity_at schedule wire.device o) (runs.simulation.devices wire.device o owned).logins w.server (by_number w.wires) (runs.simulation.devices wire.device o owned).view (position + 1) (UpTraffic (St z))
   pub session : IsOfSession (identity_at schedule wire.device o) w.server z
   -- and so the links of devices move
-  pub here : IsGivenIn (identity_at schedule wire.device o) (identity_at schedule wire.device o) (runs.devices wire.device o owned).logins position w (moved (Up position) w) (runs.devices wire.device o owned).view z session (takes_it z)
+  pub here : IsGivenIn (identity_at schedule wire.device o) (identity_at schedule wire.device o) (runs.simulation.devices wire.device o owned).logins position w (moved (Up position) w) (runs.simulation.devices wire.device o owned).view z session (takes_it z)
   pub beside : (whom : Identity) (others : ℕ → Login) (u : View ItemOut) → IsOtherRepresented (identity_at schedule wire.device o) whom others w u → IsGivenIn (identity_at schedule wire.device o) whom others position w (moved (Up position) w) u z session (takes_nothing z)
 
 module _ (c : Coming) where
@@ -125,7 +125,7 @@ module _ (c : Coming) where
   own = identity_at c.schedule c.wire.device c.o
 
   abbrev pub old : DeviceSimulates c.schedule c.w c.x c.wire.device c.o
-  old = c.runs.devices c.wire.device c.o c.owned
+  old = c.runs.simulation.devices c.wire.device c.o c.owned
 
   abbrev pub server_state : ServerState ItemOut
   server_state = c.w.server
@@ -152,7 +152,7 @@ module _ (c : Coming) where
   step_is = stanza_step own old.logins server_state (by_number c.w.wires) old.view (c.position + 1) c.z c.first c.session
 
   pub rule : IsRule server_state.sessions server_state.next
-  rule = c.runs.within.ordered.sessions
+  rule = c.runs.in_bounds.within.ordered.sessions
 
   pub built_up : IsUp c.o c.z
   built_up = stanza_built own old.logins server_state (by_number c.w.wires) old.view (c.position + 1) c.z c.first c.o (history_for c.schedule c.x.takes c.o) old.built
@@ -160,7 +160,7 @@ module _ (c : Coming) where
   -- ---- devices
 
   abbrev pub run_of : (j : ℕ) (p : Owned) → IsOwned c.schedule j p → DeviceSimulates c.schedule c.w c.x j p
-  run_of j p is = c.runs.devices j p is
+  run_of j p is = c.runs.simulation.devices j p is
 
   pub of : (j : ℕ) (p : Owned) → IsOwned c.schedule j p → IsDeviceOf (owned_of c.schedule) (names_of c.schedule) (identity_at c.schedule j p) p
   of j p is = device_of c.schedule c.right j p is
@@ -221,7 +221,7 @@ module _ (c : Coming) where
   -- ---- the world of the applications
 
   pub accounts_are : c.x.accounts ≡ names_of c.schedule
-  accounts_are = (later_along c.runs.led.events (begins c.schedule) c.x c.runs.led.reaches).accounts
+  accounts_are = (later_along c.runs.in_bounds.led.events (begins c.schedule) c.x c.runs.in_bounds.led.reaches).accounts
 
   pub around_is : around c.x old.device ≡ around_of (keep_in c.schedule) (names_of c.schedule) c.x.takes c.o.account
   around_is = λ k. record {
@@ -233,9 +233,9 @@ module _ (c : Coming) where
 
   pub few : length c.x.takes < GREATEST_NUMBER
   few =
-      let takes = takes_few (keep_in c.schedule) (names_of c.schedule) (map (λ (p : Owned). p.account) (owned_of c.schedule)) c.runs.led.events c.x c.runs.led.reaches in
-      let spoken = c.runs.led.spoken in
-      let said = c.runs.said in
+      let takes = takes_few (keep_in c.schedule) (names_of c.schedule) (map (λ (p : Owned). p.account) (owned_of c.schedule)) c.runs.in_bounds.led.events c.x c.runs.in_bounds.led.reaches in
+      let spoken = c.runs.in_bounds.led.spoken in
+      let said = c.runs.in_bounds.said in
       let bounded = c.small.stanzas in
       omega (arith, takes, spoken, said, bounded)
 

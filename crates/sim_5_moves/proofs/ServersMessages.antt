@@ -77,7 +77,7 @@ module _ (c : Coming) (m : Submission) (reads : up_stanza c.z ≡ Message m) (ex
   served_take = record { device = mine c; account = c.o.account; said = m; moment = (server_state c).moment }
 
   same_take : served_take ≡ t
-  same_take = λ k. record { device = mine c; account = sym (old c).account k; said = m; moment = (c.runs.now ∙ sym c.runs.clock) k }
+  same_take = λ k. record { device = mine c; account = sym (old c).account k; said = m; moment = (c.runs.simulation.now ∙ sym c.runs.simulation.clock) k }
 
   abbrev all : List Take
   all = takes_with c.x (mine c) (old c).device m
@@ -96,8 +96,8 @@ module _ (c : Coming) (m : Submission) (reads : up_stanza c.z ≡ Message m) (ex
   told_so =
       let more = taken_now (names_of c.schedule) (server_state c) (mine c) c.o m in
       let told : takes_reported c.w.moment (step c).outs ≡ map (take_reported (owned_of c.schedule)) more =
-      ap (λ n. takes_reported n (step c).outs) (sym c.runs.now) ∙ ap (λ (s : Step ItemOut). takes_reported (server_state c).moment s.outs) (step_is c) ∙ told_after x in
-      ap (λ l. l ++ takes_reported c.w.moment (step c).outs) c.runs.takes ∙ ap (λ l. map (take_reported (owned_of c.schedule)) c.x.takes ++ l) told ∙ sym (map-append (take_reported (owned_of c.schedule)) c.x.takes more)
+      ap (λ n. takes_reported n (step c).outs) (sym c.runs.simulation.now) ∙ ap (λ (s : Step ItemOut). takes_reported (server_state c).moment s.outs) (step_is c) ∙ told_after x in
+      ap (λ l. l ++ takes_reported c.w.moment (step c).outs) c.runs.simulation.takes ∙ ap (λ l. map (take_reported (owned_of c.schedule)) c.x.takes ++ l) told ∙ sym (map-append (take_reported (owned_of c.schedule)) c.x.takes more)
       ∙ ap (map (take_reported (owned_of c.schedule))) all_is
 
   flags_kept : (account : ℕ) (resource : List ℕ) → AreFlagsKept account resource (server_state c) (step c).server_state

@@ -231,5 +231,5 @@ module _ (c : Coming) (y : Up) (is : IsReply c y) where
     stands = own_stands;
     asked = same_asked a y (old c).device.reading;
     server = is.server;
-    told = ap (λ l. c.w.takes ++ l) is.told ∙ append-nil c.w.takes ∙ c.runs.takes;
+    told = ap (λ l. c.w.takes ++ l) is.told ∙ append-nil c.w.takes ∙ c.runs.simulation.takes;
   }

@@ -41,7 +41,7 @@ module _ (c : Coming) where
   by Carbons reads = replied Carbons (served_reply c Carbons reads refl tt)
   by Presence reads = replied Presence (served_reply c Presence reads refl tt)
   by (Message m) reads = elim (cases_Bool (is_among m.to (names_of c.schedule))) [
-    | inl exists ↦ handled_runs c (takes_with c.x c.wire.device (c.runs.devices c.wire.device c.o c.owned).device m) (message_is_handled c m reads exists)
+    | inl exists ↦ handled_runs c (takes_with c.x c.wire.device (c.runs.simulation.devices c.wire.device c.o c.owned).device m) (message_is_handled c m reads exists)
     | inr nobody ↦ replied (Message m) (nobody_reply c m reads nobody)
   ]
   by (Query r) reads = replied (Query r) (served_reply c (Query r) reads refl (is_asked c r reads))
@@ -53,12 +53,12 @@ module _ (c : Coming) where
 
 module _ (schedule : WireView) (right : IsLineList schedule) (b : Bounds) (small : AreSmall b) (says : ℕ) (w : ItemWorld) (x : AppWorld) (runs : WorldSimulates schedule b says w x) (ground : IsGround schedule x) (position : ℕ) (wire : ItemWire) (i : ItemOut) (items : List ItemOut)
     (there : slice_get w.wires position ≡ Some wire) (pipe : wire.up.items ≡ i ∷ items) (o : Owned) (owned : IsOwned schedule wire.device o)
-    (g : ItemGoesUp (identity_at schedule wire.device o) (runs.devices wire.device o owned).logins w (runs.devices wire.device o owned).view position wire i) (z : ItemOut) (word : g.has.word ≡ UpTraffic (St z)) where
+    (g : ItemGoesUp (identity_at schedule wire.device o) (runs.simulation.devices wire.device o owned).logins w (runs.simulation.devices wire.device o owned).view position wire i) (z : ItemOut) (word : g.has.word ≡ UpTraffic (St z)) where
   abbrev who : Identity
   who = identity_at schedule wire.device o
 
   abbrev old : DeviceSimulates schedule w x wire.device o
-  old = runs.devices wire.device o owned
+  old = runs.simulation.devices wire.device o owned
 
   same : z ≡ i
   same = ap (up_item who (old.logins (position + 1))) (sym word) ∙ g.has.is

@@ -22,7 +22,7 @@ use Rattle.xml_writer.specs.Items.{ItemOut}
 module _ (schedule : WireView) (b : Bounds) (right : IsLineList schedule) (small : AreSmall b) (says position : ℕ) (w : ItemWorld) (x : AppWorld) (runs : WorldSimulates schedule b says w x) (ground : IsGround schedule x) where
   module _ (wire : ItemWire) (i : ItemOut) (items : List ItemOut) (there : slice_get w.wires position ≡ Some wire) (pipe : wire.up.items ≡ i ∷ items) (o : Owned) (owned : IsOwned schedule wire.device o) where
     abbrev old : DeviceSimulates schedule w x wire.device o
-    old = runs.devices wire.device o owned
+    old = runs.simulation.devices wire.device o owned
 
     g : ItemGoesUp (identity_at schedule wire.device o) old.logins w old.view position wire i
     g = goes_up schedule b small says w x runs position wire i items there pipe wire.device o old refl
@@ -47,7 +47,7 @@ module _ (schedule : WireView) (b : Bounds) (right : IsLineList schedule) (small
 
   by_items : (wire : ItemWire) → slice_get w.wires position ≡ Some wire → (items : List ItemOut) → wire.up.items ≡ items → MoveSimulates schedule b says (Up position) w x runs
   by_items wire there [] none = up_runs schedule b says w x runs position wire there none
-  by_items wire there (i ∷ items) pipe = let owner = runs.wires position wire there in item_runs wire i items there pipe owner.0 owner.1
+  by_items wire there (i ∷ items) pipe = let owner = runs.simulation.wires position wire there in item_runs wire i items there pipe owner.0 owner.1
 
   by_wire : (e : Option ItemWire) → slice_get w.wires position ≡ e → MoveSimulates schedule b says (Up position) w x runs
   by_wire None none = nobody_runs schedule b says w x runs (Up position) none

@@ -52,7 +52,7 @@ IsStill d e = (e.reading.asked ≡ d.reading.asked) × (IsUnanswered d → IsUna
 
 module _ (schedule : WireView) (b : Bounds) (says : ℕ) (m : ItemMove) (w : ItemWorld) (x : AppWorld) (runs : WorldSimulates schedule b says w x) (i : ℕ) (o : Owned) (owned : IsOwned schedule i o) where
   abbrev old : DeviceSimulates schedule w x i o
-  old = runs.devices i o owned
+  old = runs.simulation.devices i o owned
 
   abbrev who : Identity
   who = identity_at schedule i o
@@ -67,7 +67,7 @@ module _ (schedule : WireView) (b : Bounds) (says : ℕ) (m : ItemMove) (w : Ite
     pub fits : FitsHere after
     pub follows : WorldFollows who old.logins after old.view []
     pub user : (e : ItemDevice) → slice_get after.devices i ≡ Some e → SameUser old.represents.device.client e.client
-    pub others : (j : ℕ) (p : Owned) (q : IsOwned schedule j p) → j ≢ i → Represents (identity_at schedule j p) (runs.devices j p q).logins after (runs.devices j p q).view
+    pub others : (j : ℕ) (p : Owned) (q : IsOwned schedule j p) → j ≢ i → Represents (identity_at schedule j p) (runs.simulation.devices j p q).logins after (runs.simulation.devices j p q).view
     pub silent : spoken_by_move m w ≡ []
     pub asked : (j : ℕ) (d e : Device) → IsStill d e → IsAskedBy m w j d e
     pub nothing : (j : ℕ) → DoesBy m w j []
@@ -148,8 +148,8 @@ module _ (schedule : WireView) (b : Bounds) (says : ℕ) (m : ItemMove) (w : Ite
       fits = c.fits;
       events = events;
       reaches = reaches;
-      said = subst (λ (l : List Spoken). says + length l ≤ b.says) (sym silent) (let said = runs.said in omega (arith, said));
-      asked = runs.asked i old.device old.there;
+      said = subst (λ (l : List Spoken). says + length l ≤ b.says) (sym silent) (let said = runs.in_bounds.said in omega (arith, said));
+      asked = runs.in_bounds.asked i old.device old.there;
       device = device_runs;
       done = [];
       leads = (f.moves, f.leads, f.does);

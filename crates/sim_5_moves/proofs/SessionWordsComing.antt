@@ -68,8 +68,8 @@ pub record Coming (schedule : WireView) (b : Bounds) (says : ℕ) (w : ItemWorld
   pub o : Owned
   pub owned : IsOwned schedule wire.device o
   pub z : ItemOut
-  pub item : IsNextItem position wire.device w (runs.devices wire.device o owned).represents.device wire z
-  pub read : HearingFollows (identity_at schedule wire.device o) (runs.devices wire.device o owned).logins (runs.devices wire.device o owned).represents.device (by_number w.wires) (runs.devices wire.device o owned).view (position + 1) wire (client_step_on z (runs.devices wire.device o owned).represents.device)
+  pub item : IsNextItem position wire.device w (runs.simulation.devices wire.device o owned).represents.device wire z
+  pub read : HearingFollows (identity_at schedule wire.device o) (runs.simulation.devices wire.device o owned).logins (runs.simulation.devices wire.device o owned).represents.device (by_number w.wires) (runs.simulation.devices wire.device o owned).view (position + 1) wire (client_step_on z (runs.simulation.devices wire.device o owned).represents.device)
   pub bounds : IsInBounds b says (Down position) w x
 
 -- ---- events of a device
@@ -94,7 +94,7 @@ module _ (schedule : WireView) (b : Bounds) (says : ℕ) (w : ItemWorld) (x : Ap
   i = c.wire.device
 
   abbrev pub old : DeviceSimulates schedule w x i c.o
-  old = c.runs.devices i c.o c.owned
+  old = c.runs.simulation.devices i c.o c.owned
 
   abbrev pub who : Identity
   who = identity_at schedule i c.o
@@ -201,7 +201,7 @@ module _ (schedule : WireView) (b : Bounds) (says : ℕ) (w : ItemWorld) (x : Ap
             | inl same ↦ omega (arith, same, few)
             | inr more ↦ (let one = more.0 in omega (arith, one, few))
           ]
-          | inr none ↦ (let same = (l.still none).0 in let few = c.runs.asked i old.device old.there in omega (arith, same, few))
+          | inr none ↦ (let same = (l.still none).0 in let few = c.runs.in_bounds.asked i old.device old.there in omega (arith, same, few))
         ]
 
     abbrev acts : ActsAlone schedule b says w x c.runs i c.o after next
@@ -210,17 +210,17 @@ module _ (schedule : WireView) (b : Bounds) (says : ℕ) (w : ItemWorld) (x : Ap
       old = old.device;
       there = old.there;
       alone = hears_alone w c.position d c.wire c.z c.item;
-      fits = subst FitsHere (moved_so w c.position d c.wire c.z c.item) (move_fits UpFits DownFits ServerFits ClientFits keep_here takes_any (Down c.position) w c.runs.fits tt);
+      fits = subst FitsHere (moved_so w c.position d c.wire c.z c.item) (move_fits UpFits DownFits ServerFits ClientFits keep_here takes_any (Down c.position) w c.runs.in_bounds.fits tt);
       events = h.events;
       reaches = h.reaches;
-      said = subst (λ l. says + length l ≤ b.says) (sym h.silent) (let said = c.runs.said in omega (arith, said));
+      said = subst (λ l. says + length l ≤ b.says) (sym h.silent) (let said = c.runs.in_bounds.said in omega (arith, said));
       asked = asked_still;
       device = device_runs;
       done = noted t.out.notes;
       leads = (follows.moves, follows.leads, follows.does);
       others = λ j q is other.
-          subst (λ v. Represents (identity_at schedule j q) (c.runs.devices j q is).logins v (c.runs.devices j q is).view) (moved_so w c.position d c.wire c.z c.item)
-          (down_leaves (identity_at schedule j q) (c.runs.devices j q is).logins w (c.runs.devices j q is).view (c.runs.devices j q is).represents c.position c.wire c.item.there (λ same. other (sym same)));
+          subst (λ v. Represents (identity_at schedule j q) (c.runs.simulation.devices j q is).logins v (c.runs.simulation.devices j q is).view) (moved_so w c.position d c.wire c.z c.item)
+          (down_leaves (identity_at schedule j q) (c.runs.simulation.devices j q is).logins w (c.runs.simulation.devices j q is).view (c.runs.simulation.devices j q is).represents c.position c.wire c.item.there (λ same. other (sym same)));
     }
 
     world_runs : RunsOn schedule b says w x c.runs (DoesBy (Down c.position) w) (says + 0) (moved (Down c.position) w) next_world

@@ -37,7 +37,7 @@ use Rattle.xml_writer.specs.Items.{ItemOut}
 module _ (schedule : WireView) (b : Bounds) (small : AreSmall b) (says : ℕ) (w : ItemWorld) (x : AppWorld) (runs : WorldSimulates schedule b says w x) (ground : IsGround schedule x) (position : ℕ) (wire : ItemWire) (o : Owned)
     (owned : IsOwned schedule wire.device o) where
   abbrev old : DeviceSimulates schedule w x wire.device o
-  old = runs.devices wire.device o owned
+  old = runs.simulation.devices wire.device o owned
 
   abbrev who : Identity
   who = identity_at schedule wire.device o
@@ -57,8 +57,8 @@ module _ (schedule : WireView) (b : Bounds) (small : AreSmall b) (says : ℕ) (w
   low =
       let within = epoch_within old.view (prompt_runs awaits old.view old.prompt) in
       let free = old.represents.server.free in
-      let few = runs.within.few in
-      let dialled = runs.dialled in
+      let few = runs.in_bounds.within.few in
+      let dialled = runs.in_bounds.dialled in
       let most = small.dials in
       omega (arith, within, free, few, dialled, most)
 

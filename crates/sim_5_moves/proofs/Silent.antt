@@ -38,7 +38,7 @@ module _ (schedule : WireView) (b : Bounds) (says : ℕ) (w : ItemWorld) (x : Ap
   i = wire.device
 
   abbrev old : DeviceSimulates schedule w x i o
-  old = runs.devices i o owned
+  old = runs.simulation.devices i o owned
 
   abbrev who : Identity
   who = identity_at schedule i o
@@ -56,14 +56,14 @@ module _ (schedule : WireView) (b : Bounds) (says : ℕ) (w : ItemWorld) (x : Ap
       (record {
         is = is;
         alone = hears_alone w position d wire z n;
-        fits = subst FitsHere is (move_fits UpFits DownFits ServerFits ClientFits keep_here takes_any (Down position) w runs.fits tt);
+        fits = subst FitsHere is (move_fits UpFits DownFits ServerFits ClientFits keep_here takes_any (Down position) w runs.in_bounds.fits tt);
         follows =
             subst (WorldFollows who old.logins after old.view) calm.notes
             (subst (λ v. WorldFollows who old.logins v old.view (noted t.out.notes)) is (hear_lifts who old.logins w old.view old.represents position d wire z n read));
         user = λ e at. subst (λ (y : ItemDevice). SameUser d.client y.client) (same_Some (device_after t d) e (sym (get_set_same w.devices i d (device_after t d) old.represents.there) ∙ at)) calm.user;
         others = λ j p q other.
-            subst (λ v. Represents (identity_at schedule j p) (runs.devices j p q).logins v (runs.devices j p q).view) is
-            (down_leaves (identity_at schedule j p) (runs.devices j p q).logins w (runs.devices j p q).view (runs.devices j p q).represents position wire n.there (λ same. other (sym same)));
+            subst (λ v. Represents (identity_at schedule j p) (runs.simulation.devices j p q).logins v (runs.simulation.devices j p q).view) is
+            (down_leaves (identity_at schedule j p) (runs.simulation.devices j p q).logins w (runs.simulation.devices j p q).view (runs.simulation.devices j p q).represents position wire n.there (λ same. other (sym same)));
         silent = refl;
         asked = λ j e f same. ((λ none. (same.0, same.1 none), inl same.0), λ u there apart. same);
         nothing = heard_nothing position i w d wire z n calm.notes;

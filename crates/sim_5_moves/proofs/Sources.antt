@@ -63,7 +63,7 @@ module _ (c : Coming) (m : Submission) (reads : up_stanza c.z ≡ Message m) (no
 
   told_none : takes_reported c.w.moment (step c).outs ≡ []
   told_none =
-      ap (λ n. takes_reported n (step c).outs) (sym c.runs.now) ∙ ap (λ (s : Step ItemOut). takes_reported (server_state c).moment s.outs) (step_is c) ∙ told_after x ∙ ap (map (take_reported (owned_of c.schedule))) new_none
+      ap (λ n. takes_reported n (step c).outs) (sym c.runs.simulation.now) ∙ ap (λ (s : Step ItemOut). takes_reported (server_state c).moment s.outs) (step_is c) ∙ told_after x ∙ ap (map (take_reported (owned_of c.schedule))) new_none
 
   -- what goes to a device's session
   goes : (j : ℕ) (p : Owned) (u : Session ItemOut) → IsSessionAt (owned_of c.schedule) (names_of c.schedule) (server_state c) j p u → map down_stanza (sends_to u.shown.number (acts c)) ≡ only_at u.shown.number (speaker c).shown.number (reply a (Message m))
@@ -98,7 +98,7 @@ module _ (c : Coming) (m : Submission) (reads : up_stanza c.z ≡ Message m) (no
 module _ (c : Coming) (y : Up) (reads : up_stanza c.z ≡ y) (none : taking c.x.accounts c.x.clock (mine c) (old c).device.account (y ∷ []) ≡ []) (is_replied : IsReplied (last_of c.x.takes c.o.account) y) where
   case : IsReplyCase (keep_in c.schedule) (owned_of c.schedule) (names_of c.schedule) c.x.takes (server_state c) c.o (speaker c) y (elem c)
   case = record {
-    runs = c.runs.server;
+    runs = c.runs.simulation.server;
     some = some_kept c.schedule.version c.right.keeps;
     few = (let below = few c in omega (arith, below));
     session = record { there = (speaker_is c).lives; account = (speaker_is c).account; resource = (speaker_is c).resource; address = (old c).represents.normal.full };
@@ -142,6 +142,6 @@ is_asked c r reads =
     let d = (old c).device in
     let request : IsRequest r = (subst (λ u. IsUpAs c.o u c.z) reads (built_up c)).1 in
     let all : ArePlaced (last_of c.x.takes d.account) d =
-    from_beginning (keep_in c.schedule) (some_kept c.schedule.version c.right.keeps) (names_of c.schedule) (map (λ (p : Owned). p.account) (owned_of c.schedule)) c.runs.led.events c.x c.runs.led.reaches (mine c) d (old c).there in
+    from_beginning (keep_in c.schedule) (some_kept c.schedule.version c.right.keeps) (names_of c.schedule) (map (λ (p : Owned). p.account) (owned_of c.schedule)) c.runs.in_bounds.led.events c.x c.runs.in_bounds.led.reaches (mine c) d (old c).there in
     let one : IsPlaced (last_of c.x.takes d.account) r = (subst (λ zs. AllByRecursion (IsPlaced (last_of c.x.takes d.account)) (requests zs)) (next_is c ∙ ap (λ u. u ∷ next_rest c) reads) all).0 in
     record { number_fits = request.number_fits; position = subst (λ account. IsGiven (last_of c.x.takes account) r.after) (old c).account one.0; few = one.1 }

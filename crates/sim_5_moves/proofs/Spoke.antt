@@ -60,7 +60,7 @@ numbered v d n is = record {
 
 module _ (schedule : WireView) (b : Bounds) (says : ℕ) (w : ItemWorld) (x : AppWorld) (runs : WorldSimulates schedule b says w x) (i : ℕ) (o : Owned) (owned : IsOwned schedule i o) where
   abbrev r : DeviceSimulates schedule w x i o
-  r = runs.devices i o owned
+  r = runs.simulation.devices i o owned
 
   abbrev who : Identity
   who = identity_at schedule i o

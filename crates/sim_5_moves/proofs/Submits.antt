@@ -53,9 +53,9 @@ use Rattle.xml_writer.specs.Items.{ItemOut}
 use Rattle.sim_5_moves.proofs.Doing.{said_does, says_beside}
 
 module _ (schedule : WireView) (right : IsLineList schedule) (b : Bounds) (small : AreSmall b) (says : ℕ) (w : ItemWorld) (x : AppWorld) (runs : WorldSimulates schedule b says w x) (i : ℕ) (o : Owned) (owned : IsOwned schedule i o) (name text : List ℕ) (private : Bool)
-    (named : is_name name ≡ true) (plain : is_text text ≡ true) (more : says + 1 ≤ b.says) (n : ℕ) (taken : say_answer (runs.devices i o owned).represents.device.client text ≡ Ok n) where
+    (named : is_name name ≡ true) (plain : is_text text ≡ true) (more : says + 1 ≤ b.says) (n : ℕ) (taken : say_answer (runs.simulation.devices i o owned).represents.device.client text ≡ Ok n) where
   abbrev r : DeviceSimulates schedule w x i o
-  r = runs.devices i o owned
+  r = runs.simulation.devices i o owned
 
   abbrev who : Identity
   who = identity_at schedule i o
@@ -165,9 +165,9 @@ module _ (schedule : WireView) (right : IsLineList schedule) (b : Bounds) (small
   submission_runs =
       move_runs schedule b says m w x runs i o owned
       (spoken.one_device schedule b says w x runs i o owned m t z (Message said) moved_is read built timely follows)
-      (move_fits UpFits DownFits ServerFits ClientFits keep_here takes_any m w runs.fits (name, refl, named, plain))
+      (move_fits UpFits DownFits ServerFits ClientFits keep_here takes_any m w runs.in_bounds.fits (name, refl, named, plain))
       (λ j p is other.
-      say_leaves (identity_at schedule j p) (runs.devices j p is).logins w (runs.devices j p is).view (runs.devices j p is).represents i other c r.represents.there (of_its_own who r.logins w r.view r.represents j other) (bare_address name) text private)
+      say_leaves (identity_at schedule j p) (runs.simulation.devices j p is).logins w (runs.simulation.devices j p is).view (runs.simulation.devices j p is).represents i other c r.represents.there (of_its_own who r.logins w r.view r.represents j other) (bare_address name) text private)
       (Says z ∷ []) g
       (spoken.session_stepped schedule b says w x runs i o owned m t z (Message said) moved_is read built timely follows).0 at
       (spoken.session_stepped schedule b says w x runs i o owned m t z (Message said) moved_is read built timely follows).2
@@ -182,7 +182,7 @@ module _ (schedule : WireView) (right : IsLineList schedule) (b : Bounds) (small
         flags = spoken.flags_at schedule b says w x runs i o owned m t z (Message said) moved_is read built timely follows;
         spoken = sym one_said;
         said = subst (λ (l : List Spoken). says + length l ≤ b.says) (sym one_said) more;
-        within = runs.asked i r.device r.there;
+        within = runs.in_bounds.asked i r.device r.there;
         asked = refl;
         others_asked = λ j d other. refl;
         does = said_does w i (bare_address name) text private c n r.represents.there taken (Says z ∷ []) (says_put o c.client r.device.sessions name text private before);
@@ -193,7 +193,7 @@ module _ (schedule : WireView) (right : IsLineList schedule) (b : Bounds) (small
 pub submissions_run : (schedule : WireView) (b : Bounds) (says : ℕ) (w : ItemWorld) (x : AppWorld) → IsLineList schedule → AreSmall b → (runs : WorldSimulates schedule b says w x) → (i : ℕ) (o : Owned) → IsOwned schedule i o → (d : ItemDevice) → slice_get w.devices i ≡ Some d
     → (to text : List ℕ) (private : Bool) → MayItem (Say i to text private) → IsInBounds b says (Say i to text private) w x → (n : ℕ) → say_answer d.client text ≡ Ok n → MoveSimulates schedule b says (Say i to text private) w x runs
 submissions_run schedule b says w x right small runs i o owned d there to text private may more n taken =
-    let r = runs.devices i o owned in
+    let r = runs.simulation.devices i o owned in
     let same = same_Some d r.represents.device (sym there ∙ r.represents.there) in
     subst (λ a. MoveSimulates schedule b says (Say i a text private) w x runs) (sym may.1)
     (submission_runs schedule right b small says w x runs i o owned may.0 text private may.2 may.3 more n (subst (λ (e : ItemDevice). say_answer e.client text ≡ Ok n) same taken))

@@ -17,7 +17,7 @@ module _ (c : Coming) (m : Submission) (reads : up_stanza c.z ≡ Message m) whe
   pub submits : Submits (keep_in c.schedule) (owned_of c.schedule) (names_of c.schedule) c.x.takes (server_state c) (mine c) c.o (speaker c) m (elem c)
   submits = record {
     declared = are_declared c.schedule c.right;
-    runs = c.runs.server;
+    runs = c.runs.simulation.server;
     rule = rule c;
     few = few c;
     session = speaker_is c;

@@ -24,15 +24,15 @@ tick_runs schedule b says milliseconds w x runs =
     quiet_move schedule b says w x runs (Tick milliseconds) milliseconds refl (λ i d e same. same) (λ i. refl) (record {
       devices = λ i o is old.
           quiet_device schedule w x after i o old refl (tick_in (identity_at schedule i o) old.logins w old.view milliseconds old.represents)
-          (inl (kept_flags (identity_at schedule i o).account o.device w.server after.server (λ d represents. moment_flags w.server (identity_at schedule i o).account o.device d runs.within.ordered.sessions represents later)));
+          (inl (kept_flags (identity_at schedule i o).account o.device w.server after.server (λ d represents. moment_flags w.server (identity_at schedule i o).account o.device d runs.in_bounds.within.ordered.sessions represents later)));
       many = refl;
-      dialled = runs.dialled;
-      wires = runs.wires;
-      server = moment_runs (keep_in schedule) (owned_of schedule) (names_of schedule) x.takes w.server runs.server later;
+      dialled = runs.in_bounds.dialled;
+      wires = runs.simulation.wires;
+      server = moment_runs (keep_in schedule) (owned_of schedule) (names_of schedule) x.takes w.server runs.simulation.server later;
       takes = refl;
       moment = refl;
-      now = let shown = runs.now in let same : max w.server.moment (w.moment + milliseconds) ≡ w.moment + milliseconds = omega (arith, shown) in same;
-      fits = move_fits UpFits DownFits ServerFits ClientFits keep_here takes_any (Tick milliseconds) w runs.fits tt;
-      stands = move_stands (Tick milliseconds) w tt runs.stands;
-      within = moment_within later (length w.wires) w.server runs.within;
+      now = let shown = runs.simulation.now in let same : max w.server.moment (w.moment + milliseconds) ≡ w.moment + milliseconds = omega (arith, shown) in same;
+      fits = move_fits UpFits DownFits ServerFits ClientFits keep_here takes_any (Tick milliseconds) w runs.in_bounds.fits tt;
+      stands = move_stands (Tick milliseconds) w tt runs.in_bounds.stands;
+      within = moment_within later (length w.wires) w.server runs.in_bounds.within;
     })

@@ -29,7 +29,7 @@ use Rattle.sim_5_moves.specs.Running.{Bounds, DeviceSimulates, IsAskedBy, IsOwne
 
 module _ (schedule : WireView) (b : Bounds) (says : ℕ) (m : ItemMove) (w : ItemWorld) (x : AppWorld) (runs : WorldSimulates schedule b says w x) (i : ℕ) (o : Owned) (owned : IsOwned schedule i o) where
   abbrev pub device_at : DeviceSimulates schedule w x i o
-  device_at = runs.devices i o owned
+  device_at = runs.simulation.devices i o owned
 
   abbrev pub old : Device
   old = device_at.device
@@ -59,7 +59,7 @@ module _ (schedule : WireView) (b : Bounds) (says : ℕ) (m : ItemMove) (w : Ite
     pub does : DoesBy m w i done
     pub others_do : (j : ℕ) → j ≢ i → DoesBy m w j []
 
-  module _ (alone : IsOneDevice i w (moved m w)) (fits : FitsHere (moved m w)) (others : (j : ℕ) (p : Owned) (is : IsOwned schedule j p) → j ≢ i → Represents (identity_at schedule j p) (runs.devices j p is).logins (moved m w) (runs.devices j p is).view)
+  module _ (alone : IsOneDevice i w (moved m w)) (fits : FitsHere (moved m w)) (others : (j : ℕ) (p : Owned) (is : IsOwned schedule j p) → j ≢ i → Represents (identity_at schedule j p) (runs.simulation.devices j p is).logins (moved m w) (runs.simulation.devices j p is).view)
       (done : List (Label ItemOut)) (g : DeviceGoes schedule (moved m w) i o (history_for schedule x.takes o) done old.sessions device_at.view) (xs : List SessionStep) (there : Sessions) (session_steps : SessionSteps xs old.sessions there) (act : Act) (t : IsClientStep done g act there) where
     abbrev new : Device
     new = acted_by act there

@@ -37,7 +37,7 @@ use Rattle.sim_5_moves.specs.Running.{DeviceSimulates, IsOwned, Leads, MoveSimul
 
 -- another device, with these sessions
 abbrev pub IsSo : Coming → List Take → ℕ → Device → Sessions → Type 0
-IsSo c takes j e last = (p : Owned) × (is : IsOwned c.schedule j p) × Stands c.schedule (after c) takes j p (record e { sessions = last }) (c.runs.devices j p is).view (DoesBy (Up c.position) c.w j)
+IsSo c takes j e last = (p : Owned) × (is : IsOwned c.schedule j p) × Stands c.schedule (after c) takes j p (record e { sessions = last }) (c.runs.simulation.devices j p is).view (DoesBy (Up c.position) c.w j)
 
 -- the device whose stanza it is, the others, and the server
 pub record IsHandled (c : Coming) (takes : List Take) : Type 0 where
@@ -52,14 +52,14 @@ pub record IsHandled (c : Coming) (takes : List Take) : Type 0 where
 pub record HasOwner (c : Coming) (j : ℕ) (e : Device) : Type 0 where
   pub owner : Owned
   pub is : IsOwned c.schedule j owner
-  pub same : (c.runs.devices j owner is).device ≡ e
+  pub same : (c.runs.simulation.devices j owner is).device ≡ e
 
 pub owner_of : (c : Coming) (j : ℕ) (e : Device) → slice_get c.x.devices j ≡ Some e → HasOwner c j e
 owner_of c j e at =
     let within = slice_get_within c.x.devices j e at in
-    let many = c.runs.many_there in
+    let many = c.runs.simulation.many_there in
     let owner = at_position j (owned_of c.schedule) (omega (arith, within, many)) in
-    let r = c.runs.devices j owner.0 owner.1 in
+    let r = c.runs.simulation.devices j owner.0 owner.1 in
     record { owner = owner.0; is = owner.1; same = same_Some r.device e (sym r.there ∙ at) }
 
 module _ (c : Coming) (takes : List Take) (n : IsHandled c takes) where
@@ -69,7 +69,7 @@ module _ (c : Coming) (takes : List Take) (n : IsHandled c takes) where
   -- ---- devices
 
   abbrev Comes : (j : ℕ) (p : Owned) → IsOwned c.schedule j p → Type 0
-  Comes j p is = (e : DeviceSimulates c.schedule (after c) next j p) × Leads (DoesBy (Up c.position) c.w j) (c.runs.devices j p is).view e.view
+  Comes j p is = (e : DeviceSimulates c.schedule (after c) next j p) × Leads (DoesBy (Up c.position) c.w j) (c.runs.simulation.devices j p is).view e.view
 
   device_comes : (j : ℕ) (p : Owned) (is : IsOwned c.schedule j p) → Comes j p is
   device_comes j p is = elim (cases_eq (mine c) j) [
@@ -77,9 +77,9 @@ module _ (c : Coming) (takes : List Take) (n : IsHandled c takes) where
         subst (λ k. (q : Owned) (at : IsOwned c.schedule k q) → Comes k q at) same
         (of_owner c.schedule (mine c) (Comes (mine c)) c.o c.owned (stands_run c.schedule (after c) next (mine c) c.o n.following (old c).view (DoesBy (Up c.position) c.w (mine c)) n.stands n.handled.here, n.stands.leads)) p is
     | inr apart ↦
-        let r = c.runs.devices j p is in
+        let r = c.runs.simulation.devices j p is in
         let it = n.handled.each j r.device r.there (λ same. apart (sym same)) in
-        of_owner c.schedule j (Comes j) it.1.0 it.1.1 (stands_run c.schedule (after c) next j it.1.0 (record r.device { sessions = it.0 }) (c.runs.devices j it.1.0 it.1.1).view (DoesBy (Up c.position) c.w j) it.1.2 it.2, it.1.2.leads) p is
+        of_owner c.schedule j (Comes j) it.1.0 it.1.1 (stands_run c.schedule (after c) next j it.1.0 (record r.device { sessions = it.0 }) (c.runs.simulation.devices j it.1.0 it.1.1).view (DoesBy (Up c.position) c.w j) it.1.2 it.2, it.1.2.leads) p is
   ]
 
   after_it : (j : ℕ) (e : Device) → slice_get c.x.devices j ≡ Some e → (f : Device) × (slice_get next.devices j ≡ Some f) × (f.reading.asked ≡ e.reading.asked)
@@ -99,7 +99,7 @@ module _ (c : Coming) (takes : List Take) (n : IsHandled c takes) where
       let many = n.handled.many in
       let d = at_position j c.x.devices (omega (arith, within, many)) in
       let same = asked_same j d.0 e d.1 here in
-      let few = c.runs.asked j d.0 d.1 in
+      let few = c.runs.in_bounds.asked j d.0 d.1 in
       omega (arith, same, few)
 
   -- ---- the server
@@ -110,7 +110,7 @@ module _ (c : Coming) (takes : List Take) (n : IsHandled c takes) where
   wires_are : (q : ℕ) (other : ItemWire) → slice_get (after c).wires q ≡ Some other → (p : Owned) × IsOwned c.schedule other.device p
   wires_are q other at =
       let was = same_twice c.w.wires (changed_at c.position handed_up c.w.wires) (after c).wires (at_same handed_up (λ u. refl) c.position c.w.wires) (emitted_same (step c).outs (changed_at c.position handed_up c.w.wires)) q other at in
-      let owner = c.runs.wires q was.0 was.1 in
+      let owner = c.runs.simulation.wires q was.0 was.1 in
       (owner.0, subst (λ d. IsOwned c.schedule d owner.0) (sym was.2) owner.1)
 
   stands_still : ServerStateStands (length (after c).wires) (after c).server
@@ -118,40 +118,44 @@ module _ (c : Coming) (takes : List Take) (n : IsHandled c takes) where
       subst (λ (a : ItemWorld). ServerStateStands (length a.wires) a.server) (is_after c)
       (move_stands (Up c.position) c.w
       (item_may_go_up (own c) (old c).logins c.w (old c).view c.position (old c).represents (prompt_runs awaits (old c).view (old c).prompt) (λ other at. ap (λ (u : ItemWire). u.device) (same_Some other c.wire (sym at ∙ c.there))))
-      c.runs.stands)
+      c.runs.in_bounds.stands)
 
   step_within : IsWithin (length c.w.wires) (step c).server_state
   step_within =
-      let dialled = c.runs.dialled in
+      let dialled = c.runs.in_bounds.dialled in
       let most = c.small.dials in
-      item_within itself (c.position + 1) (read_of c.z) (length c.w.wires) (step_of c.w.server) (omega (arith, dialled, most)) c.runs.within
+      item_within itself (c.position + 1) (read_of c.z) (length c.w.wires) (step_of c.w.server) (omega (arith, dialled, most)) c.runs.in_bounds.within
 
   now_still : (step c).server_state.moment ≡ c.w.moment
-  now_still = (item_takes itself (c.position + 1) (read_of c.z) (step_of c.w.server)).1.moment ∙ c.runs.now
+  now_still = (item_takes itself (c.position + 1) (read_of c.z) (step_of c.w.server)).1.moment ∙ c.runs.simulation.now
 
   -- ---- the worlds
 
   abbrev world_runs : WorldSimulates c.schedule c.b c.says (after c) next
   world_runs = record {
-    led = record {
-      events = c.runs.led.events ++ n.handled.events;
-      reaches = reaches_both c.runs.led.events n.handled.events (begins c.schedule) c.x next c.runs.led.reaches n.handled.reaches;
-      spoken = ap length (spoken_both c.runs.led.events n.handled.events ∙ ap (λ more. spoken_in c.runs.led.events ++ more) n.handled.silent ∙ append-nil (spoken_in c.runs.led.events)) ∙ c.runs.led.spoken;
+    simulation = record {
+      devices = λ j p is. (device_comes j p is).0;
+      many = c.runs.simulation.many;
+      many_there = n.handled.many ∙ c.runs.simulation.many_there;
+      wires = wires_are;
+      server = n.server;
+      takes = n.told;
+      clock = c.runs.simulation.clock;
+      now = now_still;
     };
-    said = c.runs.said;
-    asked = asked_few;
-    dialled = subst (λ k. k ≤ c.b.dials) (sym many_wires) c.runs.dialled;
-    devices = λ j p is. (device_comes j p is).0;
-    many = c.runs.many;
-    many_there = n.handled.many ∙ c.runs.many_there;
-    wires = wires_are;
-    server = n.server;
-    takes = n.told;
-    clock = c.runs.clock;
-    now = now_still;
-    fits = subst FitsHere (is_after c) (move_fits UpFits DownFits ServerFits ClientFits keep_here takes_any (Up c.position) c.w c.runs.fits tt);
-    stands = stands_still;
-    within = subst (λ k. IsWithin k (step c).server_state) (sym many_wires) step_within;
+    in_bounds = record {
+      led = record {
+        events = c.runs.in_bounds.led.events ++ n.handled.events;
+        reaches = reaches_both c.runs.in_bounds.led.events n.handled.events (begins c.schedule) c.x next c.runs.in_bounds.led.reaches n.handled.reaches;
+        spoken = ap length (spoken_both c.runs.in_bounds.led.events n.handled.events ∙ ap (λ more. spoken_in c.runs.in_bounds.led.events ++ more) n.handled.silent ∙ append-nil (spoken_in c.runs.in_bounds.led.events)) ∙ c.runs.in_bounds.led.spoken;
+      };
+      said = c.runs.in_bounds.said;
+      asked = asked_few;
+      dialled = subst (λ k. k ≤ c.b.dials) (sym many_wires) c.runs.in_bounds.dialled;
+      fits = subst FitsHere (is_after c) (move_fits UpFits DownFits ServerFits ClientFits keep_here takes_any (Up c.position) c.w c.runs.in_bounds.fits tt);
+      stands = stands_still;
+      within = subst (λ k. IsWithin k (step c).server_state) (sym many_wires) step_within;
+    };
   }
 
   on : RunsOn c.schedule c.b c.says c.w c.x c.runs (DoesBy (Up c.position) c.w) (c.says + 0) (moved (Up c.position) c.w) next

@@ -18,6 +18,6 @@ use Rattle.xml_writer.specs.Items.{ItemOut}
 abbrev pub StanzasComeDown : Type 0
 StanzasComeDown =
     (schedule : WireView) (b : Bounds) → AreSmall b → (says : ℕ) (w : ItemWorld) (x : AppWorld) (runs : WorldSimulates schedule b says w x) → IsGround schedule x → (position : ℕ) (wire : ItemWire) (o : Owned)
-    → (owned : IsOwned schedule wire.device o) → (z : ItemOut) → IsNextItem position wire.device w (runs.devices wire.device o owned).represents.device wire z
-    → IsNextDown (identity_at schedule wire.device o) (runs.devices wire.device o owned).logins (runs.devices wire.device o owned).represents.device (by_number w.wires) (runs.devices wire.device o owned).view (position + 1) (DownTraffic (St z))
+    → (owned : IsOwned schedule wire.device o) → (z : ItemOut) → IsNextItem position wire.device w (runs.simulation.devices wire.device o owned).represents.device wire z
+    → IsNextDown (identity_at schedule wire.device o) (runs.simulation.devices wire.device o owned).logins (runs.simulation.devices wire.device o owned).represents.device (by_number w.wires) (runs.simulation.devices wire.device o owned).view (position + 1) (DownTraffic (St z))
     → IsInBounds b says (Down position) w x → MoveSimulates schedule b says (Down position) w x runs

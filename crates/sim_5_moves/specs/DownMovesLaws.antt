@@ -35,8 +35,8 @@ EndsAreToldRun =
 abbrev pub SilentWordsComeDown : Type 0
 SilentWordsComeDown =
     (schedule : WireView) (b : Bounds) (says : ℕ) (w : ItemWorld) (x : AppWorld) (runs : WorldSimulates schedule b says w x) (position : ℕ) (wire : ItemWire) (o : Owned) (owned : IsOwned schedule wire.device o) (word : DownWord ItemOut) → IsSilentWord word
-    → (p : IsNextDown (identity_at schedule wire.device o) (runs.devices wire.device o owned).logins (runs.devices wire.device o owned).represents.device (by_number w.wires) (runs.devices wire.device o owned).view (position + 1) word)
-    → IsNextItem position wire.device w (runs.devices wire.device o owned).represents.device wire (down_item (identity_at schedule wire.device o) ((runs.devices wire.device o owned).logins (position + 1)) (position + 1) (is_after_login p.conn.client) word)
+    → (p : IsNextDown (identity_at schedule wire.device o) (runs.simulation.devices wire.device o owned).logins (runs.simulation.devices wire.device o owned).represents.device (by_number w.wires) (runs.simulation.devices wire.device o owned).view (position + 1) word)
+    → IsNextItem position wire.device w (runs.simulation.devices wire.device o owned).represents.device wire (down_item (identity_at schedule wire.device o) ((runs.simulation.devices wire.device o owned).logins (position + 1)) (position + 1) (is_after_login p.conn.client) word)
     → MoveSimulates schedule b says (Down position) w x runs
 
 abbrev pub DownsRun : Type 0

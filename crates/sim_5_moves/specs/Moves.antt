@@ -43,5 +43,5 @@ pub record ActsAlone (schedule : WireView) (b : Bounds) (says : ℕ) (w : ItemWo
   pub asked : d.reading.asked ≤ b.pages + 1
   pub device : DeviceSimulates schedule next (with_device i d x) i o
   pub done : List (Label ItemOut)
-  pub leads : Leads (λ ds. ds ≡ done) (runs.devices i o owned).view device.view
-  pub others : (j : ℕ) (p : Owned) (is : IsOwned schedule j p) → j ≢ i → Represents (identity_at schedule j p) (runs.devices j p is).logins next (runs.devices j p is).view
+  pub leads : Leads (λ ds. ds ≡ done) (runs.simulation.devices i o owned).view device.view
+  pub others : (j : ℕ) (p : Owned) (is : IsOwned schedule j p) → j ≢ i → Represents (identity_at schedule j p) (runs.simulation.devices j p is).logins next (runs.simulation.devices j p is).view

@@ -105,11 +105,8 @@ pub record IsLed (schedule : WireView) (says : ℕ) (x : AppWorld) : Type 0 wher
   pub reaches : Reaches events (begins schedule) x
   pub spoken : length (spoken_in events) ≡ says
 
-pub record WorldSimulates (schedule : WireView) (b : Bounds) (says : ℕ) (w : ItemWorld) (x : AppWorld) : Type 0 where
-  pub led : IsLed schedule says x
-  pub said : says ≤ b.says
-  pub asked : (i : ℕ) (d : Device) → slice_get x.devices i ≡ Some d → d.reading.asked ≤ b.pages + 1
-  pub dialled : length w.wires ≤ b.dials
+-- The applications simulate a world of items: theirs has the same devices, the same messages were taken, and it is as late.
+pub record Simulation (schedule : WireView) (w : ItemWorld) (x : AppWorld) : Type 0 where
   -- devices, and no others
   pub devices : (i : ℕ) (o : Owned) → IsOwned schedule i o → DeviceSimulates schedule w x i o
   pub many : length w.devices ≡ length (owned_of schedule)
@@ -118,12 +115,28 @@ pub record WorldSimulates (schedule : WireView) (b : Bounds) (says : ℕ) (w : I
   -- the server
   pub server : ServerSimulates (keep_in schedule) (owned_of schedule) (names_of schedule) x.takes w.server
   pub takes : w.takes ≡ map (take_reported (owned_of schedule)) x.takes
+  -- one clock, at which the server has looked since it last moved on
   pub clock : x.clock ≡ w.moment
-  -- it has looked at the clock since this last moved on
   pub now : w.server.moment ≡ w.moment
+
+-- How much happened so far is bounded, and what the items' world keeps of itself is within limits.
+pub record WorldInBounds (schedule : WireView) (b : Bounds) (says : ℕ) (w : ItemWorld) (x : AppWorld) : Type 0 where
+  -- events led here, in which so many messages were said
+  pub led : IsLed schedule says x
+  pub said : says ≤ b.says
+  -- pages and connections
+  pub asked : (i : ℕ) (d : Device) → slice_get x.devices i ≡ Some d → d.reading.asked ≤ b.pages + 1
+  pub dialled : length w.wires ≤ b.dials
+  -- what is under way, and what each end keeps
   pub fits : FitsHere w
+  -- the server's connections and sessions are of those that were dialled
   pub stands : ServerStateStands (length w.wires) w.server
   pub within : IsWithin (length w.wires) w.server
+
+-- the applications simulate a world of items, and both are within bounds
+pub record WorldSimulates (schedule : WireView) (b : Bounds) (says : ℕ) (w : ItemWorld) (x : AppWorld) : Type 0 where
+  pub simulation : Simulation schedule w x
+  pub in_bounds : WorldInBounds schedule b says w x
 
 -- Moves of the links lead from the one to the other, and their labels are as is said.
 abbrev pub Leads : (List (Label ItemOut) → Type 0) → View ItemOut → View ItemOut → Type 0
@@ -133,7 +146,7 @@ Leads Does v next = (moves : List (LinkMove ItemOut)) × LinkReaches moves v nex
 -- with such labels.
 pub record RunsOn (schedule : WireView) (b : Bounds) (says : ℕ) (w : ItemWorld) (x : AppWorld) (before : WorldSimulates schedule b says w x) (Does : ℕ → List (Label ItemOut) → Type 0) (more : ℕ) (after : ItemWorld) (next : AppWorld) : Type 0 where
   pub runs : WorldSimulates schedule b more after next
-  pub links : (i : ℕ) (o : Owned) (is : IsOwned schedule i o) → Leads (Does i) (before.devices i o is).view (runs.devices i o is).view
+  pub links : (i : ℕ) (o : Owned) (is : IsOwned schedule i o) → Leads (Does i) (before.simulation.devices i o is).view (runs.simulation.devices i o is).view
 
 -- ---- a move
 
@@ -187,4 +200,4 @@ pub record MoveSimulates (schedule : WireView) (b : Bounds) (says : ℕ) (m : It
   pub spoken : spoken_in events ≡ spoken_by_move m w
   pub asked : (i : ℕ) (d e : Device) → slice_get x.devices i ≡ Some d → slice_get next.devices i ≡ Some e → IsAskedBy m w i d e
   pub runs : WorldSimulates schedule b (says + length (spoken_by_move m w)) (moved m w) next
-  pub links : (i : ℕ) (o : Owned) (is : IsOwned schedule i o) → Leads (DoesBy m w i) (before.devices i o is).view (runs.devices i o is).view
+  pub links : (i : ℕ) (o : Owned) (is : IsOwned schedule i o) → Leads (DoesBy m w i) (before.simulation.devices i o is).view (runs.simulation.devices i o is).view

@@ -24,7 +24,7 @@ abbrev pub StanzasGoUp : Type 0
 StanzasGoUp =
     (schedule : WireView) → IsLineList schedule → (b : Bounds) → AreSmall b → (says : ℕ) (w : ItemWorld) (x : AppWorld) (runs : WorldSimulates schedule b says w x) → IsGround schedule x → (position : ℕ) (wire : ItemWire) (i : ItemOut) (items : List ItemOut)
     → slice_get w.wires position ≡ Some wire → wire.up.items ≡ i ∷ items → (o : Owned) → (owned : IsOwned schedule wire.device o)
-    → (g : ItemGoesUp (identity_at schedule wire.device o) (runs.devices wire.device o owned).logins w (runs.devices wire.device o owned).view position wire i) → (z : ItemOut) → g.has.word ≡ UpTraffic (St z)
+    → (g : ItemGoesUp (identity_at schedule wire.device o) (runs.simulation.devices wire.device o owned).logins w (runs.simulation.devices wire.device o owned).view position wire i) → (z : ItemOut) → g.has.word ≡ UpTraffic (St z)
     → MoveSimulates schedule b says (Up position) w x runs
 
 abbrev pub UpsRun : Type 0

@@ -21,6 +21,6 @@ abbrev pub SessionWordsComeDown : Type 0
 SessionWordsComeDown =
     (schedule : WireView) (b : Bounds) → AreSmall b → (says : ℕ) (w : ItemWorld) (x : AppWorld) (runs : WorldSimulates schedule b says w x) → IsGround schedule x → (position : ℕ) (wire : ItemWire) (o : Owned)
     → (owned : IsOwned schedule wire.device o) → (word : DownWord ItemOut) → IsOfSessions word
-    → (p : IsNextDown (identity_at schedule wire.device o) (runs.devices wire.device o owned).logins (runs.devices wire.device o owned).represents.device (by_number w.wires) (runs.devices wire.device o owned).view (position + 1) word)
-    → IsNextItem position wire.device w (runs.devices wire.device o owned).represents.device wire (down_item (identity_at schedule wire.device o) ((runs.devices wire.device o owned).logins (position + 1)) (position + 1) (is_after_login p.conn.client) word)
+    → (p : IsNextDown (identity_at schedule wire.device o) (runs.simulation.devices wire.device o owned).logins (runs.simulation.devices wire.device o owned).represents.device (by_number w.wires) (runs.simulation.devices wire.device o owned).view (position + 1) word)
+    → IsNextItem position wire.device w (runs.simulation.devices wire.device o owned).represents.device wire (down_item (identity_at schedule wire.device o) ((runs.simulation.devices wire.device o owned).logins (position + 1)) (position + 1) (is_after_login p.conn.client) word)
     → IsInBounds b says (Down position) w x → MoveSimulates schedule b says (Down position) w x runs

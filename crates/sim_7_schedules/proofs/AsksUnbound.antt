@@ -76,7 +76,7 @@ module _ (s : WireView) (says : ℕ) (w : ItemWorld) (x : AppWorld) (runs : Worl
   who = identity_at s wire.device o
 
   abbrev old : DeviceSimulates s w x wire.device o
-  old = runs.devices wire.device o owned
+  old = runs.simulation.devices wire.device o owned
 
   abbrev h : ServerState ItemOut
   h = w.server
@@ -128,7 +128,7 @@ asks_unbound s W x here = record {
   items = here.items;
   encodes = here.encodes;
   unbound = λ position wire i rest there pipe ask.
-      let owner = here.runs.wires position wire there in
+      let owner = here.runs.simulation.wires position wire there in
       let none = ask_unbound s here.says here.items x here.runs position wire i rest there pipe owner.0 owner.1 ask in
-      ap (λ (g : ServerState (List ℕ)). session_at (position + 1) g.sessions) here.encodes.server_state ∙ at_rendered written_item (position + 1) here.items.server.sessions ∙ ap (option_map (session_rendered written_item)) none;
+      ap (λ (g : ServerState (List ℕ)). session_at (position + 1) g.sessions) here.encodes.encoding.server_state ∙ at_rendered written_item (position + 1) here.items.server.sessions ∙ ap (option_map (session_rendered written_item)) none;
 }

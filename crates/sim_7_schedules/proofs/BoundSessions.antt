@@ -11,7 +11,6 @@ use Rattle.cmd_network.specs.Devices.{DeviceState}
 use Rattle.sim_3_images.proofs.NetworkMoves.{found_both}
 use Rattle.sim_3_images.specs.Devices.{account_position}
 use Rattle.sim_3_images.specs.Kept.{IsWorldKept}
-use Rattle.sim_3_images.specs.Relayable.{ClientFits}
 use Rattle.sim_3_images.specs.WorldEncodings.{DeviceEncodes}
 use Rattle.sim_3_items.specs.ItemWorlds.{ItemDevice}
 use Rattle.sim_2_links.proofs.Reached.{link_kept}
@@ -57,7 +56,7 @@ use Rattle.xml_writer.specs.Items.{ItemOut, written_item}
 
 module _ (s : WireView) (W : ByteWorld) (x : sessions.AppWorld) (beside : Simulates s W x) (i : ℕ) (o : Owned) (owned : slice_get (owned_of s) i ≡ Some o) where
   abbrev pub here : DeviceSimulates s beside.items x i o
-  here = beside.runs.devices i o owned
+  here = beside.runs.simulation.devices i o owned
 
   abbrev position : ℕ
   position = account_position o.account (accounts_of (common_steps s))
@@ -104,7 +103,7 @@ module _ (s : WireView) (W : ByteWorld) (x : sessions.AppWorld) (beside : Simula
   -- ---- its flag, in the world of bytes
 
   rendered : (n : ℕ) → session_of n W.server.server_state.sessions ≡ option_map (server.session_rendered written_item) (session_of n items)
-  rendered n = ap (λ (h : ServerState (List ℕ)). session_of n h.sessions) beside.encodes.server_state ∙ of_rendered written_item n items
+  rendered n = ap (λ (h : ServerState (List ℕ)). session_of n h.sessions) beside.encodes.encoding.server_state ∙ of_rendered written_item n items
 
   staged_counted : (known : Bool) → stage_of true known ≢ Named
   staged_counted true = λ is. let no_way : ⊥ = cc in no_way
@@ -137,7 +136,7 @@ module _ (s : WireView) (W : ByteWorld) (x : sessions.AppWorld) (beside : Simula
 
   pub epoch_here : (d : DeviceState) → slice_get W.devices i ≡ Some d → d.client.client.epoch ≡ epoch_of here.device.sessions
   epoch_here d at =
-      let found = found_both (DeviceEncodes ClientFits) d (slice_get W.devices i) (slice_get beside.items.devices i) at (beside.encodes.devices i) in
+      let found = found_both DeviceEncodes d (slice_get W.devices i) (slice_get beside.items.devices i) at (beside.encodes.encoding.devices i) in
       let same : found.other ≡ here.represents.device = same_Some found.other here.represents.device (sym found.is ∙ here.represents.there) in
       ap (λ c. c.epoch) found.holds.client ∙ ap (λ (e : ItemDevice). e.client.epoch) same ∙ here.represents.client.epoch ∙ here.sessions.epoch
 
@@ -146,7 +145,7 @@ module _ (s : WireView) (W : ByteWorld) (x : sessions.AppWorld) (beside : Simula
 module _ (s : WireView) (right : IsLineList s) where
   taken_here : (W : ByteWorld) (x : sessions.AppWorld) → Simulates s W x → Taken x
   taken_here W x beside =
-      let led = beside.runs.led in
+      let led = beside.runs.in_bounds.led in
       taken_along led.events (begins s) x led.reaches (taken_beginning (keep_of s.version) (accounts_of (steps_in s)) (map (λ (p : Owned). p.account) (owned_of s)))
 
   abbrev lines_of : List sessions.Take → List TakeLine
@@ -176,7 +175,7 @@ module _ (s : WireView) (right : IsLineList s) where
     taken_after V U y z es epoch keptV keptU at onward reaches following =
         let dr = here s V y at i o owned in
         let b = after_along epoch i es y z dr.device reaches (taken_here V y at) dr.there following in
-        let many = onward.runs.many_there in
+        let many = onward.runs.simulation.many_there in
         let placed : AllByRecursion (IsOfDevice z.accounts (length z.devices)) (y.takes ++ b.more) = subst (AllByRecursion (IsOfDevice z.accounts (length z.devices))) b.are (taken_here U z onward).placed in
         let within = AllByRecursion-weaker (IsOfDevice z.accounts (length z.devices)) (λ (t : sessions.Take). t.device < length (owned_of s)) (λ t is. let low = is.device in omega (arith, many)) b.more (all_back _ y.takes b.more placed) in
         record {

@@ -64,7 +64,7 @@ pub record LineGoes (schedule : WireView) (from : Views schedule) (dials says : 
   pub beside : MovesSimulate schedule ms moves from (views_of runs) W x
 
 pub no_moves : (schedule : WireView) (says : ℕ) (W : wires.ByteWorld) (w : ItemWorld) (x : AppWorld) (Post : ItemWorld → AppWorld → Type 0) → IsEncoded W w → (runs : WorldSimulates schedule bounds says w x) → Post w x → LineGoes schedule (views_of runs) 0 says [] [] W x Post
-no_moves schedule says W w x Post encodes runs post = record { moves = []; items = w; next = x; led = refl; spoken = refl; encodes = encodes; runs = runs; post = post; wide = (let same = encodes.as_many in omega arith); beside = refl }
+no_moves schedule says W w x Post encodes runs post = record { moves = []; items = w; next = x; led = refl; spoken = refl; encodes = encodes; runs = runs; post = post; wide = (let same = encodes.encoding.as_many in omega arith); beside = refl }
 
 -- one move
 pub one_move : (schedule : WireView) (from : Views schedule) (dials says : ℕ) (said : List Spoken) (m : Move) (W : wires.ByteWorld) (x : AppWorld) (Post : ItemWorld → AppWorld → Type 0) (events : List AppEvent) (w2 : ItemWorld) (next : AppWorld) → Reaches events x next → spoken_in events ≡ said →
@@ -122,7 +122,7 @@ and_then schedule from mid says said more first second W x Mid Post one rest =
       encodes = subst (λ V. IsEncoded V two.items) (sym (moved_join first second W)) two.encodes;
       runs = two.runs;
       post = two.post;
-      wide = let shown = one.encodes.as_many in let first_wide = one.wide in let second_wide = two.wide in omega arith;
+      wide = let shown = one.encodes.encoding.as_many in let first_wide = one.wide in let second_wide = two.wide in omega arith;
       beside = beside_joined schedule first second one.moves two.moves from (views_of one.runs) (views_of two.runs) W x one.beside
           (subst (MovesSimulate schedule second two.moves (views_of one.runs) (views_of two.runs) (all_moved first W)) (reaches_is (flat_map (λ l. l) one.moves) x one.next one.led) two.beside);
     }
@@ -178,7 +178,7 @@ module _ (schedule : WireView) (each : EachMoveSimulates schedule) where
   of_goes from says m W w x Post encodes r g none =
       one_move schedule from 0 says [] m W x Post g.events (items.all_moved r.moves w) g.next g.led g.silent r.encodes g.runs.world
       (λ i o is. let l = g.runs.leads i o is in (l.0, l.1, (all_item_notes r.moves w i, r.notes i, (l.2.0.0 ∙ ap (λ notes. clients_of (noted notes)) (all_noted r.moves w i), l.2.0.1 ∙ all_read r.moves w i ∙ sym (r.reads i)), ap (map written_item) (l.2.1 ∙ all_gave r.moves w i) ∙ sym (r.gives i)))) g.post
-      (let same = moves_many r.moves w none in let shown = encodes.as_many in omega arith)
+      (let same = moves_many r.moves w none in let shown = encodes.encoding.as_many in omega arith)
 
   pub up_byte : (says position : ℕ) (count : Count) (W : wires.ByteWorld) (w : ItemWorld) (x : AppWorld) (top n p : ℕ) → IsEncoded W w → (runs : WorldSimulates schedule bounds says w x) → IsInRound top n p w x →
       LineGoes schedule (views_of runs) 0 says [] (bytes.Up position count ∷ []) W x (IsInRound top n p)
@@ -195,7 +195,7 @@ module _ (schedule : WireView) (each : EachMoveSimulates schedule) where
       let r = is_moved (bytes.Down position count) W w tt encodes in
       let run = r.is_run in
       of_goes (views_of runs) says (bytes.Down position count) W w x (IsInRound (n + 1) n (position + 1)) encodes r
-      (subst (λ ms. Goes schedule (views_of runs) (told_along ms w nothing_told) says (items.all_moved ms w) x (IsInRound (n + 1) n (position + 1) (items.all_moved ms w))) (sym run.2) (down_line schedule each (views_of runs) nothing_told says position run.0 run.1 w x n few (subst (λ k. k ≤ last_moment) encodes.moment timely) (at_once schedule says w x runs) round))
+      (subst (λ ms. Goes schedule (views_of runs) (told_along ms w nothing_told) says (items.all_moved ms w) x (IsInRound (n + 1) n (position + 1) (items.all_moved ms w))) (sym run.2) (down_line schedule each (views_of runs) nothing_told says position run.0 run.1 w x n few (subst (λ k. k ≤ last_moment) encodes.encoding.moment timely) (at_once schedule says w x runs) round))
       (subst (AllByRecursion IsNoDial) (sym run.2) (downs_none position run.0 run.1))
 
   pub pass_goes : (says position : ℕ) (W : wires.ByteWorld) (w : ItemWorld) (x : AppWorld) (n : ℕ) → n ≤ 10100000 → IsTimely W → IsEncoded W w → (runs : WorldSimulates schedule bounds says w x) → IsInRound (n + 1) n position w x →

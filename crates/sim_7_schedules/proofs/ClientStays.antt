@@ -1,5 +1,5 @@
 -- A client that reads a word stays on its connection, but where the word ends the stream.
-use Rattle.std.proofs.Common.{◌≡◌, ℕ, true, false, List, Option, Some, None, Ok, codes, is_ok, length, not, if◌then◌else◌, refl, ap, ◌∙◌, inl, inr, arith}
+use Rattle.std.proofs.Common.{◌≡◌, ℕ, true, false, List, Option, Some, None, Ok, codes, is_ok, not, if◌then◌else◌, refl, ap, ◌∙◌, inl, inr, arith}
 use Rattle.std.proofs.Math.Nat.{mod-lt}
 use Rattle.auth_scram.specs.Exchange.{ClientView as Exchange, added_nonce, begun_client, expecting, server_final_message}
 use Rattle.base_lemmas.proofs.HexDigits.{length-hex16_of}
@@ -22,7 +22,6 @@ use Rattle.im_login.proofs.FeatureLaws.{features_again}
 use Rattle.im_login.specs.Features.{features_elem}
 use Rattle.im_login.specs.Readings.{carrier_read}
 use Rattle.im_login.specs.Sasl.{carrier}
-use Rattle.im_login.specs.declared.features.Features.{Features}
 use Rattle.im_payload.specs.Bare.{bare}
 use Rattle.im_payload.specs.Names.{management, sasl}
 use Rattle.im_requests.specs.Sessions.{enable_item}
@@ -46,18 +45,13 @@ use Rattle.sim_4_links_follow.proofs.Counted.{not_too_high}
 use Rattle.sim_4_links_follow.proofs.SessionReads.{some_digits}
 use Rattle.sim_4_links_follow.proofs.Turning.{header_at, on_element, own_session}
 use Rattle.sim_4_links_follow.proofs.Working.{kept_here, never_apart, phase_here, wire_here}
+use Rattle.sim_4_links_follow.proofs.LoginReads.{login_features, session_features}
 use Rattle.sm_outbox.specs.Sessions.{SessionView}
 use Rattle.sm_outbox.specs.Waiting.{too_high}
 use Rattle.sm_resumption.specs.Previds.{previd_of}
 use Rattle.sm_resumption.specs.declared.answers.TheConstants.{RESUMABLE_SECONDS}
 use Rattle.xml_trees.specs.Trees.{Elem, child, no_nodes}
 use Rattle.xml_writer.specs.Items.{ItemOut, Whole}
-
-abbrev login_features : Features
-login_features = record { scram_sha_256 = true; bind = false; stream_management = false }
-
-abbrev session_features : Features
-session_features = record { scram_sha_256 = false; bind = true; stream_management = true }
 
 module _ (who : Identity) (logins : ℕ → Login) (d : ItemDevice) (wires : Table ItemWire) (v : View ItemOut) (k : ℕ) where
   abbrev now : ClientStep ItemOut ItemOut

@@ -101,32 +101,32 @@ module _ (s : WireView) (right : IsLineList s) where
 
   few_of : (W : ByteWorld) (x : sessions.AppWorld) → Simulates s W x → length x.takes ≤ GREATEST_NUMBER
   few_of W x beside =
-      let led = beside.runs.led in
+      let led = beside.runs.in_bounds.led in
       let many = takes_few _ _ _ led.events x led.reaches in
       let spoken = led.spoken in
-      let said = beside.runs.said in
+      let said = beside.runs.in_bounds.said in
       omega arith
 
   -- each device's epoch is no higher than the numbers that the server gave
   pub epoch_of_device : (says : ℕ) (v : ItemWorld) (x : sessions.AppWorld) (runs : WorldSimulates s bounds says v x) (i : ℕ) (d : sessions.Device) → slice_get x.devices i ≡ Some d → sessions.epoch_of d.sessions ≤ 10001
   epoch_of_device says v x runs i d at =
       let size = slice_get_within x.devices i d at in
-      let many = runs.many_there in
+      let many = runs.simulation.many_there in
       let o = get_or (owned_of s) i (record { device = []; account = [] }) in
       let owned : slice_get (owned_of s) i ≡ Some o = slice_get-get_or (owned_of s) i (record { device = []; account = [] }) (omega arith) in
-      let dr = runs.devices i o owned in
+      let dr = runs.simulation.devices i o owned in
       let same : dr.device ≡ d = same_Some dr.device d (sym dr.there ∙ at) in
       let low = epochs stanzas_read dr.view dr.device dr.sessions (prompt_runs awaits dr.view dr.prompt) in
       let high = dr.represents.server.free in
-      let within = runs.within.few in
-      let dialled = runs.dialled in
+      let within = runs.in_bounds.within.few in
+      let dialled = runs.in_bounds.dialled in
       subst (λ (e : sessions.Device). sessions.epoch_of e.sessions ≤ 10001) same (omega arith)
 
   counted_of : (W : ByteWorld) (x : sessions.AppWorld) → Simulates s W x → AreCounted x
   counted_of W x beside =
-      let led = beside.runs.led in
+      let led = beside.runs.in_bounds.led in
       let spoken = led.spoken in
-      let said = beside.runs.said in
+      let said = beside.runs.in_bounds.said in
       all_weaker (λ (t : sessions.Take). IsNumberedWithin 10001 (length (spoken_in led.events)) t.said) (λ (t : sessions.Take). (t.said.epoch < 2 ^ 64) × (t.said.n < 2 ^ 64)) x.takes
       (λ t few. let epoch = few.0 in let n = few.1 in (omega arith, omega arith))
       (of_all _ _ _ led.events x 10001 led.reaches (epoch_of_device beside.says beside.items x beside.runs))

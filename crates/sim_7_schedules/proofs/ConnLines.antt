@@ -7,7 +7,6 @@ use Rattle.cmd_direct.proofs.TurnRuns.{all_positions}
 use Rattle.cmd_network.specs.Devices.{DeviceState}
 use Rattle.sim_3_images.proofs.NetworkMoves.{found_both}
 use Rattle.sim_3_images.specs.WorldEncodings.{WireAt}
-use Rattle.sim_3_images.specs.Relayable.{DownFits, UpFits}
 use Rattle.sim_3_items.specs.ItemPipes.{ItemWire}
 use Rattle.sim_3_images.proofs.ChangedLists.{all_at}
 use Rattle.law_reports.proofs.Declared.{IsNamed}
@@ -57,9 +56,9 @@ name_there (d ∷ ds) (suc position) o at = name_there ds position o at
 wire_named : (s : WireView) → IsLineList s → (W : ByteWorld) (x : sessions.AppWorld) → IsWorldKept s W → Simulates s W x → (position : ℕ) (b : Wire) → slice_get W.wires position ≡ Some b → IsNamed (name_at b.device W.devices)
 wire_named s right W x kept beside position b at =
     let v = beside.items in
-    let found = found_both (WireAt UpFits DownFits W v position) b (slice_get W.wires position) (slice_get v.wires position) at (beside.encodes.wires position) in
+    let found = found_both (WireAt W v position) b (slice_get W.wires position) (slice_get v.wires position) at (beside.encodes.encoding.wires position) in
     let wire : ItemWire = found.other in
-    let owner = beside.runs.wires position wire found.is in
+    let owner = beside.runs.simulation.wires position wire found.is in
     let same : b.device ≡ wire.device = found.holds.device in
     let there : slice_get (map owned_by W.devices) b.device ≡ Some owner.0 = ap (λ os. slice_get os b.device) kept.owners ∙ ap (λ i. slice_get (owned_of s) i) same ∙ owner.1 in
     subst IsNamed (sym (name_there W.devices b.device owner.0 there)) (subst (λ o. IfSome o IsOwner) owner.1 (all_at IsOwner (owned_of s) wire.device (owners_named s right)))
@@ -80,6 +79,6 @@ lines_right devices k (b ∷ ws) low counts named = (
 
 pub conns_right : (s : WireView) → IsLineList s → (W : ByteWorld) (x : sessions.AppWorld) → IsWorldKept s W → Simulates s W x → AreCounted W.wires → AllByRecursion IsConn (conn_lines W.devices 1 W.wires)
 conns_right s right W x kept beside counts =
-    let many = beside.encodes.as_many in
-    let few = beside.runs.dialled in
+    let many = beside.encodes.encoding.as_many in
+    let few = beside.runs.in_bounds.dialled in
     lines_right W.devices 1 W.wires (omega arith) counts (all_positions (λ (b : Wire). IsNamed (name_at b.device W.devices)) W.wires (wire_named s right W x kept beside))

@@ -1,8 +1,8 @@
 -- Behind a run the clients whose connections are open are online.
-use Rattle.std.proofs.Common.{◌≡◌, ◌⊎◌, ℕ, zero, suc, ◌+◌, ◌≤◌, ◌<◌, true, false, List, [], ◌∷◌, Some, length, sym, ap, ◌∙◌, subst, arith, inl, inr}
+use Rattle.std.proofs.Common.{◌≡◌, ◌⊎◌, ℕ, ◌+◌, ◌≤◌, ◌<◌, true, false, List, Some, length, sym, ap, ◌∙◌, subst, arith, inl, inr}
 use Rattle.std.proofs.lemmas.Bool.{false≢true}
-use Rattle.std.proofs.lemmas.Option.{none-some, same_Some, slice_get_within}
-use Rattle.std.specs.List.{AllByRecursion, slice_get}
+use Rattle.std.proofs.lemmas.Option.{slice_get_within}
+use Rattle.std.specs.List.{slice_get}
 use Rattle.std.specs.Option.{option_map_or}
 use Rattle.cl_handlers.specs.declared.phase.Phase.TheVariants as phase
 use Rattle.cmd_network.specs.Devices.{DeviceState}
@@ -25,6 +25,7 @@ use Rattle.sim_7_schedules.proofs.LinksShown as shown
 use Rattle.sim_7_schedules.specs.LastLines.{AreLinks, EndsInRun, GoesByRounds, IsConnected, world_behind}
 use Rattle.sim_1_applications.specs.Devices.{AppWorld}
 use Rattle.sim_1_applications.specs.Histories.{state_after}
+use Rattle.sim_1_applications.proofs.Lists.{all_at}
 use Rattle.sim_2_links.specs.Machine.{LinkReached}
 use Rattle.sim_2_links.specs.Stages.{Conn}
 use Rattle.sim_2_links.specs.Views.{View}
@@ -34,7 +35,6 @@ use Rattle.sim_3_images.proofs.BookedMoves.{last_world}
 use Rattle.sim_3_images.proofs.MovesKept.{kept_after, kept_first}
 use Rattle.sim_3_images.specs.Devices.{identity_at}
 use Rattle.sim_3_images.specs.Kept.{IsFlowing, IsWorldKept}
-use Rattle.sim_3_images.specs.Relayable.{ClientFits}
 use Rattle.sim_3_images.specs.WorldEncodings.{DeviceEncodes}
 use Rattle.sim_3_items.specs.Clients.{client_phase}
 use Rattle.sim_5_moves.proofs.Known.{owned_there}
@@ -42,11 +42,6 @@ use Rattle.sim_5_moves.specs.Running.{IsOwned}
 use Rattle.sim_7_schedules.proofs.Settled.{both_some}
 use Rattle.sim_7_schedules.specs.Simulation.{SimulatesBy, bounds}
 use Rattle.xml_writer.specs.Items.{ItemOut}
-
-one_of : {A : Type 0} (P : A → Type 0) (xs : List A) (i : ℕ) (x : A) → AllByRecursion P xs → slice_get xs i ≡ Some x → P x
-one_of P [] i x all at = absurd (none-some x at)
-one_of P (y ∷ xs) zero x all at = subst P (same_Some y x at) all.0
-one_of P (y ∷ xs) (suc i) x all at = one_of P xs i x all.1 at
 
 pub most_rounds : (c : Client) → rounds_to_go c ≤ 7
 most_rounds InHeader1 = omega arith
@@ -88,7 +83,7 @@ module _ (s : WireView) (right : IsLineList s) (before : List WireLine) (n : ℕ
   here = (kept.newest i d connected.there).here position connected.newest (ap (λ q. option_map_or (λ (b : Wire). is_open b.end) q false) connected.at ∙ connected.stands)
 
   still : connected.wire.up.ended ≡ false
-  still = (one_of IsFlowing (world_of s).wires position connected.wire kept.flowing connected.at connected.stands).0
+  still = (all_at IsFlowing (world_of s).wires position connected.wire kept.flowing connected.at connected.stands).0
 
   pub there_end : slice_get end.devices i ≡ Some d
   there_end = ap (λ (W : ByteWorld). slice_get W.devices i) (sym is_end) ∙ connected.there
@@ -105,7 +100,7 @@ module _ (s : WireView) (right : IsLineList s) (before : List WireLine) (n : ℕ
   -- it is one of the schedule's
   pub owner : (o : Owned) × IsOwned s i o
   owner =
-      let item = both_some (DeviceEncodes ClientFits) (slice_get end.devices i) (slice_get by_end.beside.items.devices i) d there_end (by_end.beside.encodes.devices i) in
+      let item = both_some DeviceEncodes (slice_get end.devices i) (slice_get by_end.beside.items.devices i) d there_end (by_end.beside.encodes.encoding.devices i) in
       owned_there s bounds by_end.beside.says by_end.beside.items last_applications by_end.beside.runs i item.0 item.1
 
   module _ (o : Owned) (owned : IsOwned s i o) where
@@ -134,10 +129,10 @@ module _ (s : WireView) (right : IsLineList s) (before : List WireLine) (n : ℕ
     is_becomes = conn_last.1
 
     -- as the world beside has it
-    pub shown_first : (along.by.beside.runs.devices i o owned).view ≡ first
+    pub shown_first : (along.by.beside.runs.simulation.devices i o owned).view ≡ first
     shown_first = along.by.shown i o owned
 
-    pub shown_last : (by_end.beside.runs.devices i o owned).view ≡ last
+    pub shown_last : (by_end.beside.runs.simulation.devices i o owned).view ≡ last
     shown_last = by_end.shown i o owned
 
     pub flows : is_flowing becomes.wires ≡ true
@@ -178,7 +173,7 @@ module _ (s : WireView) (right : IsLineList s) (before : List WireLine) (n : ℕ
     pub phase_last : (p : ℕ) → becomes.client ≡ InOnline p → d.client.client.phase ≡ phase.Online
     phase_last p is =
         shown.phase_is s end last_applications by_end.beside i o owned (position + 1) becomes d there_end (ap (λ (v : View ItemOut). v.here) shown_last ∙ here_last) (ap (λ (v : View ItemOut). v.conns (position + 1)) shown_last ∙ is_becomes)
-        ∙ ap (λ c. client_phase (identity_at s i o) ((by_end.beside.runs.devices i o owned).logins (position + 1)) c) is
+        ∙ ap (λ c. client_phase (identity_at s i o) ((by_end.beside.runs.simulation.devices i o owned).logins (position + 1)) c) is
 
     pub online : 7 ≤ n → (p : ℕ) × (becomes.client ≡ InOnline p)
     online enough = let low = most_rounds begins.client in online_then first last (position + 1) n begins becomes reached_first here_first is_begins rounds (omega (arith, low, enough)) is_becomes flows

@@ -71,7 +71,7 @@ module _ (schedule : WireView) (right : IsLineList schedule) (b : Bounds) (small
   one_told : (i : ℕ) (o : Owned) (e : Device) (d : DeviceState) → slice_get (owned_of schedule) i ≡ Some o → slice_get x.devices i ≡ Some e → slice_get w.devices i ≡ Some d
       → IsDeviceLine (keep_in schedule) (history o.account) o e (device_line_of w d)
   one_told i o e d at is there =
-      let one = runs.devices i o at in
+      let one = runs.simulation.devices i o at in
       subst (λ f. IsDeviceLine (keep_in schedule) (history o.account) o f (device_line_of w d)) (same_Some one.device e (sym one.there ∙ is)) (device_told i o d at there one)
 
   lines_told : (os : List Owned) (es : List Device) (ds : List DeviceState) → length es ≡ length os → length ds ≡ length os
@@ -86,4 +86,4 @@ module _ (schedule : WireView) (right : IsLineList schedule) (b : Bounds) (small
       (each 0 o e d refl refl refl, lines_told os es ds (omega (arith, es_many)) (omega (arith, ds_many)) (λ i p f g. each (suc i) p f g))
 
   pub all_told : AreDeviceLines (keep_in schedule) history (owned_of schedule) x.devices (map (device_line_of w) w.devices)
-  all_told = lines_told (owned_of schedule) x.devices w.devices runs.many_there (sym (length-map w.devices owned_by) ∙ ap (λ (os : List Owned). length os) kept.owners) one_told
+  all_told = lines_told (owned_of schedule) x.devices w.devices runs.simulation.many_there (sym (length-map w.devices owned_by) ∙ ap (λ (os : List Owned). length os) kept.owners) one_told

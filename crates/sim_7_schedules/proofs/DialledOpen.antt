@@ -1,11 +1,10 @@
 -- Behind its dial a device is connected.
-use Rattle.std.proofs.Common.{◌≡◌, ℕ, zero, suc, List, [], ◌∷◌, ◌++◌, Option, None, Some, length, refl, sym, ap, ◌∙◌, subst}
+use Rattle.std.proofs.Common.{◌≡◌, ℕ, List, [], ◌∷◌, ◌++◌, Option, None, Some, length, refl, sym, ap, ◌∙◌, subst}
 use Rattle.std.proofs.lemmas.Option.{none-some}
 use Rattle.std.specs.List.{slice_get}
 use Rattle.cmd_network.specs.Devices.{DeviceState, dials_at}
-use Rattle.cmd_network.specs.Positions.{changed_at, changed_where}
+use Rattle.cmd_network.specs.Positions.{changed_where}
 use Rattle.cmd_network.specs.Wires.{fresh_wire, left, put_up}
-use Rattle.cmd_network.specs.declared.wire.Wire.{Wire}
 use Rattle.cmd_schedule.specs.Contents.{Owned}
 use Rattle.cmd_schedule.specs.LineLists.{IsLineList}
 use Rattle.cmd_schedule.specs.Schedules.{WireView}
@@ -14,7 +13,7 @@ use Rattle.cmd_world.specs.Histories.{world_at_start}
 use Rattle.cmd_world.specs.Lines.{move_of, step_moves}
 use Rattle.cmd_world.specs.Moves.{Dial, all_moved, dialed_by, moved}
 use Rattle.cmd_world.specs.Worlds.{ByteWorld, client_entropy, number_at}
-use Rattle.sim_3_images.specs.Relayable.{ClientFits}
+use Rattle.cmd_world.proofs.Numbers.{many_where}
 use Rattle.sim_3_images.specs.WorldEncodings.{Both, DeviceEncodes}
 use Rattle.sim_5_devices.proofs.Worlds.{set_here}
 use Rattle.sim_5_moves.specs.Running.{IsOwned}
@@ -25,15 +24,6 @@ use Rattle.sim_7_schedules.specs.LastLines.{EndsInDial, EndsInRun, world_behind}
 last_there : {T : Type 0} (xs : List T) (x : T) → slice_get (xs ++ x ∷ []) (length xs) ≡ Some x
 last_there [] x = refl
 last_there (y ∷ xs) x = last_there xs x
-
-many_at : (position : ℕ) (f : Wire → Wire) (ws : List Wire) → length (changed_at position f ws) ≡ length ws
-many_at position f [] = refl
-many_at zero f (w ∷ ws) = refl
-many_at (suc position) f (w ∷ ws) = ap suc (many_at position f ws)
-
-many_where : (o : Option ℕ) (f : Wire → Wire) (ws : List Wire) → length (changed_where o f ws) ≡ length ws
-many_where None f ws = refl
-many_where (Some position) f ws = many_at position f ws
 
 dials : (i : ℕ) (W : ByteWorld) (e : DeviceState) → slice_get W.devices i ≡ Some e → IsConnectedBy (dialed_by i (Some e) W) i (length W.wires)
 dials i W e is =
@@ -54,7 +44,7 @@ by_device : (i : ℕ) (W : ByteWorld) (o : Option DeviceState) (d : DeviceState)
 by_device i W None d is at = absurd (none-some d (sym is ∙ at))
 by_device i W (Some e) d is at = dials i W e is
 
-dialled : (s : WireView) (lines : List WireLine) (i : ℕ) (dial : EndsInDial s lines i) → world_behind s lines ≡ moved (Dial i) (world_behind s dial.before)
+pub dialled : (s : WireView) (lines : List WireLine) (i : ℕ) (dial : EndsInDial s lines i) → world_behind s lines ≡ moved (Dial i) (world_behind s dial.before)
 dialled s lines i dial =
     let W = world_behind s dial.before in
     ap (world_behind s) dial.are ∙ stepped_last dial.before dial.line (world_at_start s) ∙ ap (λ step. all_moved (step_moves W.names (length W.wires) dial.line.number step) W) dial.step ∙ ap (λ o. all_moved (move_of Dial o) W) dial.of
@@ -73,8 +63,8 @@ module _ (s : WireView) (right : IsLineList s) (before : List WireLine) (n : ℕ
 
   there : (d : DeviceState) × (slice_get (world_behind s before).devices i ≡ Some d)
   there =
-      let its = (along.by.beside.runs.devices i o owned).represents in
-      other_some (DeviceEncodes ClientFits) (slice_get (world_behind s before).devices i) (slice_get along.by.beside.items.devices i) its.device its.there (along.by.beside.encodes.devices i)
+      let its = (along.by.beside.runs.simulation.devices i o owned).represents in
+      other_some DeviceEncodes (slice_get (world_behind s before).devices i) (slice_get along.by.beside.items.devices i) its.device its.there (along.by.beside.encodes.encoding.devices i)
 
   at_dial : slice_get (dialed_by i (slice_get W.devices i) W).devices i ≡ Some there.0
   at_dial = ap (λ (V : ByteWorld). slice_get V.devices i) (sym (dialled s before i dial)) ∙ there.1

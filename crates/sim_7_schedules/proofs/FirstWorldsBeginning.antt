@@ -25,19 +25,23 @@ nothing_asked schedule b i d there = one_of (λ j (e : Device). e.reading.asked 
 
 pub begun : (schedule : WireView) → IsLineList schedule → (b : Bounds) → WorldSimulates schedule b 0 (items_at_start schedule) (begins schedule)
 begun schedule is b = record {
-  led = led_begins schedule;
-  said = omega arith;
-  asked = nothing_asked schedule b;
-  dialled = omega arith;
-  devices = device_begins schedule is;
-  many = length-map (owned_of schedule) item_device;
-  many_there = one_each (owned_of schedule);
-  wires = λ position wire none. absurd (let no_way : ⊥ = cc in no_way);
-  server = server_begins schedule;
-  takes = refl;
-  clock = refl;
-  now = refl;
-  fits = begun_fits schedule is;
-  stands = start_stands 0 domain (accounts_at_start (names_of schedule)) (keep_in schedule);
-  within = start_within domain (accounts_at_start (names_of schedule)) (keep_in schedule);
+  simulation = record {
+    devices = device_begins schedule is;
+    many = length-map (owned_of schedule) item_device;
+    many_there = one_each (owned_of schedule);
+    wires = λ position wire none. absurd (let no_way : ⊥ = cc in no_way);
+    server = server_begins schedule;
+    takes = refl;
+    clock = refl;
+    now = refl;
+  };
+  in_bounds = record {
+    led = led_begins schedule;
+    said = omega arith;
+    asked = nothing_asked schedule b;
+    dialled = omega arith;
+    fits = begun_fits schedule is;
+    stands = start_stands 0 domain (accounts_at_start (names_of schedule)) (keep_in schedule);
+    within = start_within domain (accounts_at_start (names_of schedule)) (keep_in schedule);
+  };
 }

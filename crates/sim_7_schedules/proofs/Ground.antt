@@ -49,39 +49,39 @@ all_three P Q R S each (x ∷ xs) p q r = (each x p.0 q.0 r.0, all_three P Q R S
 
 module _ (schedule : WireView) (right : IsLineList schedule) (b : Bounds) (says : ℕ) (v : ItemWorld) (x : AppWorld) (runs : WorldSimulates schedule b says v x) where
   taken : Taken x
-  taken = taken_along runs.led.events (begins schedule) x runs.led.reaches (taken_beginning (keep_in schedule) (names_of schedule) _)
+  taken = taken_along runs.in_bounds.led.events (begins schedule) x runs.in_bounds.led.reaches (taken_beginning (keep_in schedule) (names_of schedule) _)
 
   pub read : Read x
   read =
-      read_along runs.led.events (begins schedule) x runs.led.reaches (taken_beginning (keep_in schedule) (names_of schedule) _)
+      read_along runs.in_bounds.led.events (begins schedule) x runs.in_bounds.led.reaches (taken_beginning (keep_in schedule) (names_of schedule) _)
       (read_beginning (keep_in schedule) (some_kept schedule.version right.keeps) (names_of schedule) _)
 
   pub keeps : x.keep ≡ keep_in schedule
-  keeps = (later_along runs.led.events (begins schedule) x runs.led.reaches).keep
+  keeps = (later_along runs.in_bounds.led.events (begins schedule) x runs.in_bounds.led.reaches).keep
 
   pub exist : x.accounts ≡ names_of schedule
-  exist = (later_along runs.led.events (begins schedule) x runs.led.reaches).accounts
+  exist = (later_along runs.in_bounds.led.events (begins schedule) x runs.in_bounds.led.reaches).accounts
 
   -- each device is one of the schedule's
   pub owner_at : (i : ℕ) → i < length x.devices → (o : Owned) × (slice_get (owned_of schedule) i ≡ Some o)
-  owner_at i low = (let many = runs.many_there in some_at (owned_of schedule) i (omega (arith, low, many)))
+  owner_at i low = (let many = runs.simulation.many_there in some_at (owned_of schedule) i (omega (arith, low, many)))
 
   epoch_low : (i : ℕ) (d : Device) → slice_get x.devices i ≡ Some d → epoch_of d.sessions ≤ b.dials + 1
   epoch_low i d at =
       let o = owner_at i (slice_get_within x.devices i d at) in
-      let one = runs.devices i o.0 o.1 in
+      let one = runs.simulation.devices i o.0 o.1 in
       let same = same_Some one.device d (sym one.there ∙ at) in
       let low = epochs stanzas_read one.view one.device one.sessions (prompt_runs awaits one.view one.prompt) in
       let free = one.represents.server.free in
-      let few = runs.within.few in
-      let dialled = runs.dialled in
+      let few = runs.in_bounds.within.few in
+      let dialled = runs.in_bounds.dialled in
       subst (λ (e : Device). epoch_of e.sessions ≤ b.dials + 1) same (omega (arith, low, free, few, dialled))
 
   pub few_takes : AreSmall b → length x.takes < 2 ^ 64
   few_takes small =
-      let few = takes_few (keep_in schedule) (names_of schedule) _ runs.led.events x runs.led.reaches in
-      let spoken = runs.led.spoken in
-      let said = runs.said in
+      let few = takes_few (keep_in schedule) (names_of schedule) _ runs.in_bounds.led.events x runs.in_bounds.led.reaches in
+      let spoken = runs.in_bounds.led.spoken in
+      let said = runs.in_bounds.said in
       let bounded = small.stanzas in
       omega (arith, few, spoken, said, bounded)
 
@@ -92,7 +92,7 @@ module _ (schedule : WireView) (right : IsLineList schedule) (b : Bounds) (says 
   of_one : (i : ℕ) → i < length x.devices → AllByRecursion (IsNamedTake i) (filter (is_of i) x.takes)
   of_one i low =
       let o = owner_at i low in
-      let one = runs.devices i o.0 o.1 in
+      let one = runs.simulation.devices i o.0 o.1 in
       let known = declared schedule i o.0 right o.1 in
       let home = (taken.devices i one.device one.there).takes.home in
       all_weaker (λ t. t.account ≡ one.device.account) (IsNamedTake i) (filter (is_of i) x.takes)
@@ -108,12 +108,12 @@ module _ (schedule : WireView) (right : IsLineList schedule) (b : Bounds) (says 
   pub tellable : AreSmall b → AllByRecursion (IsTellable (owned_of schedule)) x.takes
   tellable small =
       let names = are_names (names_of schedule) (are_accounts schedule (may_run_all schedule right)) in
-      let numbered = of_all (keep_in schedule) (names_of schedule) _ runs.led.events x (b.dials + 1) runs.led.reaches epoch_low in
+      let numbered = of_all (keep_in schedule) (names_of schedule) _ runs.in_bounds.led.events x (b.dials + 1) runs.in_bounds.led.reaches epoch_low in
       let dials = small.dials in
       let stanzas = small.stanzas in
-      let said = runs.said in
-      let spoken = runs.led.spoken in
-      all_three (λ t. IsNamedTake t.device t) (IsOfDevice x.accounts (length x.devices)) (λ t. IsNumberedWithin (b.dials + 1) (length (spoken_in runs.led.events)) t.said) (IsTellable (owned_of schedule))
+      let said = runs.in_bounds.said in
+      let spoken = runs.in_bounds.led.spoken in
+      all_three (λ t. IsNamedTake t.device t) (IsOfDevice x.accounts (length x.devices)) (λ t. IsNumberedWithin (b.dials + 1) (length (spoken_in runs.in_bounds.led.events)) t.said) (IsTellable (owned_of schedule))
       (λ t named of within.
       let epoch = within.0 in
       let n = within.1 in

@@ -18,6 +18,7 @@ use Rattle.cmd_world.specs.Effects.{Effects, all_emitted, effects_of, emitted}
 use Rattle.cmd_world.specs.Lines.{round_from, rounds_of}
 use Rattle.cmd_world.specs.Moves.{Link, Move, Up, Down, all_moved, moved, down_by, down_to, end_heard, heard_by, heard, heard_first, left_where, link_of, reported_up, served, served_by, step_of_piece}
 use Rattle.cmd_world.specs.Worlds.{ByteWorld, number_at}
+use Rattle.cmd_world.proofs.UpDevices.{up_devices}
 use Rattle.net_pipes.specs.Pipes.{is_end_due}
 use Rattle.srv_core.specs.Events.{after_gone}
 use Rattle.srv_state.specs.State.{Out, Put, Shut, Took}
@@ -36,25 +37,6 @@ HasHere i position W = here_of (slice_get W.devices i) ≡ Some position
 pub here_there : (o : Option DeviceState) (position : ℕ) → here_of o ≡ Some position → (d : DeviceState) × (o ≡ Some d) × (d.here ≡ Some position)
 here_there None position at = absurd (none-some position at)
 here_there (Some d) position at = (d, refl, at)
-
-up_devices : (p : ℕ) (count : Count) (W : ByteWorld) → (moved (Up p count) W).devices ≡ W.devices
-up_devices p count W = told (slice_get (served_by p count (slice_get W.wires p) W).wires p) (served_by p count (slice_get W.wires p) W) ∙ of_wire (slice_get W.wires p)
-  where
-    chosen : (b : Bool) (wire : Wire) (V : ByteWorld) → (cond b (record V { server = after_gone (number_at p) V.moment V.server; wires = slice_set V.wires p (up_end_reported wire) }) V).devices ≡ V.devices
-    chosen true wire V = refl
-    chosen false wire V = refl
-
-    told : (o : Option Wire) (V : ByteWorld) → (reported_up p o V).devices ≡ V.devices
-    told None V = refl
-    told (Some wire) V = chosen (is_end_due wire.up) wire V
-
-    first : (b : Bool) (n : ℕ) (wire : Wire) → (cond b W (served p n wire W)).devices ≡ W.devices
-    first true n wire = refl
-    first false n wire = refl
-
-    of_wire : (o : Option Wire) → (served_by p count o W).devices ≡ W.devices
-    of_wire None = refl
-    of_wire (Some wire) = first (amount count wire.up == 0) (amount count wire.up) wire
 
 -- one device is changed
 set_here : (ds : List DeviceState) (k i : ℕ) (new old : DeviceState) (h : ℕ) → slice_get ds k ≡ Some old → (new.here ≡ Some h → old.here ≡ Some h) → here_of (slice_get (slice_set ds k new) i) ≡ Some h → here_of (slice_get ds i) ≡ Some h

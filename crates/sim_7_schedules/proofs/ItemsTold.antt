@@ -113,7 +113,7 @@ module _ (schedule : WireView) (b : Bounds) (small : AreSmall b) (says : ℕ) (w
   i = wire.device
 
   abbrev old : DeviceSimulates schedule w x i o
-  old = runs.devices i o owned
+  old = runs.simulation.devices i o owned
 
   abbrev who : Identity
   who = identity_at schedule i o
@@ -150,7 +150,7 @@ module _ (schedule : WireView) (b : Bounds) (small : AreSmall b) (says : ℕ) (w
     names = named_at (owned_of schedule) i o ground.named.devices owned
 
     early : x.clock ≤ last_moment
-    early = subst (λ n. n ≤ last_moment) (sym runs.clock) timely
+    early = subst (λ n. n ≤ last_moment) (sym runs.simulation.clock) timely
 
     known : IsReadable schedule w x i o old z
     known = record {
@@ -162,7 +162,7 @@ module _ (schedule : WireView) (b : Bounds) (small : AreSmall b) (says : ℕ) (w
       next = nx;
       plain = world_plain (owned_of schedule) x ground.taken ground.named early ground.few o.account;
       few = ground.few;
-      more = (let few = runs.asked i old.device old.there in let most = small.stanzas in omega (arith, few, most));
+      more = (let few = runs.in_bounds.asked i old.device old.there in let most = small.stanzas in omega (arith, few, most));
       short = subst (λ m. IfSome m (λ s. length s.waiting.queue ≤ 1002)) nx.has (short_queue who old.logins d old.view old.in_time old.represents.client);
     }
 

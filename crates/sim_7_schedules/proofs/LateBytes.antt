@@ -69,11 +69,11 @@ module _ (s : WireView) (right : IsLineList s) (W : ByteWorld) (x : sessions.App
 
   -- ---- where it begins
 
-  found : Found (WireAt UpFits DownFits W v position) by.wire (slice_get v.wires position)
-  found = found_both (WireAt UpFits DownFits W v position) by.wire (slice_get W.wires position) (slice_get v.wires position) by.there (here.encodes.wires position)
+  found : Found (WireAt W v position) by.wire (slice_get v.wires position)
+  found = found_both (WireAt W v position) by.wire (slice_get W.wires position) (slice_get v.wires position) by.there (here.encodes.encoding.wires position)
 
   nobody : session_at k v.server.sessions ≡ None
-  nobody = none_rendered (session_rendered written_item) (session_at k v.server.sessions) (sym (at_rendered written_item k v.server.sessions) ∙ sym (ap (λ (h : ServerState (List ℕ)). session_at k h.sessions) here.encodes.server_state) ∙ none)
+  nobody = none_rendered (session_rendered written_item) (session_at k v.server.sessions) (sym (at_rendered written_item k v.server.sessions) ∙ sym (ap (λ (h : ServerState (List ℕ)). session_at k h.sessions) here.encodes.encoding.server_state) ∙ none)
 
   begins : Late (others v.server.sessions) v
   begins = record {
@@ -93,7 +93,7 @@ module _ (s : WireView) (right : IsLineList s) (W : ByteWorld) (x : sessions.App
   tick = each_runs s right (Tick 0) here.says v x tt here.runs tt
 
   moments : max v.server.moment (v.moment + 0) ≡ max m m
-  moments = ap (λ n. max n (v.moment + 0)) here.runs.now ∙ ap (λ n. max m n) still
+  moments = ap (λ n. max n (v.moment + 0)) here.runs.simulation.now ∙ ap (λ n. max m n) still
 
   ticks : Late (others (filter timely v.server.sessions)) ticked
   ticks = record {
@@ -157,9 +157,9 @@ module _ (s : WireView) (right : IsLineList s) (W : ByteWorld) (x : sessions.App
 
   at_moment_rendered : (at_moment W.moment W.server.server_state).sessions ≡ sessions_rendered written_item (filter timely v.server.sessions)
   at_moment_rendered =
-      ap (λ (h : ServerState (List ℕ)). unexpired (max h.moment W.moment) h.sessions) here.encodes.server_state
-      ∙ ap (λ n. unexpired (max n W.moment) (sessions_rendered written_item v.server.sessions)) here.runs.now
-      ∙ ap (λ n. unexpired (max m n) (sessions_rendered written_item v.server.sessions)) here.encodes.moment
+      ap (λ (h : ServerState (List ℕ)). unexpired (max h.moment W.moment) h.sessions) here.encodes.encoding.server_state
+      ∙ ap (λ n. unexpired (max n W.moment) (sessions_rendered written_item v.server.sessions)) here.runs.simulation.now
+      ∙ ap (λ n. unexpired (max m n) (sessions_rendered written_item v.server.sessions)) here.encodes.encoding.moment
       ∙ filtered written_item (λ u. not (is_none u.conn && nat_le RESUMABLE_FOR (max m m - u.parked_at))) v.server.sessions
 
   module _ (count : Count) where
@@ -179,10 +179,10 @@ module _ (s : WireView) (right : IsLineList s) (W : ByteWorld) (x : sessions.App
     version = (kept_after s (bytes.Up position count) W kept).version ∙ sym kept.version
 
     there : beside s o V.server.server_state.sessions ≡ sessions_rendered written_item (others y.server.sessions)
-    there = ap (λ (h : ServerState (List ℕ)). beside s o h.sessions) r.encodes.server_state ∙ beside_rendered y.server.sessions
+    there = ap (λ (h : ServerState (List ℕ)). beside s o h.sessions) r.encodes.encoding.server_state ∙ beside_rendered y.server.sessions
 
     before : beside s o W.server.server_state.sessions ≡ sessions_rendered written_item (others v.server.sessions)
-    before = ap (λ (h : ServerState (List ℕ)). beside s o h.sessions) here.encodes.server_state ∙ beside_rendered v.server.sessions
+    before = ap (λ (h : ServerState (List ℕ)). beside s o h.sessions) here.encodes.encoding.server_state ∙ beside_rendered v.server.sessions
 
     on_moment : beside s o (at_moment W.moment W.server.server_state).sessions ≡ sessions_rendered written_item (others (filter timely v.server.sessions))
     on_moment = ap (λ ss. beside s o ss) at_moment_rendered ∙ beside_rendered (filter timely v.server.sessions)
@@ -194,7 +194,7 @@ module _ (s : WireView) (right : IsLineList s) (W : ByteWorld) (x : sessions.App
 
     pub device_alone : IsOfDeviceAlone s o W (moved (bytes.Up position count) W)
     device_alone = record {
-      archives = ap (λ (h : ServerState (List ℕ)). h.archives) r.encodes.server_state ∙ alone.archived ∙ sym (ap (λ (h : ServerState (List ℕ)). h.archives) here.encodes.server_state);
-      takes = r.encodes.takes ∙ ap (λ n. map (line_reported n) y.takes) version ∙ ap (map (line_reported W.version)) alone.taken ∙ sym here.encodes.takes;
+      archives = ap (λ (h : ServerState (List ℕ)). h.archives) r.encodes.encoding.server_state ∙ alone.archived ∙ sym (ap (λ (h : ServerState (List ℕ)). h.archives) here.encodes.encoding.server_state);
+      takes = r.encodes.encoding.takes ∙ ap (λ n. map (line_reported n) y.takes) version ∙ ap (map (line_reported W.version)) alone.taken ∙ sym here.encodes.encoding.takes;
       others = others_are alone.spared;
     }

@@ -81,7 +81,7 @@ module _ (schedule : WireView) (right : IsLineList schedule) (d : ℕ) (o : Owne
 
     module _ (says : ℕ) (w : ItemWorld) (x : AppWorld) (runs : WorldSimulates schedule bounds says w x) (late : IsLate w) where
       abbrev old : DeviceSimulates schedule w x d o
-      old = runs.devices d o owned
+      old = runs.simulation.devices d o owned
 
       module _ (i : ItemOut) (items : List ItemOut) (pipe : late.wire.up.items ≡ i ∷ items) where
         g : ItemGoesUp who old.logins w old.view position late.wire i
@@ -184,7 +184,7 @@ module _ (schedule : WireView) (right : IsLineList schedule) (d : ℕ) (o : Owne
 
     module _ (w : ItemWorld) (goes : Goes w) where
       abbrev at_end : DeviceSimulates schedule w goes.beside d o
-      at_end = goes.runs.devices d o owned
+      at_end = goes.runs.simulation.devices d o owned
 
       abbrev later : List (Session ItemOut)
       later = unexpired (max w.server.moment w.moment) w.server.sessions
@@ -209,7 +209,7 @@ module _ (schedule : WireView) (right : IsLineList schedule) (d : ℕ) (o : Owne
           either false = without_others who.account who.resource s.shown.number later (seated s is)
 
       moments : max w.server.moment w.moment ≡ max m m
-      moments = ap (λ n. max n w.moment) (goes.runs.now ∙ goes.late.moment) ∙ ap (λ n. max m n) goes.late.moment
+      moments = ap (λ n. max n w.moment) (goes.runs.simulation.now ∙ goes.late.moment) ∙ ap (λ n. max m n) goes.late.moment
 
       -- with those that are on time
       pub record IsOver (next : ItemWorld) : Type 0 where

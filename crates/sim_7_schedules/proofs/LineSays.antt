@@ -6,7 +6,6 @@ use Rattle.cl_core.specs.UserCalls.{say_answer}
 use Rattle.cl_core.specs.declared.faults.SayFault.{SayFault}
 use Rattle.law_client.proofs.TableRendered.{answer_rendered}
 use Rattle.cl_handlers.specs.Clients.{ClientView}
-use Rattle.sim_3_images.specs.Relayable.{ClientFits}
 use Rattle.cmd_network.specs.Devices.{DeviceState}
 use Rattle.base_io.specs.Names.{position_of}
 use Rattle.sim_3_images.specs.WorldEncodings.{Both, DeviceEncodes}
@@ -48,9 +47,9 @@ said_by_step W _ = []
 -- the client of bytes answers as that of items
 pub same_said : (position : ℕ) (to text : List ℕ) (private : Bool) (W : ByteWorld) (w : ItemWorld) → IsTrue (is_name to) → IsEncoded W w →
     said_at position (bare_address to) text private (slice_get w.devices position) ≡ said_on position to text private (slice_get W.devices position)
-same_said position to text private W w named encodes = by (slice_get W.devices position) (slice_get w.devices position) (encodes.devices position)
+same_said position to text private W w named encodes = by (slice_get W.devices position) (slice_get w.devices position) (encodes.encoding.devices position)
   where
-    by : (od : Option DeviceState) (oe : Option ItemDevice) → Both (DeviceEncodes ClientFits) od oe → said_at position (bare_address to) text private oe ≡ said_on position to text private od
+    by : (od : Option DeviceState) (oe : Option ItemDevice) → Both DeviceEncodes od oe → said_at position (bare_address to) text private oe ≡ said_on position to text private od
     by None None h = refl
     by None (Some e) h = absurd h
     by (Some d) None h = absurd h

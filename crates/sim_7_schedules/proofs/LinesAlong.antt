@@ -99,7 +99,7 @@ module _ (schedule : WireView) (each : EachMoveSimulates schedule) where
         few = (let more = c.units in omega (arith, more, asked));
         times = c.few_times;
         dials = c.few_dials;
-        many = (let wide = d.goes.wide in let shown = d.goes.encodes.as_many in let there = before.many in let same = c.dials in omega (arith, wide, shown, there, same));
+        many = (let wide = d.goes.wide in let shown = d.goes.encodes.encoding.as_many in let there = before.many in let same = c.dials in omega (arith, wide, shown, there, same));
         moment = (let more = line_moment W.names (length W.wires) line.number W line.step in omega (arith, soon, more));
       }
 

@@ -47,7 +47,7 @@ shown_wire who x k c (Some p) is = (p, refl, is)
 
 module _ (s : WireView) (W : ByteWorld) (x : AppWorld) (beside : Simulates s W x) (i : ℕ) (o : Owned) (owned : IsOwned s i o) where
   abbrev pub links_here : DeviceSimulates s beside.items x i o
-  links_here = beside.runs.devices i o owned
+  links_here = beside.runs.simulation.devices i o owned
 
   abbrev who : Identity
   who = identity_at s i o
@@ -57,8 +57,8 @@ module _ (s : WireView) (W : ByteWorld) (x : AppWorld) (beside : Simulates s W x
 
   -- ---- the client
 
-  pub device_is : (d : DeviceState) → slice_get W.devices i ≡ Some d → DeviceEncodes ClientFits d links_here.represents.device
-  device_is d at = both_there (DeviceEncodes ClientFits) (slice_get W.devices i) (slice_get beside.items.devices i) d links_here.represents.device at links_here.represents.there (beside.encodes.devices i)
+  pub device_is : (d : DeviceState) → slice_get W.devices i ≡ Some d → DeviceEncodes d links_here.represents.device
+  device_is d at = both_there DeviceEncodes (slice_get W.devices i) (slice_get beside.items.devices i) d links_here.represents.device at links_here.represents.there (beside.encodes.encoding.devices i)
 
   -- the connection that it has
   pub conn_here : (position : ℕ) (d : DeviceState) → slice_get W.devices i ≡ Some d → d.here ≡ Some position → (c : Conn ItemOut) × (links_here.view.conns (position + 1) ≡ Some c) × ((links_here.view.here ≡ Some (position + 1)) ⊎ (is_flowing c.wires ≡ false))
@@ -78,7 +78,7 @@ module _ (s : WireView) (W : ByteWorld) (x : AppWorld) (beside : Simulates s W x
     pub items : ItemWire
     pub there_items : slice_get beside.items.wires position ≡ Some items
     pub is_wire : IsWire who (links_here.logins (position + 1)) (position + 1) c items
-    pub encodes : WireAt UpFits DownFits W beside.items position bytes items
+    pub encodes : WireAt W beside.items position bytes items
 
   pub pair_at : (position : ℕ) (c : Conn ItemOut) → links_here.view.conns (position + 1) ≡ Some c → Pair position c
   pair_at position c is =
@@ -86,7 +86,7 @@ module _ (s : WireView) (W : ByteWorld) (x : AppWorld) (beside : Simulates s W x
       let by_conn = subst (λ q. IsShown who (links_here.logins (position + 1)) (position + 1) q (by_number beside.items.wires (position + 1))) is shown in
       let found = shown_wire who (links_here.logins (position + 1)) (position + 1) c (by_number beside.items.wires (position + 1)) by_conn in
       let there = sym (next_position beside.items.wires position) ∙ found.1 in
-      let bytes = other_some (WireAt UpFits DownFits W beside.items position) (slice_get W.wires position) (slice_get beside.items.wires position) found.0 there (beside.encodes.wires position) in
+      let bytes = other_some (WireAt W beside.items position) (slice_get W.wires position) (slice_get beside.items.wires position) found.0 there (beside.encodes.encoding.wires position) in
       record { bytes = bytes.0; there = bytes.1; items = found.0; there_items = there; is_wire = found.2; encodes = bytes.2 }
 
   pub of_device : (position : ℕ) (c : Conn ItemOut) (pair : Pair position c) → pair.bytes.device ≡ i

@@ -1,6 +1,6 @@
 -- Where no older connection of a device has bytes under way to the server, none comes to have any in a run, and no late word
 -- comes.
-use Rattle.std.proofs.Common.{◌≡◌, ◌≢◌, ℕ, zero, suc, ◌+◌, ◌==◌, ◌&&◌, not, Bool, true, false, cond, List, [], ◌∷◌, ◌++◌, Option, None, Some, refl, sym, ap, ◌∙◌, subst, inl, inr}
+use Rattle.std.proofs.Common.{◌≡◌, ◌≢◌, ℕ, zero, suc, ◌+◌, ◌==◌, ◌&&◌, Bool, true, false, cond, List, [], ◌∷◌, ◌++◌, Option, None, Some, refl, sym, ap, ◌∙◌, subst, inl, inr}
 use Rattle.std.proofs.lemmas.Bool.{eqb-true}
 use Rattle.std.proofs.lemmas.Option.{none-some, same_Some}
 use Rattle.std.specs.List.{AllByRecursion, slice_get, slice_set}
@@ -12,14 +12,14 @@ use Rattle.cmd_network.specs.declared.wire.Wire.{Wire}
 use Rattle.cmd_schedule.specs.declared.schedule.Count.{Count}
 use Rattle.cmd_schedule.specs.declared.schedule.Version.{Version}
 use Rattle.cmd_world.specs.Effects.{Effects, all_emitted, effects_of, emitted}
-use Rattle.cmd_world.specs.Moves.{Down, Link, Move, Up, down_by, down_to, end_heard, heard, heard_by, heard_first, left_where, link_of, moved, reported_up, served, served_by, step_of_piece}
+use Rattle.cmd_world.specs.Moves.{Down, Link, Move, Up, down_by, down_to, end_heard, heard, heard_by, heard_first, link_of, moved, reported_up, served, served_by, step_of_piece}
 use Rattle.cmd_world.specs.Worlds.{ByteWorld, number_at}
 use Rattle.net_pipes.specs.Pipes.{Pipe, is_end_due}
 use Rattle.sim_3_images.proofs.PipeSteps.{due_encodes, empty_encodes}
 use Rattle.sim_3_images.specs.ItemRuns.{AreServedUps, downs, moved_where, ups}
 use Rattle.sim_3_images.specs.PipeEncodings.{IsCarried, PipeEncodes, over, standing}
-use Rattle.sim_3_images.specs.Relayable.{DownFits, UpFits}
 use Rattle.sim_3_images.specs.WorldEncodings.{Both, WireAt}
+use Rattle.sim_3_images.proofs.DownMoves.{left_device}
 use Rattle.sim_3_items.specs.ItemMoves as items
 use Rattle.sim_3_items.specs.ItemMoves.{ItemMove, Tick, UpEnd, all_moved}
 use Rattle.sim_3_items.specs.ItemPipes as pipes
@@ -178,13 +178,13 @@ no_ends q false = tt
 -- on the item's side
 quiet_of : (i position q : ℕ) (W : ByteWorld) (v : ItemWorld) → IsEncoded W v → HasNothingOlder W i position → q ≢ position → IsQuiet i q v
 quiet_of i position q W v encodes nothing apart u at of =
-    let b = byte_wire (slice_get W.wires q) (slice_get v.wires q) u at (encodes.wires q) in
+    let b = byte_wire (slice_get W.wires q) (slice_get v.wires q) u at (encodes.encoding.wires q) in
     no_items _ _ _ b.0.up u.up b.2.up (nothing q b.0 b.1 (b.2.device ∙ of) apart)
   where
-    byte_wire : (oa : Option Wire) (ob : Option ItemWire) (y : ItemWire) → ob ≡ Some y → Both (WireAt UpFits DownFits W v q) oa ob → (a : Wire) × (oa ≡ Some a) × WireAt UpFits DownFits W v q a y
+    byte_wire : (oa : Option Wire) (ob : Option ItemWire) (y : ItemWire) → ob ≡ Some y → Both (WireAt W v q) oa ob → (a : Wire) × (oa ≡ Some a) × WireAt W v q a y
     byte_wire oa None y is both = absurd (none-some y is)
     byte_wire None (Some x) y is both = absurd both
-    byte_wire (Some a) (Some x) y is both = (a, refl, subst (λ z. WireAt UpFits DownFits W v q a z) (same_Some x y is) both)
+    byte_wire (Some a) (Some x) y is both = (a, refl, subst (λ z. WireAt W v q a z) (same_Some x y is) both)
 
 pub no_late_word : (m : Move) (i position : ℕ) (W : ByteWorld) → IsHanding m → HasNothingOlder W i position → (e : IsEndedIn m i position W) → AsksHere i position e.from (all_moved e.done e.beside) → ⊥
 no_late_word (Up q count) i position W hands nothing e asks =
@@ -264,11 +264,6 @@ module _ (i : ℕ) where
       of_wire : (o : Option Wire) → slice_get W.wires q ≡ o → NoneAt p (served_by q count o W).wires
       of_wire None is = none
       of_wire (Some wire) is = first (amount count wire.up == 0) (amount count wire.up) wire is
-
-  -- whose connection it is doesn't change
-  left_device : (b : Bool) (wire : Wire) → (left_where b wire).device ≡ wire.device
-  left_device true wire = refl
-  left_device false wire = refl
 
   heard_device : (q : ℕ) (count : Count) (l : Link) → (heard_by q count l).wire.device ≡ l.wire.device
   heard_device q count l = by (has_wire q l.device.here)

@@ -1,5 +1,5 @@
 -- A connection that a device has stays open in a world of bytes, whatever bytes are handed over; but for two causes.
-use Rattle.std.proofs.Common.{◌≡◌, ◌≢◌, ◌⊎◌, ℕ, zero, suc, ◌+◌, ◌≤◌, ◌==◌, ◌&&◌, Bool, true, false, cond, List, [], ◌∷◌, ◌++◌, Option, None, Some, append_assoc, length, refl, sym, ap, ◌∙◌, subst, inl, inr}
+use Rattle.std.proofs.Common.{◌≡◌, ◌≢◌, ◌⊎◌, ℕ, zero, suc, ◌+◌, ◌≤◌, ◌==◌, ◌&&◌, Bool, true, false, cond, List, [], ◌∷◌, ◌++◌, Option, None, Some, append_assoc, refl, sym, ap, ◌∙◌, subst, inl, inr}
 use Rattle.std.proofs.lemmas.Bool.{cases_eq}
 use Rattle.std.proofs.lemmas.Option.{none-some, same_Some}
 use Rattle.std.specs.List.{slice_get, slice_set}
@@ -20,7 +20,8 @@ use Rattle.cmd_world.specs.Effects.{Effects, all_emitted, effects_of, emitted}
 use Rattle.cmd_world.specs.Moves.{Down, Link, Move, Up, down_by, down_to, end_heard, heard, heard_by, heard_first, left_where, link_of, moved, reported_up, served, served_by, step_of_piece}
 use Rattle.cmd_world.specs.WorldReports.{is_open}
 use Rattle.cmd_world.specs.Worlds.{ByteWorld, number_at}
-use Rattle.net_pipes.specs.Pipes.{Pipe, entered, is_end_due, risen}
+use Rattle.cmd_world.proofs.UpDevices.{up_devices}
+use Rattle.net_pipes.specs.Pipes.{is_end_due}
 use Rattle.sim_1_applications.specs.Devices.{AppWorld}
 use Rattle.sim_3_images.proofs.NetworkMoves.{found_both}
 use Rattle.sim_3_images.proofs.UpMoves.{moved_joined}
@@ -28,6 +29,7 @@ use Rattle.sim_3_images.specs.ItemRuns.{AreServedUps, downs, moved_where, ups}
 use Rattle.sim_3_images.specs.Relayable.{ClientFits, DownFits, ServerFits, UpFits}
 use Rattle.sim_3_images.specs.Stands.{StandingServers}
 use Rattle.sim_3_images.specs.WorldEncodings.{Both, DeviceEncodes, IsMoved, WireAt}
+use Rattle.sim_3_images.proofs.PutSteps.{ended_entered}
 use Rattle.sim_3_items.specs.ItemMoves as items
 use Rattle.sim_3_items.specs.ItemMoves.{DownEnd, ItemMove, Tick, UpEnd}
 use Rattle.sim_3_items.specs.ItemWorlds.{ItemWorld}
@@ -103,16 +105,9 @@ up_so q count W p so = told (slice_get (served_by q count (slice_get W.wires q) 
     of_wire (Some wire) is = first (amount count wire.up == 0) (amount count wire.up) wire is
 
 -- what is put behind it
-entered_same : (bytes : List ℕ) (p : Pipe) → (entered bytes p).ended ≡ p.ended
-entered_same bytes p = by p.ended
-  where
-    by : (b : Bool) → (cond b p (record p { bytes = p.bytes ++ bytes; put = risen p.put (length bytes) })).ended ≡ p.ended
-    by true = refl
-    by false = refl
-
 put_so : (bytes : List ℕ) (b : Wire) → IsOpenOr b → IsOpenOr (put_up bytes b)
 put_so bytes b (inl open_end) = inl open_end
-put_so bytes b (inr ended) = inr (entered_same bytes b.up ∙ ended)
+put_so bytes b (inr ended) = inr (ended_entered bytes b.up ∙ ended)
 
 left_so : (is_gone : Bool) (b : Wire) → IsOpenOr b → IsOpenOr (left_where is_gone b)
 left_so true b so = inr refl
@@ -171,25 +166,6 @@ set_newest (d ∷ ds) zero (suc i) new old found same = refl
 set_newest (d ∷ ds) (suc k) zero new old found same = refl
 set_newest (d ∷ ds) (suc k) (suc i) new old found same = set_newest ds k i new old found same
 
-up_devices : (q : ℕ) (count : Count) (W : ByteWorld) → (moved (Up q count) W).devices ≡ W.devices
-up_devices q count W = told (slice_get (served_by q count (slice_get W.wires q) W).wires q) (served_by q count (slice_get W.wires q) W) ∙ of_wire (slice_get W.wires q)
-  where
-    chosen : (b : Bool) (wire : Wire) (V : ByteWorld) → (cond b (record V { server = after_gone (number_at q) V.moment V.server; wires = slice_set V.wires q (up_end_reported wire) }) V).devices ≡ V.devices
-    chosen true wire V = refl
-    chosen false wire V = refl
-
-    told : (o : Option Wire) (V : ByteWorld) → (reported_up q o V).devices ≡ V.devices
-    told None V = refl
-    told (Some wire) V = chosen (is_end_due wire.up) wire V
-
-    first : (b : Bool) (n : ℕ) (wire : Wire) → (cond b W (served q n wire W)).devices ≡ W.devices
-    first true n wire = refl
-    first false n wire = refl
-
-    of_wire : (o : Option Wire) → (served_by q count o W).devices ≡ W.devices
-    of_wire None = refl
-    of_wire (Some wire) = first (amount count wire.up == 0) (amount count wire.up) wire
-
 unless_newest : (b : Bool) (d : DeviceState) → (cond b (record d { here = None }) d).newest ≡ d.newest
 unless_newest true d = refl
 unless_newest false d = refl
@@ -241,8 +217,8 @@ pub record IsByteOpen (i position : ℕ) (W : ByteWorld) : Type 0 where
 
 to_items : (i position : ℕ) (W : ByteWorld) (v : ItemWorld) → IsEncoded W v → IsByteOpen i position W → IsOpen i position v
 to_items i position W v encodes is =
-    let wire = found_both (WireAt UpFits DownFits W v position) is.wire (slice_get W.wires position) (slice_get v.wires position) is.there (encodes.wires position) in
-    let device = found_both (DeviceEncodes ClientFits) is.device (slice_get W.devices i) (slice_get v.devices i) is.has (encodes.devices i) in
+    let wire = found_both (WireAt W v position) is.wire (slice_get W.wires position) (slice_get v.wires position) is.there (encodes.encoding.wires position) in
+    let device = found_both DeviceEncodes is.device (slice_get W.devices i) (slice_get v.devices i) is.has (encodes.encoding.devices i) in
     record {
       wire = wire.other;
       there = wire.is;
@@ -260,8 +236,8 @@ other_some R (Some x) (Some y) b is both = (x, refl, subst (λ z. R x z) (same_S
 
 from_items : (i position : ℕ) (W : ByteWorld) (v : ItemWorld) → IsEncoded W v → newest_of (slice_get W.devices i) ≡ Some position → IsOpen i position v → IsByteOpen i position W
 from_items i position W v encodes newest is =
-    let wire = other_some (WireAt UpFits DownFits W v position) (slice_get W.wires position) (slice_get v.wires position) is.wire is.there (encodes.wires position) in
-    let device = other_some (DeviceEncodes ClientFits) (slice_get W.devices i) (slice_get v.devices i) is.device is.has (encodes.devices i) in
+    let wire = other_some (WireAt W v position) (slice_get W.wires position) (slice_get v.wires position) is.wire is.there (encodes.encoding.wires position) in
+    let device = other_some DeviceEncodes (slice_get W.devices i) (slice_get v.devices i) is.device is.has (encodes.encoding.devices i) in
     record {
       wire = wire.0;
       there = wire.1;
@@ -358,9 +334,9 @@ module _ (s : WireView) (right : IsLineList s) (i : ℕ) (o : Owned) (owned : Is
     hearing : IsHearing s i position here.says v x
     hearing = record {
       runs = widened s here.says v x here.runs;
-      timely = subst (λ m. m ≤ last_moment) here.encodes.moment timely;
+      timely = subst (λ m. m ≤ last_moment) here.encodes.encoding.moment timely;
       is_open = opens;
-      few = λ e there. inl (here.runs.asked i e there);
+      few = λ e there. inl (here.runs.in_bounds.asked i e there);
     }
 
     down_so_far : (n : ℕ) (ended : Bool) → IsOpen i position (items.all_moved (downs q n ++ moved_where (DownEnd q) ended) v)

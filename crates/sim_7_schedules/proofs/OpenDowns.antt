@@ -1,5 +1,5 @@
 -- A connection that a device has stays open, whatever items are handed to a device.
-use Rattle.std.proofs.Common.{◌≡◌, ◌≢◌, ◌⊎◌, ℕ, zero, suc, ◌+◌, ◌≤◌, ◌&&◌, Bool, true, false, not, List, [], ◌∷◌, ◌++◌, Option, Some, None, length, map, refl, sym, ap, subst, ◌∙◌, inl, inr, arith, slice_get, slice_set, if◌then◌else◌}
+use Rattle.std.proofs.Common.{◌≡◌, ◌≢◌, ◌⊎◌, ℕ, zero, suc, ◌+◌, ◌≤◌, Bool, true, false, not, List, [], ◌∷◌, ◌++◌, Option, Some, None, length, map, refl, sym, ap, subst, ◌∙◌, inl, inr, arith, slice_get, slice_set, if◌then◌else◌}
 use Rattle.std.proofs.lemmas.Bool.{eq-eqb, eqb-true, false≢true}
 use Rattle.std.proofs.lemmas.Option.{same_Some}
 use Rattle.std.specs.Option.{IfSome, option_map}
@@ -26,7 +26,7 @@ use Rattle.sim_3_images.specs.Devices.{identity_at}
 use Rattle.sim_3_images.specs.ItemRuns.{downs}
 use Rattle.sim_3_items.specs.Identities.{Identity}
 use Rattle.sim_3_items.specs.ItemMoves.{Down as DownMove, DownEnd, all_moved, at_device, at_wire, end_heard, fed_of, has_wire, heard_first, here_after, left_where, moved}
-use Rattle.sim_3_items.specs.ItemPipes.{ItemPipe, ItemWire, down_end_reported, handed_down, is_empty, is_end_due, put_up}
+use Rattle.sim_3_items.specs.ItemPipes.{ItemPipe, ItemWire, down_end_reported, handed_down, is_end_due, put_up}
 use Rattle.sim_3_items.specs.ItemWorlds.{ItemDevice, ItemWorld}
 use Rattle.sim_3_items.specs.Labels.{awaits}
 use Rattle.sim_3_items.specs.Pipes.{by_number}
@@ -38,6 +38,7 @@ use Rattle.sim_4_links_follow.proofs.DownWords.{next_down}
 use Rattle.sim_4_links_follow.proofs.Numbered.{set_elsewhere}
 use Rattle.sim_4_links_follow.proofs.Working.{kept_here}
 use Rattle.sim_4_links_follow.specs.Following.{HasNextDown, IsNextItem}
+use Rattle.sim_4_links_follow.proofs.Lifts.{due_ended}
 use Rattle.sim_5_devices.proofs.ReadingsKnownHistories.{named_at, world_plain}
 use Rattle.sim_5_devices.proofs.Rest.{short_queue}
 use Rattle.sim_5_devices.proofs.Worlds.{set_here}
@@ -93,7 +94,7 @@ module _ (schedule : WireView) (b : Bounds) (small : AreSmall b) (says : ℕ) (w
   i = wire.device
 
   abbrev old : DeviceSimulates schedule w x i o
-  old = runs.devices i o owned
+  old = runs.simulation.devices i o owned
 
   abbrev who : Identity
   who = identity_at schedule i o
@@ -124,7 +125,7 @@ module _ (schedule : WireView) (b : Bounds) (small : AreSmall b) (says : ℕ) (w
     names = named_at (owned_of schedule) i o based.named.devices owned
 
     early : x.clock ≤ last_moment
-    early = subst (λ n. n ≤ last_moment) (sym runs.clock) timely
+    early = subst (λ n. n ≤ last_moment) (sym runs.simulation.clock) timely
 
     known : IsReadable schedule w x i o old z
     known = record {
@@ -136,7 +137,7 @@ module _ (schedule : WireView) (b : Bounds) (small : AreSmall b) (says : ℕ) (w
       next = nx;
       plain = world_plain (owned_of schedule) x based.taken based.named early based.few o.account;
       few = based.few;
-      more = (let few = runs.asked i old.device old.there in let most = small.stanzas in omega (arith, few, most));
+      more = (let few = runs.in_bounds.asked i old.device old.there in let most = small.stanzas in omega (arith, few, most));
       short = subst (λ m. IfSome m (λ s. length s.waiting.queue ≤ 1002)) nx.has (short_queue who old.logins d old.view old.in_time old.represents.client);
     }
 
@@ -192,21 +193,16 @@ small_wide = record { stanzas = omega arith; dials = omega arith }
 
 pub widened : (s : WireView) (says : ℕ) (w : ItemWorld) (x : AppWorld) → WorldSimulates s bounds says w x → WorldSimulates s wide says w x
 widened s says w x r = record {
-  led = r.led;
-  said = r.said;
-  asked = λ i d at. (let few = r.asked i d at in omega (arith, few));
-  dialled = r.dialled;
-  devices = r.devices;
-  many = r.many;
-  many_there = r.many_there;
-  wires = r.wires;
-  server = r.server;
-  takes = r.takes;
-  clock = r.clock;
-  now = r.now;
-  fits = r.fits;
-  stands = r.stands;
-  within = r.within;
+  simulation = r.simulation;
+  in_bounds = record {
+    led = r.in_bounds.led;
+    said = r.in_bounds.said;
+    asked = λ i d at. (let few = r.in_bounds.asked i d at in omega (arith, few));
+    dialled = r.in_bounds.dialled;
+    fits = r.in_bounds.fits;
+    stands = r.in_bounds.stands;
+    within = r.in_bounds.within;
+  };
 }
 
 -- so far the device asked for few pages, or no answer is under way to it
@@ -230,7 +226,7 @@ module _ (s : WireView) (right : IsLineList s) (i : ℕ) (o : Owned) (owned : Is
     its = subst (λ j. IsOwned s j o) (sym c.is_open.of) owned
 
     abbrev mine : DeviceSimulates s w x wire.device o
-    mine = c.runs.devices wire.device o its
+    mine = c.runs.simulation.devices wire.device o its
 
     abbrev dev : ItemDevice
     dev = mine.represents.device
@@ -339,15 +335,9 @@ module _ (s : WireView) (right : IsLineList s) (i : ℕ) (o : Owned) (owned : Is
 
 -- ---- the end is not told
 
-and_three : (a b c : Bool) → a && b && c ≡ true → b ≡ true
-and_three true true c e = refl
-and_three true false c e = absurd (let no_way : ⊥ = cc in no_way)
-and_three false true c e = refl
-and_three false false c e = absurd (let no_way : ⊥ = cc in no_way)
-
 -- where a pipe down is not ended, no end is due
 not_due : (p : ItemPipe) → p.ended ≡ false → is_end_due p ≡ true → ⊥
-not_due p still due = false≢true (sym still ∙ and_three (is_empty p) p.ended (not p.told) due)
+not_due p still due = false≢true (sym still ∙ due_ended p due)
 
 -- ---- on another connection
 

@@ -14,7 +14,7 @@ use Rattle.sim_3_images.proofs.RuleKept.{found_is, named_as}
 use Rattle.sim_3_images.specs.Devices.{identity_at}
 use Rattle.sim_3_images.specs.ItemRuns.{ups}
 use Rattle.sim_3_items.specs.Identities.{Identity}
-use Rattle.sim_3_items.specs.ItemMoves.{ItemMove, Tick, Up, UpEnd, all_emitted, all_moved, moved, reported_up, served_by, served_first, served_item, step_of}
+use Rattle.sim_3_items.specs.ItemMoves.{ItemMove, Tick, Up, UpEnd, all_emitted, all_moved, moved, reported_up, served_by, served_first, step_of}
 use Rattle.sim_3_items.specs.ItemPipes.{ItemPipe, ItemWire, handed_up, is_end_due, up_end_reported}
 use Rattle.sim_3_items.specs.ItemWorlds.{ItemDevice, ItemWorld, itself, read_of}
 use Rattle.sim_3_items.specs.Pipes.{IsWire, by_number}
@@ -25,6 +25,7 @@ use Rattle.sim_4_links_follow.proofs.Found.{found_on}
 use Rattle.sim_4_links_follow.proofs.HandMoves.{shown_wire}
 use Rattle.sim_4_links_follow.specs.Steps.{ItemGoesUp}
 use Rattle.sim_4_links_follow.specs.Taking.{AreApart, on_item}
+use Rattle.sim_4_links_follow.proofs.Ups.{moved_so}
 use Rattle.sim_5_moves.proofs.Goes.{apart_of, countable, goes_up}
 use Rattle.sim_5_moves.specs.Running.{Bounds, DeviceSimulates, IsOwned, MoveSimulates, WorldSimulates}
 use Rattle.sim_7_schedules.proofs.Moves.{each_runs, small}
@@ -67,7 +68,7 @@ pub record IsOpen (i position : ℕ) (w : ItemWorld) : Type 0 where
 -- what it is in the links
 module _ (schedule : WireView) (b : Bounds) (says : ℕ) (w : ItemWorld) (x : AppWorld) (runs : WorldSimulates schedule b says w x) (i : ℕ) (o : Owned) (owned : IsOwned schedule i o) (position : ℕ) (is : IsOpen i position w) where
   abbrev pub links : DeviceSimulates schedule w x i o
-  links = runs.devices i o owned
+  links = runs.simulation.devices i o owned
 
   pub same_device : links.represents.device ≡ is.device
   same_device = same_Some links.represents.device is.device (sym links.represents.there ∙ is.has)
@@ -128,14 +129,14 @@ told_keeps w = record { device = refl; ended = refl }
 
 module _ (schedule : WireView) (right : IsLineList schedule) (says : ℕ) (w : ItemWorld) (x : AppWorld) (runs : WorldSimulates schedule bounds says w x) (i : ℕ) (o : Owned) (owned : IsOwned schedule i o) (position : ℕ) (is : IsOpen i position w) (from : ℕ) where
   abbrev old : DeviceSimulates schedule w x i o
-  old = runs.devices i o owned
+  old = runs.simulation.devices i o owned
 
   module _ (wire : ItemWire) (z : ItemOut) (rest : List ItemOut) (there : slice_get w.wires from ≡ Some wire) (pipe : wire.up.items ≡ z ∷ rest) where
     owner : (p : Owned) × IsOwned schedule wire.device p
-    owner = runs.wires from wire there
+    owner = runs.simulation.wires from wire there
 
     abbrev mine : DeviceSimulates schedule w x wire.device owner.0
-    mine = runs.devices wire.device owner.0 owner.1
+    mine = runs.simulation.devices wire.device owner.0 owner.1
 
     abbrev who : Identity
     who = identity_at schedule wire.device owner.0
@@ -188,15 +189,12 @@ module _ (schedule : WireView) (right : IsLineList schedule) (says : ℕ) (w : I
     abbrev step : Step ItemOut
     step = on_item (from + 1) z w.server
 
-    is_after : moved (Up from) w ≡ served_item from z w
-    is_after = ap (λ e. served_by from e w) there ∙ ap (λ l. served_first from l w) pipe
-
     stays : AreNoShuts (position + 1) step.outs → IsOpen i position (moved (Up from) w)
     stays none =
         let ws = changed_at from handed_up w.wires in
         let handed = changed_keeps handed_up handed_keeps from position w.wires is.wire is.there in
         let kept = left_up (position + 1) step.outs handed.0 none in
-        subst (IsOpen i position) (sym is_after) (record {
+        subst (IsOpen i position) (sym (moved_so w from wire z rest there pipe)) (record {
           wire = sent_under (position + 1) step.outs handed.0;
           there = sym (under_position position (all_emitted step.outs ws)) ∙ all_sent (position + 1) step.outs ws ∙ ap (option_map (sent_under (position + 1) step.outs)) (under_position position ws ∙ handed.1);
           of = kept.device ∙ handed.2.device ∙ is.of;

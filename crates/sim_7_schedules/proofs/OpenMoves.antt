@@ -48,15 +48,15 @@ hand_many : (s : WireView) (m : Move) (W : ByteWorld) (x : AppWorld) → IsHandi
 hand_many s (Up q count) W x hands beside =
     let r = is_moved (Up q count) W beside.items tt beside.encodes in
     let run = r.is_run in
-    r.encodes.as_many
+    r.encodes.encoding.as_many
     ∙ ap (λ ms. length (items.all_moved ms beside.items).wires) run.3 ∙ moves_many _ beside.items (served_none q run.0 run.1 run.2)
-    ∙ sym beside.encodes.as_many
+    ∙ sym beside.encodes.encoding.as_many
 hand_many s (Down q count) W x hands beside =
     let r = is_moved (Down q count) W beside.items tt beside.encodes in
     let run = r.is_run in
-    r.encodes.as_many
+    r.encodes.encoding.as_many
     ∙ ap (λ ms. length (items.all_moved ms beside.items).wires) run.2 ∙ moves_many _ beside.items (downs_none q run.0 run.1)
-    ∙ sym beside.encodes.as_many
+    ∙ sym beside.encodes.encoding.as_many
 hand_many s _ W x hands beside = absurd hands
 
 -- ---- which of them ends the connection

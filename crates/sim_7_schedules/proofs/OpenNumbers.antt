@@ -92,8 +92,8 @@ module _ (s : WireView) (right : IsLineList s) (sr : ScheduleSimulates s) where
   pub clock_low : (run_of s right sr).last.clock < 2 ^ 64
   clock_low =
       let beside = (last_beside s right sr).1 in
-      let clock = beside.runs.clock in
-      let moment = beside.encodes.moment in
+      let clock = beside.runs.simulation.clock in
+      let moment = beside.encodes.encoding.moment in
       let early = last_early in
       subst (λ (x : sessions.AppWorld). x.clock < 2 ^ 64) (sym (last_is s right sr)) (omega arith)
 
@@ -113,7 +113,7 @@ module _ (s : WireView) (right : IsLineList s) (sr : ScheduleSimulates s) where
   line_underway : (i : ℕ) (line : DeviceView) → AtLine i line → AllByRecursion IsUnderway line.underway
   line_underway i line at =
       let g = ground_of s (map shown_of (history_of s)) (report_of (world_of s)) (run_of s right sr) in
-      let asked = (last_beside s right sr).1.runs.asked i at.d (there i line at) in
+      let asked = (last_beside s right sr).1.runs.in_bounds.asked i at.d (there i line at) in
       subst (AllByRecursion IsUnderway) (sym at.is.underway) (underway_right _ _ _ at.d (omega arith) (g.read.devices i at.d at.device).page)
 
   counted_first : AreCounted (world_at_start s).wires

@@ -1,8 +1,8 @@
 -- A device that is connected when a run begins is connected in the end; but for two causes.
-use Rattle.std.proofs.Common.{◌≡◌, ◌⊎◌, ℕ, zero, suc, ◌+◌, ◌≤◌, true, false, List, [], ◌∷◌, ◌++◌, Some, length, sym, ap, ◌∙◌, subst, arith, inl, inr}
+use Rattle.std.proofs.Common.{◌≡◌, ◌⊎◌, ℕ, ◌+◌, ◌≤◌, true, false, List, [], ◌∷◌, ◌++◌, Some, length, sym, ap, ◌∙◌, subst, arith, inl, inr}
 use Rattle.std.proofs.lemmas.Bool.{false≢true}
-use Rattle.std.proofs.lemmas.Option.{none-some, same_Some}
-use Rattle.std.specs.List.{AllByRecursion, slice_get}
+use Rattle.std.proofs.lemmas.Option.{same_Some}
+use Rattle.std.specs.List.{slice_get}
 use Rattle.std.specs.Option.{option_map_or}
 use Rattle.cl_handlers.specs.declared.phase.Phase.TheVariants as phase
 use Rattle.cmd_network.specs.Devices.{DeviceState}
@@ -12,14 +12,13 @@ use Rattle.cmd_schedule.specs.LineLists.{IsLineList, ticked_in}
 use Rattle.cmd_schedule.specs.Schedules.{WireView}
 use Rattle.cmd_schedule.specs.declared.schedule.WireLine.{WireLine}
 use Rattle.cmd_world.specs.Histories.{world_at_start, world_of}
-use Rattle.cmd_world.specs.Lines.{all_stepped, moves_of, round_from, stepped}
-use Rattle.cmd_world.specs.Moves.{Move, all_moved, moved}
+use Rattle.cmd_world.specs.Lines.{all_stepped, round_from, stepped}
+use Rattle.cmd_world.specs.Moves.{Move, all_moved}
 use Rattle.cmd_world.specs.WorldReports.{is_open}
 use Rattle.cmd_world.specs.Worlds.{ByteWorld}
-use Rattle.sim_2_links.specs.Stages.{Conn}
+use Rattle.cmd_world.proofs.AllMoves.{kept_by_lines}
 use Rattle.sim_3_images.proofs.MovesKept.{kept_after, kept_first}
 use Rattle.sim_3_images.specs.Kept.{IsFlowing, IsWorldKept}
-use Rattle.sim_3_images.specs.Relayable.{ClientFits}
 use Rattle.sim_3_images.specs.WorldEncodings.{DeviceEncodes}
 use Rattle.sim_5_moves.proofs.Known.{owned_there}
 use Rattle.sim_5_moves.specs.Running.{IsOwned}
@@ -39,27 +38,15 @@ use Rattle.sim_7_schedules.specs.LastLines.{BothHave, EndsInDial, EndsInRun, IsC
 use Rattle.sim_7_schedules.specs.Simulation.{bounds}
 use Rattle.sm_acks.specs.Delivery.{IsPrefix}
 use Rattle.sm_live.specs.Sessions.{Session}
+use Rattle.sim_1_applications.proofs.Lists.{all_at}
 
 -- ---- worlds behind lines
-
-kept_moves : (s : WireView) (ms : List Move) (W : ByteWorld) → IsWorldKept s W → IsWorldKept s (all_moved ms W)
-kept_moves s [] W kept = kept
-kept_moves s (m ∷ ms) W kept = kept_moves s ms (moved m W) (kept_after s m W kept)
-
-kept_lines : (s : WireView) (lines : List WireLine) (W : ByteWorld) → IsWorldKept s W → IsWorldKept s (all_stepped lines W)
-kept_lines s [] W kept = kept
-kept_lines s (line ∷ lines) W kept = kept_lines s lines (stepped line W) (kept_moves s (moves_of line W) W kept)
 
 timely_lines : (lines more : List WireLine) (W : ByteWorld) → W.moment + ticked_in (lines ++ more) ≤ 253402207200000 → (all_stepped lines W).moment ≤ 253402207200000
 timely_lines [] more W low = omega (arith, low)
 timely_lines (line ∷ lines) more W low =
     let soon = line_moment W.names (length W.wires) line.number W line.step in
     timely_lines lines more (stepped line W) (omega (arith, low, soon))
-
-one_of : {A : Type 0} (P : A → Type 0) (xs : List A) (i : ℕ) (x : A) → AllByRecursion P xs → slice_get xs i ≡ Some x → P x
-one_of P [] i x all at = absurd (none-some x at)
-one_of P (y ∷ xs) zero x all at = subst P (same_Some y x at) all.0
-one_of P (y ∷ xs) (suc i) x all at = one_of P xs i x all.1 at
 
 -- ---- the law
 
@@ -74,7 +61,7 @@ module _ (s : WireView) (right : IsLineList s) (before : List WireLine) (n : ℕ
   along = run_along s right before n ends
 
   kept : IsWorldKept s W
-  kept = kept_lines s before (world_at_start s) (kept_first s)
+  kept = kept_by_lines (IsWorldKept s) (kept_after s) before (world_at_start s) (kept_first s)
 
   timely : IsTimely W
   timely =
@@ -89,7 +76,7 @@ module _ (s : WireView) (right : IsLineList s) (before : List WireLine) (n : ℕ
 
   owner : (o : Owned) × IsOwned s i o
   owner =
-      let item = both_some (DeviceEncodes ClientFits) (slice_get W.devices i) (slice_get along.by.beside.items.devices i) is.0 its.there (along.by.beside.encodes.devices i) in
+      let item = both_some DeviceEncodes (slice_get W.devices i) (slice_get along.by.beside.items.devices i) is.0 its.there (along.by.beside.encodes.encoding.devices i) in
       owned_there s bounds along.by.beside.says along.by.beside.items along.applications along.by.beside.runs i item.0 item.1
 
   -- the connection is the device's
@@ -104,7 +91,7 @@ module _ (s : WireView) (right : IsLineList s) (before : List WireLine) (n : ℕ
     wire = its.wire;
     there = its.at;
     of = of;
-    flows = (one_of IsFlowing W.wires position its.wire kept.flowing its.at its.stands).0;
+    flows = (all_at IsFlowing W.wires position its.wire kept.flowing its.at its.stands).0;
     device = is.0;
     has = its.there;
     here = here;

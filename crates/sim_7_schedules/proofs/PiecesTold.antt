@@ -72,21 +72,16 @@ small = record { stanzas = omega arith; dials = omega arith }
 
 widened : (s : WireView) (says : ℕ) (w : ItemWorld) (x : AppWorld) → WorldSimulates s bounds says w x → WorldSimulates s wide says w x
 widened s says w x r = record {
-  led = r.led;
-  said = r.said;
-  asked = λ i d at. (let few = r.asked i d at in omega (arith, few));
-  dialled = r.dialled;
-  devices = r.devices;
-  many = r.many;
-  many_there = r.many_there;
-  wires = r.wires;
-  server = r.server;
-  takes = r.takes;
-  clock = r.clock;
-  now = r.now;
-  fits = r.fits;
-  stands = r.stands;
-  within = r.within;
+  simulation = r.simulation;
+  in_bounds = record {
+    led = r.in_bounds.led;
+    said = r.in_bounds.said;
+    asked = λ i d at. (let few = r.in_bounds.asked i d at in omega (arith, few));
+    dialled = r.in_bounds.dialled;
+    fits = r.in_bounds.fits;
+    stands = r.in_bounds.stands;
+    within = r.in_bounds.within;
+  };
 }
 
 -- so far the device asked for few pages, or no answer is under way to it
@@ -108,10 +103,10 @@ module _ (s : WireView) (right : IsLineList s) (position : ℕ) where
   module _ (z : ItemOut) (rest : List ItemOut) (says : ℕ) (w : ItemWorld) (x : AppWorld) (wire : ItemWire) (d : ItemDevice) (t : ClientStep ItemOut ItemOut) (c : AreComing s position says w x wire d (z ∷ rest)) (same : t.client ≡ d.client)
       (bounded : IsBounded t) where
     of : (o : Owned) × IsOwned s wire.device o
-    of = c.runs.wires position wire c.there
+    of = c.runs.simulation.wires position wire c.there
 
     abbrev old : DeviceSimulates s w x wire.device of.0
-    old = c.runs.devices wire.device of.0 of.1
+    old = c.runs.simulation.devices wire.device of.0 of.1
 
     abbrev dev : ItemDevice
     dev = old.represents.device
@@ -221,7 +216,7 @@ module _ (s : WireView) (right : IsLineList s) (W : bytes.ByteWorld) (x : AppWor
         by None = tt
         by (Some f) = fault_fair (devices.silent_client_step d.client) f.fault tt
 
-    module _ (p : ItemWire) (e : ItemDevice) (found_item : slice_get v.wires position ≡ Some p) (item_device : slice_get v.devices b.device ≡ Some e) (at : WireAt UpFits DownFits W v position b p) (h : DeviceEncodes ClientFits d e)
+    module _ (p : ItemWire) (e : ItemDevice) (found_item : slice_get v.wires position ≡ Some p) (item_device : slice_get v.devices b.device ≡ Some e) (at : WireAt W v position b p) (h : DeviceEncodes d e)
         (f : State) (framer : d.client.framer ≡ Some f) (y : IsDownHanded UpFits DownFits cores.up_limits cores.down_limits (framer_at (number_at position) W.server.framers) f (writer_at (number_at position) v.server) b p n) where
       abbrev taken : List ItemOut
       taken = take y.count p.down.items
@@ -233,12 +228,12 @@ module _ (s : WireView) (right : IsLineList s) (W : bytes.ByteWorld) (x : AppWor
       items_told =
           let coming : AreComing s position beside.says v x p e (taken ++ drop y.count p.down.items) = record {
             runs = widened s beside.says v x beside.runs;
-            timely = subst (λ m. m ≤ last_moment) beside.encodes.moment timely;
+            timely = subst (λ m. m ≤ last_moment) beside.encodes.encoding.moment timely;
             there = found_item;
             has = subst (λ k. slice_get v.devices k ≡ Some e) at.device item_device;
             here = sym h.here ∙ here;
             items_are = sym (take-append-drop y.count p.down.items);
-            few = λ one there. inl (beside.runs.asked p.device one there);
+            few = λ one there. inl (beside.runs.in_bounds.asked p.device one there);
           } in
           items_bounded s right position taken (drop y.count p.down.items) beside.says v x p e (silent_client_step e.client) coming refl tt
 
@@ -255,15 +250,15 @@ module _ (s : WireView) (right : IsLineList s) (W : bytes.ByteWorld) (x : AppWor
 
     all_told : AllByRecursion IsFair (told_on n b d)
     all_told =
-        let wire = found_both (WireAt UpFits DownFits W v position) b (slice_get W.wires position) (slice_get v.wires position) found (beside.encodes.wires position) in
-        let of = found_both (DeviceEncodes ClientFits) d (slice_get W.devices b.device) (slice_get v.devices b.device) device (beside.encodes.devices b.device) in
+        let wire = found_both (WireAt W v position) b (slice_get W.wires position) (slice_get v.wires position) found (beside.encodes.encoding.wires position) in
+        let of = found_both DeviceEncodes d (slice_get W.devices b.device) (slice_get v.devices b.device) device (beside.encodes.encoding.devices b.device) in
         elim wire.holds.down.carried [
           | over o ↦ nothing_told o.no_bytes
           | standing f reader st ↦
               let framer : d.client.framer ≡ Some f = sym reader_is ∙ reader in
               some_told wire.other of.other wire.is of.is wire.holds of.holds f framer
               (wire_down UpFits DownFits cores.up_limits cores.down_limits (framer_at (number_at position) W.server.framers) f (writer_at (number_at position) v.server) b wire.other n st
-              (subst (λ r. WireEncodes UpFits DownFits (framer_at (number_at position) W.server.framers) r (writer_at (number_at position) v.server) b wire.other) reader wire.holds))
+              (subst (λ r. WireEncodes (framer_at (number_at position) W.server.framers) r (writer_at (number_at position) v.server) b wire.other) reader wire.holds))
         ]
       where
         reader_is : framer_here position (slice_get W.devices b.device) ≡ d.client.framer

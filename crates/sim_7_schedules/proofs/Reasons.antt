@@ -70,7 +70,7 @@ each_word v kept k c is =
 
 pub words_here : (s : WireView) (W : ByteWorld) (x : sessions.AppWorld) → Simulates s W x → (i : ℕ) (o : Owned) → slice_get (owned_of s) i ≡ Some o → HasWords s W i o
 words_here s W x beside i o owned =
-    let dr = beside.runs.devices i o owned in
+    let dr = beside.runs.simulation.devices i o owned in
     let reached : LinkReached dr.view = prompt_runs awaits dr.view dr.prompt in
     record {
       items = beside.items;

@@ -1,5 +1,5 @@
 -- Behind a dial and a run a session that both ends had, and that the server has still, is resumed.
-use Rattle.std.proofs.Common.{◌≡◌, ℕ, ◌+◌, ◌≤◌, true, List, Option, None, Some, length, refl, sym, ap, ◌∙◌, subst}
+use Rattle.std.proofs.Common.{◌≡◌, ℕ, ◌+◌, ◌≤◌, true, List, Option, None, Some, refl, sym, ap, ◌∙◌, subst}
 use Rattle.std.proofs.lemmas.Option.{none-some, same_Some}
 use Rattle.std.specs.List.{slice_get}
 use Rattle.std.specs.Option.{option_map}
@@ -10,12 +10,11 @@ use Rattle.cmd_schedule.specs.Contents.{Owned, accounts_of}
 use Rattle.cmd_schedule.specs.LineLists.{IsLineList}
 use Rattle.cmd_schedule.specs.Schedules.{WireView}
 use Rattle.cmd_schedule.specs.declared.schedule.WireLine.{WireLine}
-use Rattle.cmd_world.specs.Histories.{common_steps, world_at_start, world_of}
-use Rattle.cmd_world.specs.Lines.{move_of, step_moves}
-use Rattle.cmd_world.specs.Moves.{Dial, all_moved, dialed_by, moved}
+use Rattle.cmd_world.specs.Histories.{common_steps, world_of}
+use Rattle.cmd_world.specs.Moves.{dialed_by}
 use Rattle.cmd_world.specs.Worlds.{ByteWorld}
 use Rattle.law_calm.proofs.Sparing.{resumed_then}
-use Rattle.sim_7_schedules.proofs.Along.{Along, run_moves, stepped_last}
+use Rattle.sim_7_schedules.proofs.Along.{Along, run_moves}
 use Rattle.sim_7_schedules.proofs.Connected as connected
 use Rattle.sim_7_schedules.proofs.LinksShown as shown
 use Rattle.sim_7_schedules.specs.LastLines.{BothHave, EndsInDial, EndsInRun, IsConnected, server_session, world_behind}
@@ -35,6 +34,7 @@ use Rattle.sim_3_items.specs.Servers.{IsRowRepresented}
 use Rattle.sim_5_devices.proofs.Worlds.{set_here}
 use Rattle.sim_5_moves.specs.Running.{DeviceSimulates, IsOwned}
 use Rattle.sim_7_schedules.specs.Simulation.{Simulates}
+use Rattle.sim_7_schedules.proofs.DialledOpen.{dialled}
 use Rattle.sm_live.specs.Sessions as live
 use Rattle.sm_live.specs.Sessions.{session_named}
 use Rattle.sm_outbox.specs.Sessions as outbox
@@ -60,13 +60,13 @@ row_by (Some r) (Some t) u is shown =
 
 module _ (s : WireView) (W : ByteWorld) (x : AppWorld) (beside : Simulates s W x) (i : ℕ) (o : Owned) (owned : IsOwned s i o) where
   abbrev dr : DeviceSimulates s beside.items x i o
-  dr = beside.runs.devices i o owned
+  dr = beside.runs.simulation.devices i o owned
 
   abbrev position : ℕ
   position = account_position o.account (accounts_of (common_steps s))
 
   rendered : (t : live.Session (List ℕ)) → server_session s o W ≡ Some t → option_map (server.session_rendered written_item) (session_named position o.device beside.items.server.sessions) ≡ Some t
-  rendered t at = sym (named_rendered written_item position o.device beside.items.server.sessions) ∙ sym (ap (λ (h : ServerState (List ℕ)). session_named position o.device h.sessions) beside.encodes.server_state) ∙ at
+  rendered t at = sym (named_rendered written_item position o.device beside.items.server.sessions) ∙ sym (ap (λ (h : ServerState (List ℕ)). session_named position o.device h.sessions) beside.encodes.encoding.server_state) ∙ at
 
   -- the server's session is the row
   pub row_is : (t : live.Session (List ℕ)) → server_session s o W ≡ Some t → (r : Row ItemOut) × (dr.view.row ≡ Some r) × (t.shown.number ≡ r.number) × (t.shown.counted ≡ r.counted)
@@ -114,11 +114,6 @@ dialled_by : (i : ℕ) (W : ByteWorld) (e : Option DeviceState) (d : DeviceState
 dialled_by i W None d is at = absurd (none-some d (sym is ∙ at))
 dialled_by i W (Some e) d is at = subst HasJustDialled (same_Some _ d (sym (set_here W.devices i e _ is) ∙ at)) (_, refl)
 
-dialled : (s : WireView) (lines : List WireLine) (i : ℕ) (dial : EndsInDial s lines i) → world_behind s lines ≡ moved (Dial i) (world_behind s dial.before)
-dialled s lines i dial =
-    let W = world_behind s dial.before in
-    ap (world_behind s) dial.are ∙ stepped_last dial.before dial.line (world_at_start s) ∙ ap (λ step. all_moved (step_moves W.names (length W.wires) dial.line.number step) W) dial.step ∙ ap (λ o. all_moved (move_of Dial o) W) dial.of
-
 just_dialled : (s : WireView) (lines : List WireLine) (i : ℕ) (d : DeviceState) → EndsInDial s lines i → slice_get (world_behind s lines).devices i ≡ Some d → HasJustDialled d
 just_dialled s lines i d dial at =
     let W = world_behind s dial.before in
@@ -149,10 +144,10 @@ module _ (s : WireView) (right : IsLineList s) (before : List WireLine) (n : ℕ
   abbrev beside_last : Simulates s end (connected.last_applications s right before n ends i d position is)
   beside_last = (connected.by_end s right before n ends i d position is).beside
 
-  shown_first : (beside_first.runs.devices i o owned).view ≡ first
+  shown_first : (beside_first.runs.simulation.devices i o owned).view ≡ first
   shown_first = connected.shown_first s right before n ends i d position is o owned
 
-  shown_last : (beside_last.runs.devices i o owned).view ≡ last
+  shown_last : (beside_last.runs.simulation.devices i o owned).view ≡ last
   shown_last = connected.shown_last s right before n ends i d position is o owned
 
   dialled_first : (connected.begins s right before n ends i d position is o owned).client ≡ InHeader1
@@ -161,7 +156,7 @@ module _ (s : WireView) (right : IsLineList s) (before : List WireLine) (n : ℕ
       let now = just_dialled s before i both.device dial both.there in
       let here = ap (λ (v : View ItemOut). v.here) shown_first ∙ connected.here_first s right before n ends i d position is o owned in
       let conn = ap (λ (v : View ItemOut). v.conns (position + 1)) shown_first ∙ connected.is_begins s right before n ends i d position is o owned in
-      header_first (identity_at s i o) ((beside_first.runs.devices i o owned).logins (position + 1)) c.client now.0 (sym (shown.phase_is s behind along_here.applications beside_first i o owned (position + 1) c both.device both.there here conn) ∙ now.1)
+      header_first (identity_at s i o) ((beside_first.runs.simulation.devices i o owned).logins (position + 1)) c.client now.0 (sym (shown.phase_is s behind along_here.applications beside_first i o owned (position + 1) c both.device both.there here conn) ∙ now.1)
 
   pub resumed : 5 ≤ n → (d.client.client.phase ≡ phase.Online) × (d.client.client.epoch ≡ both.device.client.client.epoch)
   resumed enough =

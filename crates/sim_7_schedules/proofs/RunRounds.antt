@@ -65,7 +65,7 @@ module _ (s : WireView) (i : ℕ) (o : Owned) (owned : IsOwned s i o) where
       subst (λ (v : View ItemOut). (c : Conn ItemOut) × (v.conns (position + 1) ≡ Some c) × ((v.here ≡ Some (position + 1)) ⊎ (is_flowing c.wires ≡ false))) (by.shown i o owned)
       (shown.conn_here s W x by.beside i o owned position d.0 d.1 d.2)
 
-  conns_same : (position : ℕ) (c : Conn ItemOut) (views : Views s) (W : ByteWorld) (x : AppWorld) (by : SimulatesBy s W x views) → (of views).conns (position + 1) ≡ Some c → (by.beside.runs.devices i o owned).view.conns (position + 1) ≡ Some c
+  conns_same : (position : ℕ) (c : Conn ItemOut) (views : Views s) (W : ByteWorld) (x : AppWorld) (by : SimulatesBy s W x views) → (of views).conns (position + 1) ≡ Some c → (by.beside.runs.simulation.devices i o owned).view.conns (position + 1) ≡ Some c
   conns_same position c views W x by is = ap (λ (v : View ItemOut). v.conns (position + 1)) (by.shown i o owned) ∙ is
 
   -- behind all bytes up, and behind all bytes down

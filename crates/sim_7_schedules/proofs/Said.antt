@@ -12,9 +12,8 @@ use Rattle.cmd_schedule.specs.LineLists.{IsLineList}
 use Rattle.cmd_schedule.specs.Schedules.{WireView}
 use Rattle.cmd_schedule.specs.declared.schedule.WireLine.{WireLine}
 use Rattle.cmd_world.specs.Histories.{world_at_start, world_of}
-use Rattle.cmd_world.specs.Lines.{all_stepped, moves_of, stepped}
-use Rattle.cmd_world.specs.Moves.{Move, all_moved, moved}
 use Rattle.cmd_world.specs.Worlds.{ByteWorld}
+use Rattle.cmd_world.proofs.AllMoves.{kept_by_lines, kept_by_moves}
 use Rattle.law_calm.proofs.Handled.{handled_then, onward_rounds}
 use Rattle.law_calm.proofs.Sparing.{fits_of, own_online}
 use Rattle.law_calm.specs.Rounds.{IsAny}
@@ -65,16 +64,6 @@ exist_told names (m ∷ ms) = by (is_among m.to names) (exist_told names ms)
     by true rest = ap (λ l. told m ∷ l) rest
     by false rest = rest
 
--- ---- worlds
-
-kept_moves : (s : WireView) (ms : List Move) (W : ByteWorld) → IsWorldKept s W → IsWorldKept s (all_moved ms W)
-kept_moves s [] W kept = kept
-kept_moves s (m ∷ ms) W kept = kept_moves s ms (moved m W) (kept_after s m W kept)
-
-pub kept_lines : (s : WireView) (lines : List WireLine) (W : ByteWorld) → IsWorldKept s W → IsWorldKept s (all_stepped lines W)
-kept_lines s [] W kept = kept
-kept_lines s (line ∷ lines) W kept = kept_lines s lines (stepped line W) (kept_moves s (moves_of line W) W kept)
-
 -- ---- the session of an epoch
 
 record EpochIs (v : View ItemOut) (e number : ℕ) : Type 0 where
@@ -123,10 +112,10 @@ module _ (s : WireView) (right : IsLineList s) (before : List WireLine) (n : ℕ
   abbrev e : ℕ
   e = d.client.client.epoch
 
-  shown_first : (beside_first.runs.devices i o owned).view ≡ first
+  shown_first : (beside_first.runs.simulation.devices i o owned).view ≡ first
   shown_first = connected.shown_first s right before n ends i d position is o owned
 
-  shown_last : (beside_last.runs.devices i o owned).view ≡ last
+  shown_last : (beside_last.runs.simulation.devices i o owned).view ≡ last
   shown_last = connected.shown_last s right before n ends i d position is o owned
 
   epoch_first : e ≡ first.epoch
@@ -161,7 +150,7 @@ module _ (s : WireView) (right : IsLineList s) (before : List WireLine) (n : ℕ
   one_number =
       let on = onward_rounds IsAny (position + 1) n first last (connected.rounds s right before n ends i d position is o owned) (link_kept first (connected.reached_first s right before n ends i d position is o owned)) in
       let later = on.1 began.0 began.1.session began.1.there in
-      let sessions = (beside_last.runs.devices i o owned).sessions in
+      let sessions = (beside_last.runs.simulation.devices i o owned).sessions in
       let seen_at = λ (q : ℕ) (t : links.Session ItemOut) (at : last.sessions q ≡ Some t). ap seen_as (ap (λ (v : View ItemOut). v.sessions q) shown_last ∙ at) in
       sessions.once began.0 it_online.0 e (seen_session later.0) (seen_session ended.session) (seen_at began.0 later.0 later.1) (seen_at it_online.0 ended.session ended.there) (later.2.epoch e began.1.epoch) ended.epoch
 
@@ -187,10 +176,10 @@ module _ (s : WireView) (right : IsLineList s) (before : List WireLine) (n : ℕ
   -- ---- as the lines tell it
 
   kept_behind : IsWorldKept s behind
-  kept_behind = kept_lines s before (world_at_start s) (kept_first s)
+  kept_behind = kept_by_lines (IsWorldKept s) (kept_after s) before (world_at_start s) (kept_first s)
 
   kept_end : IsWorldKept s end
-  kept_end = kept_moves s (run_moves s before n) behind kept_behind
+  kept_end = kept_by_moves (IsWorldKept s) (kept_after s) (run_moves s before n) behind kept_behind
 
   told_first : HasMessages behind i o e (pair_of began.1.session)
   told_first = (told_here s right behind along_here.applications kept_behind beside_first i o owned).each began.0 e (pair_of began.1.session)

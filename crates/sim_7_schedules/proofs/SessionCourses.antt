@@ -14,7 +14,6 @@ use Rattle.sim_2_links.proofs.WithPremises.{prompt_runs}
 use Rattle.sim_2_links.specs.Onward.{IsOnward}
 use Rattle.sim_2_links.specs.Views as links
 use Rattle.sim_2_links.specs.Views.{View}
-use Rattle.sim_3_images.specs.Relayable.{ClientFits}
 use Rattle.sim_3_images.specs.WorldEncodings.{Both, DeviceEncodes}
 use Rattle.sim_3_items.specs.Labels.{awaits}
 use Rattle.sim_5_moves.specs.Running.{DeviceSimulates, Leads}
@@ -80,7 +79,7 @@ module _ (s : WireView) (right : IsLineList s) (i : ℕ) (o : Owned) (owned : sl
   beside j W at = world_at s (world_at_start s) (first_of s right) (moves_in s) (steps_in s right) j W (stepped_at j W at)
 
   abbrev device : (j : ℕ) (W : ByteWorld) (at : slice_get (history_of s) j ≡ Some W) → DeviceSimulates s (beside j W at).2.beside.items (beside j W at).0 i o
-  device j W at = (beside j W at).2.beside.runs.devices i o owned
+  device j W at = (beside j W at).2.beside.runs.simulation.devices i o owned
 
   abbrev pairs_at : (j : ℕ) (W : ByteWorld) → slice_get (history_of s) j ≡ Some W → HasPairs s W i o
   pairs_at j W at = pairs_here s W (beside j W at).0 (beside j W at).2.beside i o owned
@@ -134,7 +133,7 @@ module _ (s : WireView) (right : IsLineList s) (i : ℕ) (o : Owned) (owned : sl
   there_at j W at =
       let b = (beside j W at).2.beside in
       let d = device j W at in
-      left_of (DeviceEncodes ClientFits) (slice_get W.devices i) d.represents.device (subst (λ y. Both (DeviceEncodes ClientFits) (slice_get W.devices i) y) d.represents.there (b.encodes.devices i))
+      left_of DeviceEncodes (slice_get W.devices i) d.represents.device (subst (λ y. Both DeviceEncodes (slice_get W.devices i) y) d.represents.there (b.encodes.encoding.devices i))
 
   new_at : (j : ℕ) (V W : ByteWorld) (one : slice_get (history_of s) j ≡ Some V) (two : slice_get (history_of s) (suc j) ≡ Some W) (d : DeviceState) → slice_get V.devices i ≡ Some d → AreNew d.client.client.epoch (pairs_at j V one).pairs (pairs_at (suc j) W two).pairs
   new_at j V W one two d here =

@@ -5,7 +5,6 @@ use Rattle.std.proofs.lemmas.Option.{same_Some}
 use Rattle.std.specs.List.{AllByRecursion, filter, flat_map, slice_get}
 use Rattle.std.specs.Option.{option_map}
 use Rattle.base_lemmas.proofs.Lists.{AllByRecursion-weaker}
-use Rattle.sim_3_images.specs.Relayable.{ClientFits}
 use Rattle.cmd_network.specs.DeviceLines.{said_line}
 use Rattle.cmd_network.specs.Devices.{DeviceState}
 use Rattle.base_io.specs.Names.{is_among}
@@ -62,11 +61,11 @@ told_same version owned (t ∷ ts) = ap (λ l. told t.said ∷ l) (told_same ver
 
 module _ (s : WireView) (right : IsLineList s) (W : ByteWorld) (x : sessions.AppWorld) (kept : IsWorldKept s W) (beside : Simulates s W x) (i : ℕ) (o : Owned) (owned : slice_get (owned_of s) i ≡ Some o) where
   abbrev pub here : DeviceSimulates s beside.items x i o
-  here = beside.runs.devices i o owned
+  here = beside.runs.simulation.devices i o owned
 
   taken : Taken x
   taken =
-      let led = beside.runs.led in
+      let led = beside.runs.in_bounds.led in
       taken_along led.events (begins s) x led.reaches (taken_beginning (keep_of s.version) (accounts_of (steps_in s)) (map (λ (p : Owned). p.account) (owned_of s)))
 
   -- ---- the session of an epoch
@@ -93,7 +92,7 @@ module _ (s : WireView) (right : IsLineList s) (W : ByteWorld) (x : sessions.App
 
   said_are : (d : DeviceState) → slice_get W.devices i ≡ Some d → map said_line (all_said d.client.client.said) ≡ said_of here.device.sessions
   said_are d at =
-      let found = found_both (DeviceEncodes ClientFits) d (slice_get W.devices i) (slice_get beside.items.devices i) at (beside.encodes.devices i) in
+      let found = found_both DeviceEncodes d (slice_get W.devices i) (slice_get beside.items.devices i) at (beside.encodes.encoding.devices i) in
       let same : found.other ≡ here.represents.device = same_Some found.other here.represents.device (sym found.is ∙ here.represents.there) in
       ap (λ c. map said_line (all_said c.said)) found.holds.client ∙ ap (λ (e : ItemDevice). map said_line (all_said e.client.said)) same ∙ here.submissions.said
 
@@ -120,10 +119,10 @@ module _ (s : WireView) (right : IsLineList s) (W : ByteWorld) (x : sessions.App
   -- ---- what was handled
 
   accounts_same : W.accounts ≡ x.accounts
-  accounts_same = let led = beside.runs.led in kept.accounts ∙ sym (later_along led.events (begins s) x led.reaches).accounts
+  accounts_same = let led = beside.runs.in_bounds.led in kept.accounts ∙ sym (later_along led.events (begins s) x led.reaches).accounts
 
   within : AllByRecursion (λ (t : sessions.Take). t.device < length (owned_of s)) x.takes
-  within = AllByRecursion-weaker (IsOfDevice x.accounts (length x.devices)) (λ (t : sessions.Take). t.device < length (owned_of s)) (λ t is. let low = is.device in let many = beside.runs.many_there in omega arith) x.takes taken.placed
+  within = AllByRecursion-weaker (IsOfDevice x.accounts (length x.devices)) (λ (t : sessions.Take). t.device < length (owned_of s)) (λ t is. let low = is.device in let many = beside.runs.simulation.many_there in omega arith) x.takes taken.placed
 
   takes_are : map told_taken (taken_of o.device W.takes) ≡ map told (map said_in (filter (is_of i) x.takes))
   takes_are =

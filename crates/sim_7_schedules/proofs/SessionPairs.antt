@@ -6,7 +6,6 @@ use Rattle.std.specs.Option.{option_map}
 use Rattle.sm_acks.proofs.Directions.{got_prefix, kept_reached}
 use Rattle.sm_acks.specs.Delivery.{IsPrefix}
 use Rattle.law_client.specs.Rendered as client
-use Rattle.sim_3_images.specs.Relayable.{ClientFits}
 use Rattle.srv_state.specs.State.{ServerState}
 use Rattle.sim_3_images.specs.Devices.{account_position}
 use Rattle.sim_3_items.specs.Clients.{IsOwnRepresented}
@@ -159,7 +158,7 @@ module _ (v : View ItemOut) (d : sessions.Sessions) (is : IsDevice stanzas_read 
 
 module _ (s : WireView) (W : ByteWorld) (x : sessions.AppWorld) (beside : Simulates s W x) (i : ℕ) (o : Owned) (owned : slice_get (owned_of s) i ≡ Some o) where
   abbrev dr : DeviceSimulates s beside.items x i o
-  dr = beside.runs.devices i o owned
+  dr = beside.runs.simulation.devices i o owned
 
   abbrev reached : LinkReached dr.view
   reached = prompt_runs awaits dr.view dr.prompt
@@ -167,7 +166,7 @@ module _ (s : WireView) (W : ByteWorld) (x : sessions.AppWorld) (beside : Simula
   -- the device of a world of bytes is that of items
   device_is : (d : DeviceState) → slice_get W.devices i ≡ Some d → (e : ItemDevice) × (d.client.client ≡ client.client_rendered written_item e.client) × (e ≡ dr.represents.device)
   device_is d here =
-      let found = found_both (DeviceEncodes ClientFits) d (slice_get W.devices i) (slice_get beside.items.devices i) here (beside.encodes.devices i) in
+      let found = found_both DeviceEncodes d (slice_get W.devices i) (slice_get beside.items.devices i) here (beside.encodes.encoding.devices i) in
       (found.other, found.holds.client, same_Some found.other dr.represents.device (sym found.is ∙ dr.represents.there))
 
   pub epoch_is : (d : DeviceState) → slice_get W.devices i ≡ Some d → d.client.client.epoch ≡ dr.view.epoch
@@ -178,7 +177,7 @@ module _ (s : WireView) (W : ByteWorld) (x : sessions.AppWorld) (beside : Simula
 
   -- and so is the server
   rendered : (t : live.Session (List ℕ)) → session_named position o.device W.server.server_state.sessions ≡ Some t → option_map (server.session_rendered written_item) (session_named position o.device beside.items.server.sessions) ≡ Some t
-  rendered t at = sym (named_rendered written_item position o.device beside.items.server.sessions) ∙ sym (ap (λ (h : ServerState (List ℕ)). session_named position o.device h.sessions) beside.encodes.server_state) ∙ at
+  rendered t at = sym (named_rendered written_item position o.device beside.items.server.sessions) ∙ sym (ap (λ (h : ServerState (List ℕ)). session_named position o.device h.sessions) beside.encodes.encoding.server_state) ∙ at
 
   pub pairs_here : HasPairs s W i o
   pairs_here =
@@ -199,7 +198,7 @@ module _ (s : WireView) (W : ByteWorld) (x : sessions.AppWorld) (beside : Simula
       }
 
 pub pairs_are : (s : WireView) (W : ByteWorld) (x : sessions.AppWorld) (beside : Simulates s W x) (i : ℕ) (o : Owned) (owned : slice_get (owned_of s) i ≡ Some o) →
-    (pairs_here s W x beside i o owned).pairs ≡ (λ number. option_map pair_of ((beside.runs.devices i o owned).view.sessions number))
+    (pairs_here s W x beside i o owned).pairs ≡ (λ number. option_map pair_of ((beside.runs.simulation.devices i o owned).view.sessions number))
 unfolding pairs_here
 pairs_are s W x beside i o owned = refl
 

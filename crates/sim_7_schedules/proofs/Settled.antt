@@ -1,8 +1,7 @@
 -- A device of a world of bytes that is settled is at rest.
-use Rattle.std.proofs.Common.{◌≡◌, ℕ, zero, suc, ◌+◌, ◌&&◌, Bool, true, false, not, List, [], ◌∷◌, Option, Some, None, length, map, refl, sym, ap, subst, ◌∙◌, arith, inl, inr}
+use Rattle.std.proofs.Common.{◌≡◌, ℕ, suc, ◌+◌, ◌&&◌, Bool, true, false, not, List, [], ◌∷◌, Option, Some, None, length, map, refl, sym, ap, subst, ◌∙◌, arith, inl, inr}
 use Rattle.std.proofs.lemmas.Bool.{and_parts, eqb-true, false≢true}
 use Rattle.std.proofs.lemmas.Option.{none-some, same_Some}
-use Rattle.std.specs.List.{AllByRecursion}
 use Rattle.std.specs.Option.{option_map_or}
 use Rattle.std.specs.Prelude.{slice_get}
 use Rattle.sim_3_images.specs.Relayable.{ClientFits, DownFits, ServerFits, UpFits}
@@ -22,6 +21,7 @@ use Rattle.cmd_schedule.specs.Contents.{Owned}
 use Rattle.cmd_schedule.specs.Schedules.{WireView}
 use Rattle.sim_1_applications.specs.Devices as sessions
 use Rattle.sim_1_applications.specs.Reported.{IsAtRest}
+use Rattle.sim_1_applications.proofs.Lists.{all_at}
 use Rattle.cmd_network.specs.declared.wire.Wire.{Wire}
 use Rattle.cmd_world.specs.WorldReports.{is_idle_wire, is_open, is_settled, is_settled_at, is_settled_on, server_holds_part}
 use Rattle.cmd_world.specs.Worlds.{ByteWorld, number_at}
@@ -42,11 +42,6 @@ both_there R oa ob a b is other both =
     let found = both_some R oa ob a is both in
     subst (λ y. R a y) (same_Some found.0 b (sym found.1 ∙ other)) found.2
 
-one_of : {A : Type 0} (P : A → Type 0) (xs : List A) (i : ℕ) (x : A) → AllByRecursion P xs → slice_get xs i ≡ Some x → P x
-one_of P [] i x all at = absurd (none-some x at)
-one_of P (y ∷ xs) zero x all at = subst P (same_Some y x at) all.0
-one_of P (y ∷ xs) (suc i) x all at = one_of P xs i x all.1 at
-
 none_mapped : {A B : Type 0} (f : A → B) (xs : List A) → map f xs ≡ [] → xs ≡ []
 none_mapped f [] is = refl
 none_mapped f (x ∷ xs) is = absurd (let bad : ⊥ = cc in bad)
@@ -66,8 +61,8 @@ flows_by false is = absurd (false≢true is)
 module _ (schedule : WireView) (w : ByteWorld) (v : ItemWorld) (x : sessions.AppWorld) (encodes : WorldEncodes UpFits DownFits (StandingServers ServerFits) ClientFits w v) (kept : IsWorldKept schedule w) (i : ℕ) (o : Owned) (runs : DeviceSimulates schedule v x i o)
     (d : DeviceState) (there : slice_get w.devices i ≡ Some d) where
   -- the device of items
-  pub device_encodes : DeviceEncodes ClientFits d runs.represents.device
-  device_encodes = both_there (DeviceEncodes ClientFits) (slice_get w.devices i) (slice_get v.devices i) d runs.represents.device there runs.represents.there (encodes.devices i)
+  pub device_encodes : DeviceEncodes d runs.represents.device
+  device_encodes = both_there DeviceEncodes (slice_get w.devices i) (slice_get v.devices i) d runs.represents.device there runs.represents.there (encodes.encoding.devices i)
 
   wire_shown : (position : ℕ) (c : Conn ItemOut) (p : ItemWire) → runs.view.conns (position + 1) ≡ Some c → slice_get v.wires position ≡ Some p → IsWire (identity_at schedule i o) (runs.logins (position + 1)) (position + 1) c p
   wire_shown position c p conn at =
@@ -78,10 +73,10 @@ module _ (schedule : WireView) (w : ByteWorld) (v : ItemWorld) (x : sessions.App
 
   rests_on : (position : ℕ) (b : Wire) → slice_get w.wires position ≡ Some b → is_open b.end ≡ true → b.up.bytes ≡ [] → b.down.bytes ≡ [] → d.newest ≡ Some position → IsAtRest runs.device.sessions
   rests_on position b at opened up_none down_none newest =
-      let flowing = one_of IsFlowing w.wires position b kept.flowing at opened in
+      let flowing = all_at IsFlowing w.wires position b kept.flowing at opened in
       let here = (kept.newest i d there).here position newest (ap (λ q. option_map_or (λ (e : Wire). is_open e.end) q false) at ∙ opened) in
       let has = runs.represents.client.has position (sym device_encodes.here ∙ here) in
-      let wire = both_some (WireAt UpFits DownFits w v position) (slice_get w.wires position) (slice_get v.wires position) b at (encodes.wires position) in
+      let wire = both_some (WireAt w v position) (slice_get w.wires position) (slice_get v.wires position) b at (encodes.encoding.wires position) in
       let up = no_items_up UpFits DownFits (StandingServers ServerFits) ClientFits w v position b wire.0 encodes at wire.1 flowing.0 up_none in
       let down = no_items_down UpFits DownFits (StandingServers ServerFits) ClientFits w v position b wire.0 encodes at wire.1 flowing.1 down_none in
       let shown = wire_shown position has.0 wire.0 has.1 wire.1 in

@@ -93,7 +93,7 @@ module _ (schedule : WireView) (b : Bounds) (says : ℕ) (w : ByteWorld) (v : It
   archive_shown : (account : List ℕ) → is_among account x.accounts ≡ true → entries_for account w.accounts w.server.server_state.archives ≡ newest x.keep (history_at (owned_of schedule) x.takes account)
   archive_shown account is =
       let history = history_at (owned_of schedule) x.takes in
-      let many : length w.server.server_state.archives ≡ length (running.names_of schedule) = ap (λ (h : ServerState (List ℕ)). length h.archives) encodes.server_state ∙ runs.server.many in
+      let many : length w.server.server_state.archives ≡ length (running.names_of schedule) = ap (λ (h : ServerState (List ℕ)). length h.archives) encodes.encoding.server_state ∙ runs.simulation.server.many in
       ap (λ names. entries_for account names w.server.server_state.archives) kept.accounts
       ∙ entries_found (keep_in schedule) history account (running.names_of schedule) w.server.server_state.archives many (archive_is schedule b says w v x encodes runs)
       (subst (λ names. is_among account names ≡ true) (exist schedule right b says v x runs) is)
@@ -107,7 +107,7 @@ module _ (schedule : WireView) (b : Bounds) (says : ℕ) (w : ByteWorld) (v : It
 
   has_log : (i : ℕ) (o : Owned) (d : Device) → slice_get (owned_of schedule) i ≡ Some o → slice_get x.devices i ≡ Some d → HasLog o d
   has_log i o d owner at =
-      let one = runs.devices i o owner in
+      let one = runs.simulation.devices i o owner in
       let there = found_device i o owner in
       let client = (device_encodes schedule w v x encodes kept i o one there.0 there.1).client in
       record {

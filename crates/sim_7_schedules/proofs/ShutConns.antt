@@ -203,10 +203,10 @@ pub untouched : (s : WireView) (W : ByteWorld) (x : sessions.AppWorld) → Simul
 untouched s W x beside position shut count =
     let k = number_at position in
     let w = beside.items in
-    let stands = beside.runs.stands in
-    let none : lookup (is_number k) w.server.conns ≡ None = sym (ap (λ (g : ServerState (List ℕ)). conn_at k g) beside.encodes.server_state) ∙ shut in
-    let differ = subst (λ (g : ServerState (List ℕ)). Differ g.conns) (sym beside.encodes.server_state) stands.differ in
+    let stands = beside.runs.in_bounds.stands in
+    let none : lookup (is_number k) w.server.conns ≡ None = sym (ap (λ (g : ServerState (List ℕ)). conn_at k g) beside.encodes.encoding.server_state) ∙ shut in
+    let differ = subst (λ (g : ServerState (List ℕ)). Differ g.conns) (sym beside.encodes.encoding.server_state) stands.differ in
     let all : AllByRecursion (IsElsewhere k) w.server.sessions = AllByRecursion-weaker (SessionStands w.server.conns) (IsElsewhere k) (λ t on. after_others k w.server.conns none t.shown.conn on.on) w.server.sessions stands.sessions in
-    let free = subst (λ (g : ServerState (List ℕ)). AllByRecursion (IsElsewhere k) g.sessions) (sym beside.encodes.server_state) (all_map (IsElsewhere k) (session_rendered written_item) w.server.sessions all) in
+    let free = subst (λ (g : ServerState (List ℕ)). AllByRecursion (IsElsewhere k) g.sessions) (sym beside.encodes.encoding.server_state) (all_map (IsElsewhere k) (session_rendered written_item) w.server.sessions all) in
     let v = served_by position count (slice_get W.wires position) W in
     end_told position W shut differ free v (was_served position W shut differ free count (slice_get W.wires position)) (slice_get v.wires position)

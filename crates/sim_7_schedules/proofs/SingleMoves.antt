@@ -54,7 +54,7 @@ module _ (schedule : WireView) (each : EachMoveSimulates schedule) where
       let gave = r.gives i ∙ ap (map written_item) (ap (λ ms. all_item_gives ms w i) is ∙ append-nil (item_gives im w i)) in
       (l.0, l.1, (item_notes im w i, notes, (told.0.0, told.0.1 ∙ sym read), ap (map written_item) told.1 ∙ sym gave)))
       (λ i e at. let d = was_there g.events x g.next i e g.reaches at in let low = most i d.0 d.1 in let more = asks i d.0 e (g.asked i d.0 e d.1 at) in omega arith)
-      (let same = encodes.as_many in omega arith)
+      (let same = encodes.encoding.as_many in omega arith)
 
   pub forget_byte : (says device : ℕ) (W : wires.ByteWorld) (w : ItemWorld) (x : AppWorld) (n : ℕ) → IsEncoded W w → (runs : WorldSimulates schedule bounds says w x) → AtMost n x →
       LineGoes schedule (views_of runs) 0 (says + 0) [] (bytes.Forget device ∷ []) W x (λ v y. AtMost (n + 0) y)
@@ -91,7 +91,7 @@ module _ (schedule : WireView) (each : EachMoveSimulates schedule) where
   dial_byte says device W w x n few encodes runs most =
       let r = is_moved (bytes.Dial device) W w tt encodes in
       let run = r.is_run in
-      let shown = encodes.as_many in
+      let shown = encodes.encoding.as_many in
       single says 0 1 (bytes.Dial device) (items.Dial device (client_entropy run.0) (server_entropy run.0)) W w x n encodes runs r run.1 (run.0, refl, refl) (omega arith) (λ i d e is. omega (arith, is))
       (dial_many device (client_entropy run.0) (server_entropy run.0) w) most
 

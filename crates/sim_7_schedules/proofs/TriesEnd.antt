@@ -24,12 +24,10 @@ use Rattle.cmd_schedule.specs.Contents.{Owned, owned_in}
 use Rattle.cmd_schedule.specs.LineLists.{IsLineList}
 use Rattle.cmd_schedule.specs.Schedules.{WireView}
 use Rattle.cmd_schedule.specs.declared.schedule.Version.{Version}
-use Rattle.cmd_schedule.specs.declared.schedule.WireLine.{WireLine}
 use Rattle.cmd_world.proofs.Declares.{some_kept}
 use Rattle.cmd_world.specs.Histories.{common_steps, world_at_start, world_of}
-use Rattle.cmd_world.specs.Lines.{all_stepped, moves_of, stepped}
-use Rattle.cmd_world.specs.Moves.{Move, all_moved, moved}
 use Rattle.cmd_world.specs.Worlds.{ByteWorld}
+use Rattle.cmd_world.proofs.AllMoves.{kept_by_lines}
 use Rattle.law_intents.specs.Intents as law
 use Rattle.law_intents.specs.Intents.{IntentReached, IntentWorld}
 use Rattle.sim_1_applications.proofs.Owners.{Differ, name_tells, names_of}
@@ -44,7 +42,6 @@ use Rattle.sim_3_images.specs.Kept.{IsWorldKept, owned_by}
 use Rattle.sim_5_moves.specs.Running.{IsOwned, keep_in}
 use Rattle.sim_5_moves.specs.Running as running
 use Rattle.sim_7_schedules.proofs.Moves.{each_runs}
-use Rattle.sim_7_schedules.proofs.Said.{kept_lines}
 use Rattle.sim_7_schedules.proofs.TriesDue.{all_due}
 use Rattle.sim_7_schedules.proofs.TriesFacts.{Facts, account_named, accounts_are, device_named, differ, takes_are}
 use Rattle.sim_7_schedules.proofs.TriesLists.{items_in, tries_under}
@@ -122,7 +119,7 @@ module _ (owned : List Owned) (version : Version) (i : ℕ) (o : Owned) (apart :
 
 kept_whole : (s : WireView) → IsWorldKept s (world_of s)
 unfolding world_of
-kept_whole s = kept_lines s s.lines (world_at_start s) (kept_first s)
+kept_whole s = kept_by_lines (IsWorldKept s) (kept_after s) s.lines (world_at_start s) (kept_first s)
 
 no_intent : (k : ℕ) → intent_under k [] ≡ None
 no_intent zero = refl

@@ -98,7 +98,7 @@ module _ (s : WireView) (right : IsLineList s) (i : ℕ) (o : Owned) (owned : Is
 
   module _ (W : ByteWorld) (x : AppWorld) (beside : Simulates s W x) (kept : IsWorldKept s W) where
     one : DeviceSimulates s beside.items x i o
-    one = beside.runs.devices i o owned
+    one = beside.runs.simulation.devices i o owned
 
     found : (d : DeviceState) × (slice_get W.devices i ≡ Some d) × (owned_by d ≡ o)
     found = option_map_some owned_by (slice_get W.devices i) o (sym (slice_get-map owned_by W.devices i) ∙ ap (λ (os : List Owned). slice_get os i) kept.owners ∙ owned)
@@ -107,7 +107,7 @@ module _ (s : WireView) (right : IsLineList s) (i : ℕ) (o : Owned) (owned : Is
     client = (device_encodes s W beside.items x beside.encodes kept i o one found.0 found.1).client
 
     taken : Taken x
-    taken = taken_along beside.runs.led.events (begins s) x beside.runs.led.reaches (taken_beginning (keep_in s) (running.names_of s) _)
+    taken = taken_along beside.runs.in_bounds.led.events (begins s) x beside.runs.in_bounds.led.reaches (taken_beginning (keep_in s) (running.names_of s) _)
 
     reading : Read x
     reading = read s right bounds beside.says beside.items x beside.runs
@@ -116,16 +116,16 @@ module _ (s : WireView) (right : IsLineList s) (i : ℕ) (o : Owned) (owned : Is
     low_epoch =
         let low = epochs stanzas_read one.view one.device one.sessions (prompt_runs awaits one.view one.prompt) in
         let free = one.represents.server.free in
-        let few = beside.runs.within.few in
-        let dialled = beside.runs.dialled in
+        let few = beside.runs.in_bounds.within.few in
+        let dialled = beside.runs.in_bounds.dialled in
         omega (arith, low, free, few, dialled)
 
     low_number : one.device.sessions.n ≤ 10000000
     low_number =
-        let low = n_few (keep_in s) (running.names_of s) _ beside.runs.led.events x beside.runs.led.reaches i one.device one.there in
-        let most = said_few i beside.runs.led.events in
-        let spoken = beside.runs.led.spoken in
-        let said = beside.runs.said in
+        let low = n_few (keep_in s) (running.names_of s) _ beside.runs.in_bounds.led.events x beside.runs.in_bounds.led.reaches i one.device one.there in
+        let most = said_few i beside.runs.in_bounds.led.events in
+        let spoken = beside.runs.in_bounds.led.spoken in
+        let said = beside.runs.in_bounds.said in
         omega (arith, low, most, spoken, said)
 
     abbrev history : List ℕ → List EntryView
@@ -143,7 +143,7 @@ module _ (s : WireView) (right : IsLineList s) (i : ℕ) (o : Owned) (owned : Is
 
     all_known : AllByRecursion (IsKnownTake (owned_of s) i o.account) x.takes
     all_known =
-        let many = beside.runs.many_there in
+        let many = beside.runs.simulation.many_there in
         all_three (IsTellable (owned_of s)) (IsOfDevice x.accounts (length x.devices)) (λ t. is_of i t ≡ true → t.account ≡ one.device.account) (IsKnownTake (owned_of s) i o.account)
         (λ t told of home. record { tellable = told; placed = (let low = of.device in omega (arith, low, many)); home = λ here. home (eq-eqb t.device i here) ∙ one.account })
         x.takes

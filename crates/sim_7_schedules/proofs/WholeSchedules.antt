@@ -29,21 +29,16 @@ module _ (s : WireView) where
   -- no event led here, so nobody has said anything
   anew : (says : ℕ) (w : ItemWorld) → WorldSimulates s bounds says w (begins s) → WorldSimulates s bounds 0 w (begins s)
   anew says w r = record {
-    led = record { events = []; reaches = refl; spoken = refl };
-    said = omega arith;
-    asked = r.asked;
-    dialled = r.dialled;
-    devices = r.devices;
-    many = r.many;
-    many_there = r.many_there;
-    wires = r.wires;
-    server = r.server;
-    takes = r.takes;
-    clock = r.clock;
-    now = r.now;
-    fits = r.fits;
-    stands = r.stands;
-    within = r.within;
+    simulation = r.simulation;
+    in_bounds = record {
+      led = record { events = []; reaches = refl; spoken = refl };
+      said = omega arith;
+      asked = r.in_bounds.asked;
+      dialled = r.in_bounds.dialled;
+      fits = r.in_bounds.fits;
+      stands = r.in_bounds.stands;
+      within = r.in_bounds.within;
+    };
   }
 
   before_first : IsLineList s → IsBefore s nothing_above s.lines (world_at_start s) (begins s)

@@ -33,7 +33,7 @@ use Rattle.sim_4_links_follow.proofs.ResumeCounts.{count_so}
 use Rattle.sim_4_links_follow.proofs.ResumeRows.{IsOwnSession, own_session, within_so}
 use Rattle.sim_4_links_follow.proofs.SessionRows.{count_step, enable_step, request_step}
 use Rattle.sim_4_links_follow.proofs.Sessions.{live, seat, seated, session}
-use Rattle.sim_4_links_follow.proofs.StanzaRows.{stanza_comes}
+use Rattle.sim_4_links_follow.proofs.StanzaRows.{stanza_comes, stanza_word}
 use Rattle.sim_4_links_follow.proofs.StrangeRows.{none_here, resume_step}
 use Rattle.sim_4_links_follow.specs.Given.{IsOfSession, acts_on}
 use Rattle.sim_4_links_follow.specs.Taking.{AreCountable, IsFirst, on_item}
@@ -53,7 +53,6 @@ use Rattle.srv_state.specs.State.{ServerState, full_address}
 use Rattle.srv_state.specs.Steps as steps
 use Rattle.srv_state.specs.Steps.{Act, acted}
 use Rattle.srv_state.specs.Streams.{parting_where, standing_at}
-use Rattle.srv_state.specs.Words.{is_long, is_stanza, word_of}
 use Rattle.srv_state.specs.declared.limits.TheConstants.{ASKS_AT}
 use Rattle.srv_state.specs.declared.word.Word.TheVariants as kind
 use Rattle.xml_framer.specs.declared.items.Item.TheVariants as item
@@ -69,10 +68,6 @@ saying_mild k j (z ∷ items) more mild = (tt, saying_mild k j items more mild)
 asking_mild : (k j n : ℕ) (due : Bool) → AreMild k (asking itself j n due)
 asking_mild k j n true = (tt, (tt, tt))
 asking_mild k j n false = tt
-
-stanza_word : (e : Elem) → is_stanza e ≡ true → is_long e ≡ false → word_of e ≡ kind.Stanza false (stanza_of e)
-unfolding word_of
-stanza_word e stanza short = rw (stanza, short) refl
 
 -- ---- words
 

@@ -24,14 +24,14 @@ use Rattle.sim_5_moves.specs.Running.{AreSmall, Bounds, WorldSimulates, keep_in,
 module _ (schedule : WireView) (b : Bounds) (says : ℕ) (w : ByteWorld) (v : ItemWorld) (x : sessions.AppWorld) (encodes : WorldEncodes UpFits DownFits (StandingServers ServerFits) ClientFits w v) (runs : WorldSimulates schedule b says v x) where
   -- the archive at the place of a name
   pub archive_is : (i : ℕ) (name : List ℕ) → slice_get (names_of schedule) i ≡ Some name → slice_get w.server.server_state.archives i ≡ Some (archive_of_name (keep_in schedule) (history_at (owned_of schedule) x.takes) name)
-  archive_is i name at = ap (λ (h : ServerState (List ℕ)). slice_get h.archives i) encodes.server_state ∙ runs.server.archives i name at
+  archive_is i name at = ap (λ (h : ServerState (List ℕ)). slice_get h.archives i) encodes.encoding.server_state ∙ runs.simulation.server.archives i name at
 
 pub reported : (schedule : WireView) (b : Bounds) (says : ℕ) (w : ByteWorld) (v : ItemWorld) (x : sessions.AppWorld) → IsLineList schedule → AreSmall b → IsWorldKept schedule w
     → WorldEncodes UpFits DownFits (StandingServers ServerFits) ClientFits w v → WorldSimulates schedule b says v x → IsReported schedule x (report_of w)
 reported schedule b says w v x right small kept encodes runs = record {
   version = kept.version;
   wire = refl;
-  takes = encodes.takes ∙ ap₂ (λ version takes. map (line_reported version) takes) kept.version runs.takes ∙ take_lines_told (owned_of schedule) schedule.version x.takes (tellable schedule right b says v x runs small);
+  takes = encodes.encoding.takes ∙ ap₂ (λ version takes. map (line_reported version) takes) kept.version runs.simulation.takes ∙ take_lines_told (owned_of schedule) schedule.version x.takes (tellable schedule right b says v x runs small);
   accounts = ap (λ names. account_lines 0 names w.server.server_state.archives) kept.accounts
       ∙ lines_are (keep_in schedule) (history_at (owned_of schedule) x.takes) w.server.server_state.archives (names_of schedule) (archive_is schedule b says w v x encodes runs);
   devices = all_told schedule right b small says w v x kept encodes runs;

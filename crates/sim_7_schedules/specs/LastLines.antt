@@ -45,7 +45,7 @@ pub record AreLinks (s : WireView) (w : ByteWorld) (i : ℕ) (o : Owned) (v : Vi
   pub applications : AppWorld
   pub beside : Simulates s w applications
   pub owned : IsOwned s i o
-  pub shown : (beside.runs.devices i o owned).view ≡ v
+  pub shown : (beside.runs.simulation.devices i o owned).view ≡ v
 
 -- the links of a device go from the one world to the other by so many rounds on the connection at a place
 pub record GoesByRounds (s : WireView) (w next : ByteWorld) (i : ℕ) (o : Owned) (position n : ℕ) : Type 0 where

@@ -58,7 +58,7 @@ Views schedule = (i : ℕ) (o : Owned) → IsOwned schedule i o → View ItemOut
 
 -- as a world of items is shown by them
 abbrev pub views_of : {schedule : WireView} {b : Bounds} {says : ℕ} {w : ItemWorld} {x : AppWorld} → WorldSimulates schedule b says w x → Views schedule
-views_of runs i o is = (runs.devices i o is).view
+views_of runs i o is = (runs.simulation.devices i o is).view
 
 -- moves of the links lead from the ones to the others, and of each device their labels are as is said
 abbrev pub AllLead : (schedule : WireView) → (ℕ → List (Label ItemOut) → Type 0) → Views schedule → Views schedule → Type 0
@@ -95,7 +95,7 @@ LabelsAreNotedIn m W i done = (notes : List (Note ItemOut)) × (notes_in m W i �
 -- a world of bytes and one of the applications, with these links between them
 pub record SimulatesBy (schedule : WireView) (W : bytes.ByteWorld) (x : AppWorld) (views : Views schedule) : Type 0 where
   pub beside : Simulates schedule W x
-  pub shown : (i : ℕ) (o : Owned) (is : IsOwned schedule i o) → (beside.runs.devices i o is).view ≡ views i o is
+  pub shown : (i : ℕ) (o : Owned) (is : IsOwned schedule i o) → (beside.runs.simulation.devices i o is).view ≡ views i o is
 
 -- Moves of bytes, and the events that each led to: behind each the worlds are related, and moves of the links led from those
 -- before it to those behind it, in which each client did what it noted down, and the server handled what it read, and put

@@ -15,7 +15,8 @@ intent pad bob second
 // Whether the file's intents are lines 5 and 7, and line 6 resolves.
 fn is_read(alloc: Global) -> bool {
     match read_intents(alloc, FILE.as_bytes()) {
-        Ok(file) => file.intents.as_slice() == [5, 7] && file.resolves.as_slice() == [6],
+        Ok(file) => file.intents.as_slice() == [5, 7].as_slice()
+            && file.resolves.as_slice() == [6].as_slice(),
         Err(_) => false,
     }
 }

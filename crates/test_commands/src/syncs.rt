@@ -6,7 +6,7 @@ use crate::sync_texts::{
 };
 use base_io::{Bytes, Numbers};
 use cmd_schedule::LineWhy;
-use cmd_sync::{PeerFailure, SyncFault, sync};
+use cmd_sync::{LinkFailure, PeerFailure, SentCondition, SyncFault, sync};
 use net_memory::{Links, MemoryDialer, MemoryEntropy, MemoryLink, Shelf};
 use std::alloc::Global;
 use std::process::Abort;
@@ -85,7 +85,7 @@ static NOT_DONE: [Run; 9] = [
         step: 7,
         fails: 40,
         put: Some(&[HEADER]),
-        answer: Err(SyncFault::Link),
+        answer: Err(SyncFault::Link(LinkFailure::Read)),
     },
     // the write of the end of the stream fails
     Run {
@@ -98,7 +98,7 @@ static NOT_DONE: [Run; 9] = [
         put: Some(&[
             HEADER, AUTH, RESPONSE, HEADER, BIND, ENABLE, ONLINE, SAID, ASKED,
         ]),
-        answer: Err(SyncFault::Link),
+        answer: Err(SyncFault::Link(LinkFailure::Write)),
     },
     // the server ends the stream
     Run {
@@ -150,7 +150,7 @@ static NOT_DONE: [Run; 9] = [
         put: Some(&[
             HEADER, AUTH, RESPONSE, HEADER, BIND, ENABLE, ONLINE, SAID, ASKED,
         ]),
-        answer: Err(SyncFault::Peer(PeerFailure::Refused)),
+        answer: Err(SyncFault::Peer(PeerFailure::Refused(SentCondition::ItemNotFound))),
     },
     // an empty page is not the last one
     Run {

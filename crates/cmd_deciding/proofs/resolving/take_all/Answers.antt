@@ -1,5 +1,6 @@
-use Rattle.std.proofs.Common.{◌≡◌, ◌+◌, ◌∷◌, drop, refl, ap, subst, sym, ◌∙◌, arith}
-use Rattle.cmd_world.proofs.ReportLines.{next_item}
+use Rattle.std.proofs.Common.{◌≡◌, ◌+◌, ◌∷◌, drop, length, refl, ap, subst, sym, ◌∙◌, arith}
+use Rattle.std.proofs.lemmas.Option.{slice_get_read}
+use Rattle.srv_core.proofs.Restarts.{next as rest_from}
 use Rattle.cmd_resolving.specs.Expansion.{all_gone, gone}
 use Rattle.cmd_deciding.proofs.Along.{Goes, goes_named, goes_next, goes_right, goes_start}
 use Rattle.cmd_deciding.proofs.resolving.take_all.Goals as goal
@@ -16,7 +17,7 @@ loop-line-preserved c =
     let f = c.args.file.now in
     let line = c.line-item.result in
     let rest = drop (c.loop-line.line-index + 1) c.args.lines.now in
-    let next : drop c.loop-line.line-index c.args.lines.now ≡ line ∷ rest = next_item c.args.lines.now c.loop-line.line-index line (omega arith) c.line-item.is in
+    let next : drop c.loop-line.line-index c.args.lines.now ≡ line ∷ rest = rest_from c.args.lines.now c.loop-line.line-index line (slice_get_read c.args.lines.now (length c.args.lines.now) c.loop-line.line-index line refl (omega arith) c.line-item.is) in
     let goes : Goes f (line ∷ rest) s = subst (λ ls. Goes f ls s) next c.loop-line.invariant.goes in
     let is : c.take.new.self ≡ gone f line s = c.in_ok-take.ensures in
     record {
@@ -33,7 +34,7 @@ take-requires-clause-right c =
     let f = c.args.file.now in
     let line = c.line-item.result in
     let rest = drop (c.loop-line.line-index + 1) c.args.lines.now in
-    let next : drop c.loop-line.line-index c.args.lines.now ≡ line ∷ rest = next_item c.args.lines.now c.loop-line.line-index line (omega arith) c.line-item.is in
+    let next : drop c.loop-line.line-index c.args.lines.now ≡ line ∷ rest = rest_from c.args.lines.now c.loop-line.line-index line (slice_get_read c.args.lines.now (length c.args.lines.now) c.loop-line.line-index line refl (omega arith) c.line-item.is) in
     goes_right f line rest s (subst (λ ls. Goes f ls s) next c.loop-line.invariant.goes)
 
 pub take-requires-clause-looked : goal.take-requires-clause-looked
